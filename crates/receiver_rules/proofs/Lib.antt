@@ -1,0 +1,5 @@
+mod Rows
+pub mod PacketLemmas
+pub mod HistoryLemmas
+pub mod SentLemmas
+pub mod PlainLemmas

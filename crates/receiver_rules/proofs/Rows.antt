@@ -1,0 +1,69 @@
+-- The worked runs, computed from the definitions.
+use Rattle.std.specs.Prelude.{◌≡◌, ◌*◌, ◌-◌, List, [], ◌∷◌}
+use Rattle.seq_unwrap.specs.declared.width.Width.TheVariants.{W16}
+use Rattle.receiver_rules.specs.Sent.{CopyOf, reached_numbers}
+use Rattle.std.proofs.Common.{refl}
+use Rattle.receiver_rules.specs.declared.verdict.Verdict.TheVariants.{Kept, Stranger, Late, Behind, Early, Twice, Span}
+use Rattle.receiver_rules.specs.Steps.{Step, time_step, end_step}
+use Rattle.seq_unwrap.specs.Nearest.{nearest}
+use Rattle.receiver_rules.specs.Rows.{usual, brings, stranger, verdicts, written}
+
+-- an arrival one tick before its deadline is kept, and the packet before it has gone out by then
+abbrev just_in_time : List Step
+just_in_time = brings 0 10 0 65 ∷ brings 200 12 1800 67 ∷ brings 90899 11 900 66 ∷ []
+
+in_time : verdicts just_in_time ≡ Kept ∷ Kept ∷ Kept ∷ []
+unfolding nearest
+in_time = refl
+
+in_time_end : written (brings 0 10 0 65 ∷ brings 200 12 1800 67 ∷ brings 90899 11 900 66 ∷ end_step ∷ []) ≡ 65 ∷ 66 ∷ 67 ∷ []
+unfolding nearest
+in_time_end = refl
+
+-- at its deadline it is late
+at_deadline : verdicts (brings 0 10 0 65 ∷ brings 200 12 1800 67 ∷ brings 90900 11 900 66 ∷ end_step ∷ []) ≡ Kept ∷ Kept ∷ Late ∷ []
+unfolding nearest
+at_deadline = refl
+
+-- a second copy is a duplicate while the first is buffered, and is late afterwards
+second_copy : verdicts (brings 0 10 0 65 ∷ brings 5000 11 900 66 ∷ brings 6000 11 900 66 ∷ brings 90900 11 900 66 ∷ []) ≡ Kept ∷ Kept ∷ Twice ∷ Late ∷ []
+unfolding nearest
+second_copy = refl
+
+-- lower numbers than the first's go before it
+lower_first : written (brings 0 10 1800 10 ∷ brings 10 9 900 9 ∷ brings 20 8 0 8 ∷ time_step 90000 ∷ []) ≡ 8 ∷ 9 ∷ 10 ∷ []
+unfolding nearest
+lower_first = refl
+
+-- the span counts against what is buffered, and not against what was played out
+span_held : verdicts (brings 0 10 0 10 ∷ brings 100 18 7200 18 ∷ brings 100 17 6300 17 ∷ brings 90000 18 7200 18 ∷ end_step ∷ []) ≡ Kept ∷ Span ∷ Kept ∷ Kept ∷ []
+unfolding nearest
+span_held = refl
+
+-- a later number with an earlier deadline takes the lower one along
+taken_along : written (brings 0 5 900 5 ∷ brings 0 6 0 6 ∷ time_step 89100 ∷ []) ≡ 5 ∷ 6 ∷ []
+unfolding nearest
+taken_along = refl
+
+behind : verdicts (brings 0 5 900 5 ∷ brings 0 6 0 6 ∷ brings 89100 4 900 4 ∷ []) ≡ Kept ∷ Kept ∷ Behind ∷ []
+unfolding nearest
+behind = refl
+
+-- more than twice the delay ahead is early
+early : verdicts (brings 0 10 0 10 ∷ brings 0 11 90001 11 ∷ []) ≡ Kept ∷ Early ∷ []
+unfolding nearest
+early = refl
+
+other_flow : verdicts (brings 0 10 0 65 ∷ stranger 900 ∷ []) ≡ Kept ∷ Stranger ∷ []
+unfolding nearest
+other_flow = refl
+
+-- numbers that pass the end of their 16 bits
+wraps : written (brings 0 65534 0 1 ∷ brings 0 0 1800 3 ∷ brings 0 1 2700 4 ∷ brings 0 65535 900 2 ∷ end_step ∷ []) ≡ 1 ∷ 2 ∷ 3 ∷ 4 ∷ []
+unfolding nearest
+wraps = refl
+
+-- the same in sent numbers: 65,536 never comes in time, and 65,537 comes twice
+late_copy : reached_numbers usual (record { flow = 1; width = W16; timestamp = λ n. 900 * (n - 65534); payload = λ n. n ∷ [] })
+    (record { tick = 91800; what = CopyOf 65536 } ∷ record { tick = 300; what = CopyOf 65535 } ∷ record { tick = 200; what = CopyOf 65537 } ∷ record { tick = 100; what = CopyOf 65537 } ∷ record { tick = 0; what = CopyOf 65534 } ∷ []) ≡ 65535 ∷ 65537 ∷ 65537 ∷ 65534 ∷ []
+late_copy = refl

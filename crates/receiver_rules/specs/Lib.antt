@@ -1,0 +1,10 @@
+pub mod Steps
+pub mod ReceiverSteps
+pub mod Packets
+pub mod History
+pub mod Rows
+pub mod Sent
+pub mod Seen
+pub mod Bounds
+pub mod Plain
+pub mod PlainRun

@@ -1,0 +1,21 @@
+//! The receiver's rules, as definitions over the list of all steps: numbers and deadlines, which packets are
+//! kept, the verdict on each arrival, and what is released. Beside them the small functions that every body of
+//! the rules needs, and plain, slow programs that answer what the definitions say.
+#![tactic(auto)]
+
+mod anchor;
+mod arrival;
+pub mod laws;
+mod limits;
+pub mod place;
+pub mod plain;
+#[cfg(test)]
+mod tests;
+mod tick;
+mod verdict;
+
+pub use anchor::{Anchor, Highest};
+pub use arrival::Arrival;
+pub use limits::Limits;
+pub use tick::tick_of;
+pub use verdict::Verdict;
