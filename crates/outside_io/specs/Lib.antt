@@ -1,0 +1,10 @@
+pub mod Causes
+pub mod Told
+pub mod Calls
+pub mod Memory
+pub mod Shelf
+pub mod Slots
+pub mod MemSource
+pub mod MemHost
+pub mod Real
+pub mod ToldLaws

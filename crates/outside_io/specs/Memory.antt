@@ -1,0 +1,26 @@
+-- What a contract sees of sources and sinks in memory.
+use Rattle.std.specs.Prelude.{ℕ, ◌<◌, ◌≤◌, ◌≡◌, ◌⊎◌, List, length, get_or}
+use Rattle.outside_io.specs.Calls.{Calls}
+
+-- a source: the octets that remain
+pub record MemorySource : Type 0 where
+  pub remaining : List ℕ
+  pub calls : Calls
+
+-- a sink: the octets that it holds, and how many it can hold
+pub record MemorySink : Type 0 where
+  pub contents : List ℕ
+  pub room : ℕ
+  pub calls : Calls
+
+-- of the first `count` cuts the earliest past this place, or the end of the octets where none comes before it
+pub record IsNextCut (cuts : List ℕ) (count at end cut : ℕ) : Type 0 where
+  pub here : at ≤ cut
+  pub past : at < end → at < cut
+  pub inside : cut ≤ end
+  pub first : (k : ℕ) → k < count → at < get_or cuts k 0 → cut ≤ get_or cuts k 0
+  pub one : (cut ≡ end) ⊎ ((k : ℕ) × (k < length cuts) × (get_or cuts k 0 ≡ cut))
+
+-- this cut counts where it is past the place and before the next one so far
+abbrev pub IsEarlier : ℕ → ℕ → ℕ → ℕ → Type 0
+IsEarlier at cut next result = ((at < cut) × (cut < next) × (result ≡ cut)) ⊎ ((at < cut → next ≤ cut) × (result ≡ next))

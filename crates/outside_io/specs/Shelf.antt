@@ -1,0 +1,36 @@
+-- The objects of a host, by the names that they are asked by.
+use Rattle.std.specs.Prelude.{◌≡◌, ◌≢◌, ℕ, List, ◌≤◌, Result, IsErrOf}
+use Rattle.outside_io.specs.Causes.{Rose}
+use Rattle.outside_io.specs.declared.host.HostBad.{HostBad}
+use Rattle.outside_io.specs.declared.host.HostBad.TheVariants.{Failed}
+use Rattle.outside_io.specs.declared.host.Place.{Place}
+use Rattle.outside_io.specs.declared.host.Place.TheVariants.{Absent, Here, Out, Back}
+
+-- what stands under each name
+pub record Shelf (I O : Type 0) : Type 0 where
+  pub sources : List ℕ → Place I
+  pub sinks : List ℕ → Place O
+
+-- the object that stood under this name is out, and all other names stand as they stood
+pub record HandsOut {N X : Type 0} (old new : N → Place X) (name : N) (object : X) : Type 0 where
+  pub was : old name ≡ Here object
+  pub now : new name ≡ Out
+  pub others : (n : N) → n ≢ name → new n ≡ old n
+
+-- the object stands as come back under the name that it was out from, and all other names as they stood
+pub record TakesBack {N X : Type 0} (old new : N → Place X) (name : N) (object : X) : Type 0 where
+  pub now : old name ≡ Out → new name ≡ Back object
+  pub others : (n : N) → n ≢ name → new n ≡ old n
+
+-- every name stands as it stood
+abbrev pub Stays : {N X : Type 0} → (N → Place X) → (N → Place X) → Type 0
+Stays {N} old new = (n : N) → new n ≡ old n
+
+-- nothing stands under any name
+abbrev pub nowhere : {I O : Type 0} → Shelf I O
+nowhere = record { sources = λ _. Absent; sinks = λ _. Absent }
+
+-- the count did not fall, and where the host failed it rose
+pub record HasHostCause {T : Type 0} (before now : ℕ) (result : Result T HostBad) : Type 0 where
+  pub later : before ≤ now
+  pub failed : IsErrOf result Failed → Rose before now

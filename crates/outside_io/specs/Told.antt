@@ -1,0 +1,24 @@
+-- What a sink holds and what remains of a source, where they tell. A silent object is none, and stays silent.
+use Rattle.std.specs.Prelude.{◌≡◌, ℕ, List, [], ◌++◌, IfSome}
+use Rattle.std.specs.Prelude.{Option}
+use Rattle.std.specs.Option.{option_map}
+
+-- these octets were put behind what was held
+abbrev pub Appends : Option (List ℕ) → Option (List ℕ) → List ℕ → Type 0
+Appends old new octets = new ≡ option_map (λ held. held ++ octets) old
+
+-- the first octets of the whole are these
+abbrev pub IsPrefix : List ℕ → List ℕ → Type 0
+IsPrefix front whole = (rest : List ℕ) × (whole ≡ front ++ rest)
+
+-- a front part of these octets was put behind what was held
+abbrev pub AppendsPart : Option (List ℕ) → Option (List ℕ) → List ℕ → Type 0
+AppendsPart old new octets = (front : List ℕ) × IsPrefix front octets × Appends old new front
+
+-- these octets were taken from the front of what remained
+abbrev pub Takes : Option (List ℕ) → Option (List ℕ) → List ℕ → Type 0
+Takes old new octets = old ≡ option_map (λ rest. octets ++ rest) new
+
+-- no octet is told
+abbrev pub IsEmpty : Option (List ℕ) → Type 0
+IsEmpty told = IfSome told (λ octets. octets ≡ [])

@@ -1,0 +1,173 @@
+// Files and standard streams. What they give and take is not told: the trusted edge of the system.
+ghost use Rattle.std.specs.Prelude.{◌≡◌, ◌≤◌, ◌<◌, length, take, false, None};
+ghost use Rattle.outside_io.specs.Causes.{HasCause, Rose};
+ghost use Rattle.outside_io.specs.Shelf.{nowhere};
+ghost use Rattle.outside_io.specs.Told.{IsPrefix};
+
+use crate::{Failed, Host, HostBad, Sink, Source};
+use std::fs::{self, Files};
+use std::io::{self, Input, Print, Printer, Read, Write};
+
+/// Any reader, with a count of its faults.
+#[derive(Drop)]
+pub struct Reading<R> {
+    inner: R,
+    faults: u64,
+}
+
+impl<R: Read> Source for Reading<R> {
+    ghost remaining = { λ _. None };
+
+    ghost faults = { λ source. source.faults };
+
+    fn read(&mut self, buf: &mut [u8]) -> Result<usize, Failed> {
+        match self.inner.read(buf) {
+            Ok(count) => Ok(count),
+            Err(_) => {
+                self.faults = self.faults.saturating_add(1);
+                Err(Failed)
+            }
+        }
+    }
+}
+
+/// Any writer, with a count of its faults.
+#[derive(Drop)]
+pub struct Writing<W> {
+    inner: W,
+    faults: u64,
+}
+
+// Writes the piece, all of it where it can, and says how much.
+fn write_through<W: Write>(writer: &mut W, piece: &[u8]) -> usize
+    ensures within { result ≤ length piece.now }
+{
+    let mut done = 0;
+    while done < piece.len() {
+        match writer.write(&piece[done..]) {
+            Ok(0) => return done,
+            Ok(count) => done += count,
+            Err(_) => return done,
+        }
+    }
+    done
+}
+
+impl<W: Write> Sink for Writing<W> {
+    ghost contents = { λ _. None };
+
+    ghost faults = { λ sink. sink.faults };
+
+    fn put(&mut self, piece: &[u8]) -> Result<(), Failed> {
+        if write_through(&mut self.inner, piece) == piece.len() {
+            return Ok(());
+        }
+        self.faults = self.faults.saturating_add(1);
+        Err(Failed)
+    }
+}
+
+/// A file or standard input.
+#[derive(Drop)]
+pub enum RealSource<F, I> {
+    File(Reading<F>),
+    Stream(Reading<I>),
+}
+
+impl<F: Read, I: Read> Source for RealSource<F, I> {
+    ghost use Rattle.outside_io.specs.Real.{source_faults};
+
+    ghost remaining = { λ _. None };
+
+    ghost faults = { source_faults };
+
+    fn read(&mut self, buf: &mut [u8]) -> Result<usize, Failed> {
+        match self {
+            RealSource::File(source) => source.read(buf),
+            RealSource::Stream(source) => source.read(buf),
+        }
+    }
+}
+
+/// A file or standard output.
+#[derive(Drop)]
+pub enum RealSink<F, O> {
+    File(Writing<F>),
+    Stream(Writing<O>),
+}
+
+impl<F: Write, O: Write> Sink for RealSink<F, O> {
+    ghost use Rattle.outside_io.specs.Real.{sink_faults};
+
+    ghost contents = { λ _. None };
+
+    ghost faults = { sink_faults };
+
+    fn put(&mut self, piece: &[u8]) -> Result<(), Failed> {
+        match self {
+            RealSink::File(sink) => sink.put(piece),
+            RealSink::Stream(sink) => sink.put(piece),
+        }
+    }
+}
+
+/// The system's files, and its standard streams under the name `-`.
+#[derive(Drop)]
+pub struct RealHost<'a, R> {
+    rt: &'a R,
+    faults: u64,
+}
+
+impl<'a, R> RealHost<'a, R> {
+    pub fn new(rt: &'a R) -> RealHost<'a, R> {
+        RealHost { rt, faults: 0 }
+    }
+}
+
+impl<'a, R: Files + Input + Print> Host for RealHost<'a, R> {
+    type Input = RealSource<R::File, R::Reader>;
+
+    type Output = RealSink<R::File, Printer<'a, R>>;
+
+    ghost tells = { false };
+
+    ghost shelf = { λ _. nowhere };
+
+    ghost faults = { λ host. host.faults };
+
+    fn source(&mut self, name: &str) -> Result<Self::Input, HostBad> {
+        if name == "-" {
+            return Ok(RealSource::Stream(Reading {
+                inner: self.rt.reader(),
+                faults: 0,
+            }));
+        }
+        match fs::open(self.rt, name) {
+            Ok(inner) => Ok(RealSource::File(Reading { inner, faults: 0 })),
+            Err(_) => {
+                self.faults = self.faults.saturating_add(1);
+                Err(HostBad::Failed)
+            }
+        }
+    }
+
+    fn sink(&mut self, name: &str) -> Result<Self::Output, HostBad> {
+        if name == "-" {
+            return Ok(RealSink::Stream(Writing {
+                inner: io::writer(self.rt),
+                faults: 0,
+            }));
+        }
+        match fs::create(self.rt, name) {
+            Ok(inner) => Ok(RealSink::File(Writing { inner, faults: 0 })),
+            Err(_) => {
+                self.faults = self.faults.saturating_add(1);
+                Err(HostBad::Failed)
+            }
+        }
+    }
+
+    fn back_source(&mut self, _name: &str, _object: Self::Input) {}
+
+    fn back_sink(&mut self, _name: &str, _object: Self::Output) {}
+}

@@ -1,0 +1,82 @@
+// Objects under names, in order: the first slot of a name counts.
+ghost use Rattle.std.specs.Prelude.{◌≡◌, ◌<◌, length, MatchOption, IfSome, IfNone, IsTrue, []};
+ghost use Rattle.outside_io.specs.declared.host.Place.TheVariants.{Here, Back};
+ghost use Rattle.outside_io.specs.Slots.{place_of, index_of};
+ghost use Rattle.outside_io.specs.Shelf.{Stays, HandsOut, TakesBack};
+
+use crate::{Place, Store8};
+use std::mem;
+
+/// An object under a name.
+#[derive(Drop)]
+pub struct Slot<T> {
+    pub name: String,
+    pub place: Place<T>,
+}
+
+// The first slot of this name.
+fn find<T>(slots: &[Slot<T>], name: &str) -> Option<usize>
+    ensures value { MatchOption result (index_of slots.now name.now ≡ length slots.now) (λ i. (i ≡ index_of slots.now name.now) × (i < length slots.now)) }
+{
+    let mut i = 0;
+    while i < slots.len() {
+        if slots[i].name.as_str() == name {
+            return Some(i);
+        }
+        i += 1;
+    }
+    None
+}
+
+// Hands out the object of this name, if it stands there.
+pub(crate) fn take_out<T: Drop>(slots: &mut [Slot<T>], name: &str) -> Option<T>
+    ensures some { IfSome result (λ object. HandsOut (place_of slots.old) (place_of slots.new) name.now object) }
+    ensures none { IfNone result (Stays (place_of slots.old) (place_of slots.new)) }
+{
+    let i = find(slots, name)?;
+    if !matches!(slots[i].place, Place::Here(_)) {
+        return None;
+    }
+    let slot = &mut slots[i];
+    match mem::replace(&mut slot.place, Place::Out) {
+        Place::Here(object) => Some(object),
+        _ => None,
+    }
+}
+
+// Takes back the object of this name, if it is out. Where it is not, lets the object go.
+pub(crate) fn put_back<T: Drop>(slots: &mut [Slot<T>], name: &str, object: T)
+    ensures state { TakesBack (place_of slots.old) (place_of slots.new) name.now object }
+{
+    if let Some(i) = find(slots, name) {
+        if matches!(slots[i].place, Place::Out) {
+            let slot = &mut slots[i];
+            slot.place = Place::Back(object);
+        }
+    }
+}
+
+// The object that came back under this name.
+pub(crate) fn returned<'a, T>(slots: &'a [Slot<T>], name: &str) -> Option<&'a T>
+    ensures some { IfSome result (λ object. place_of slots.now name.now ≡ Back object.now) }
+    ensures none { IfNone result ((object : _) → place_of slots.now name.now ≡ Back object → ⊥) }
+{
+    let i = find(slots, name)?;
+    match &slots[i].place {
+        Place::Back(object) => Some(object),
+        _ => None,
+    }
+}
+
+// Whether an empty sink stands under this name, to be handed out.
+pub(crate) fn is_fresh(slots: &[Slot<Store8>], name: &str) -> bool
+    ensures value { (sink : _) → IsTrue result → place_of slots.now name.now ≡ Here sink → sink.contents ≡ [] }
+{
+    match find(slots, name) {
+        Some(i) => match &slots[i].place {
+            Place::Here(sink) => sink.is_empty(),
+            _ => false,
+        },
+        None => false,
+    }
+}
