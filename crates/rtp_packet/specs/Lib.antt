@@ -1,0 +1,4 @@
+pub mod Rtp
+pub mod Reading
+pub mod Writing
+pub mod Text

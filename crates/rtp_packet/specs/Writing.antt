@@ -1,0 +1,35 @@
+-- The packets that are written: payload type 33, an MPEG-2 transport stream (RFC 3551, section 6), with
+-- no marker, no sources and no padding.
+use Rattle.std.specs.Prelude.{◌≡◌, ℕ, ◌+◌, ◌*◌, ◌^◌, ◌<◌, ◌≤◌, List, [], ◌∷◌, ◌++◌, drop, Bool, false, Option}
+use Rattle.std.specs.Int.{w16, w32, to_be_bytes}
+use Rattle.rtp_packet.specs.declared.writing.RtpHead.{RtpHead}
+use Rattle.rtp_packet.specs.Rtp.{RtpPacket, bit_of}
+
+-- each field fits its bits
+pub record IsHead (head : RtpHead) : Type 0 where
+  pub number : head.number < 2 ^ 16
+  pub stamp : head.stamp < 2 ^ 32
+  pub ssrc : head.ssrc < 2 ^ 32
+
+-- the packet of a head, an extension and a payload
+abbrev pub packet_with : RtpHead → Option (ℕ × List ℕ) → List ℕ → RtpPacket
+packet_with head extension payload = record {
+  marker = false;
+  payload_type = 33;
+  number = head.number;
+  stamp = head.stamp;
+  ssrc = head.ssrc;
+  sources = [];
+  extension = extension;
+  payload = payload;
+}
+
+-- the twelve octets of its header
+abbrev pub header_octets : RtpHead → Bool → List ℕ
+header_octets head extended =
+    (128 + 16 * bit_of extended) ∷ 33 ∷
+    (to_be_bytes w16 head.number ++ (to_be_bytes w32 head.stamp ++ to_be_bytes w32 head.ssrc))
+
+-- nothing changed from this place on
+abbrev pub KeepsFrom : ℕ → List ℕ → List ℕ → Type 0
+KeepsFrom end old new = (n : ℕ) → end ≤ n → drop n new ≡ drop n old
