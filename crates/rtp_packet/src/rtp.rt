@@ -190,14 +190,14 @@ impl<'a> Rtp<'a> {
     }
 
     /// The extension's profile word, and the octets of its words.
-    pub fn extension(&self) -> Option<(u16, &[u8])>
+    pub fn extension(&self) -> Option<(u16, &'a [u8])>
         ensures value { extension_shown result ≡ self.now.extension }
     {
         self.extension
     }
 
     /// The payload without padding.
-    pub fn payload(&self) -> &[u8]
+    pub fn payload(&self) -> &'a [u8]
         ensures value { result.now ≡ self.now.payload }
         ensures within { length result.now ≤ 1500 }
     {
