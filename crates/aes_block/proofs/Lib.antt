@@ -1,0 +1,5 @@
+mod TableLemmas
+mod WordLemmas
+mod ScheduleLemmas
+mod CipherLemmas
+mod Vectors

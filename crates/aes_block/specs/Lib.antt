@@ -1,0 +1,6 @@
+pub mod Field
+pub mod State
+pub mod Schedule
+pub mod Cipher
+pub mod Columns
+pub mod Kept
