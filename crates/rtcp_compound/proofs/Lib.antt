@@ -1,0 +1,9 @@
+pub mod ChunkLemmas
+pub mod ChunkLaws
+pub mod PacketLemmas
+pub mod PacketLaws
+pub mod CompoundLemmas
+pub mod CompoundLaws
+pub mod WritingLemmas
+pub mod PutLemmas
+pub mod Rows

@@ -1,0 +1,6 @@
+pub mod Chunks
+pub mod Compound
+pub mod Name
+pub mod Reading
+pub mod Writing
+pub mod Seen

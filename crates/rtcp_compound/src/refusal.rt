@@ -1,0 +1,67 @@
+//! Why octets are no compound, and where.
+
+use std::error::Error;
+use std::fmt;
+
+/// The test that fails, in the order of the tests.
+#[derive(Clone, Copy, Debug, PartialEq, Eq)]
+pub enum RtcpWhy {
+    /// Fewer than the four octets of a header are left.
+    Short,
+    /// The version isn't 2.
+    Version,
+    /// The packet type is below 192 or above 223.
+    Kind,
+    /// The first packet is neither a sender's nor a receiver's report.
+    First,
+    /// The packet passes the end.
+    Length,
+    /// Padding stands in a packet that isn't the last, or its count isn't that of one or more whole
+    /// words of the body.
+    Padding,
+    /// The body is less than its type and its count say.
+    Body,
+}
+
+impl fmt::Display for RtcpWhy {
+    fn fmt<W: fmt::Write>(&self, f: &mut fmt::Formatter<W>) -> fmt::Result {
+        f.write_str(match self {
+            RtcpWhy::Short => "rtcp short",
+            RtcpWhy::Version => "rtcp version",
+            RtcpWhy::Kind => "rtcp kind",
+            RtcpWhy::First => "rtcp first",
+            RtcpWhy::Length => "rtcp length",
+            RtcpWhy::Padding => "rtcp padding",
+            RtcpWhy::Body => "rtcp body",
+        })
+    }
+}
+
+/// Octets that are no compound: the first test that fails, packet by packet.
+#[derive(Clone, Copy, Debug, PartialEq, Eq)]
+pub struct RtcpBad {
+    /// The test.
+    pub why: RtcpWhy,
+    /// The offset of the packet that fails it, in octets of the compound.
+    pub place: usize,
+}
+
+impl fmt::Display for RtcpBad {
+    fn fmt<W: fmt::Write>(&self, f: &mut fmt::Formatter<W>) -> fmt::Result {
+        write!(f, "{} at {}", self.why, self.place)
+    }
+}
+
+impl Error for RtcpBad {}
+
+/// The packet doesn't fit the rest of the compound's block.
+#[derive(Clone, Copy, Debug, PartialEq, Eq)]
+pub struct Full;
+
+impl fmt::Display for Full {
+    fn fmt<W: fmt::Write>(&self, f: &mut fmt::Formatter<W>) -> fmt::Result {
+        f.write_str("compound full")
+    }
+}
+
+impl Error for Full {}
