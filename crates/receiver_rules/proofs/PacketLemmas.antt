@@ -128,11 +128,11 @@ pub floor_rises : (m later : Moment) → IsLater m later → (ps : List Packet) 
 floor_rises m later h [] = omega arith
 floor_rises m later h (p ∷ ps) = grind (arith, h p, floor_rises m later h ps)
 
-floor-filter : (floor : ℕ) (m : Moment) (ps : List Packet) → max floor (playout_floor (filter (is_from floor) ps) m) ≡ max floor (playout_floor ps m)
+pub floor-filter : (floor : ℕ) (m : Moment) (ps : List Packet) → max floor (playout_floor (filter (is_from floor) ps) m) ≡ max floor (playout_floor ps m)
 floor-filter floor m [] = refl
 floor-filter floor m (p ∷ ps) = grind (arith, floor-filter floor m ps)
 
-floor-insert : (m : Moment) (p : Packet) (ps : List Packet) → playout_floor (insert_by_number p ps) m ≡ playout_floor (p ∷ ps) m
+pub floor-insert : (m : Moment) (p : Packet) (ps : List Packet) → playout_floor (insert_by_number p ps) m ≡ playout_floor (p ∷ ps) m
 floor-insert m p [] = refl
 floor-insert m p (q ∷ qs) = grind (arith, floor-insert m p qs)
 

@@ -1,0 +1,26 @@
+-- What goes out at the end is what the history says.
+use Rattle.std.proofs.Common.{◌∷◌, ◌∙◌, ap, refl, sym, subst}
+use Rattle.receiver_rules.specs.Steps.{end_step}
+use Rattle.receiver_rules.specs.Packets.{Ever}
+use Rattle.reorder_buffer.specs.StateAfter.{Shows}
+use Rattle.reorder_buffer.proofs.WriteLemmas.{on_err_always}
+use Rattle.reorder_buffer.proofs.ReleaseLemmas.{ended, end_follows, shows_end, written_then, part_then, count_then}
+use Rattle.reorder_buffer.proofs.buffer.Buffer.flush.Goals as goal
+
+pub returns-in_err-count-clause-part : goal.returns-in_err-count-clause-part
+returns-in_err-count-clause-part g c =
+    on_err_always c.from_residual.result _ (λ history s.
+    part_then c.args.self.now history end_step Ever _ _ (end_follows c.args.self.now history s c.requires.running) c.in_err-count.ensures.part)
+
+pub returns-clause-state : goal.returns-clause-state
+returns-clause-state g c = λ history s _.
+    subst (λ b. Shows b (end_step ∷ history)) (sym (ap ended (c.self.view_is ∙ c.in_ok-count.ensures.ok)))
+    (shows_end c.args.self.now history _ s c.requires.running refl)
+
+pub returns-clause-sink : goal.returns-clause-sink
+returns-clause-sink g c = λ history s.
+    written_then c.args.self.now history end_step Ever _ _ (end_follows c.args.self.now history s c.requires.running) c.in_ok-count.ensures.sink
+
+pub returns-clause-count : goal.returns-clause-count
+returns-clause-count g c = λ history s.
+    count_then c.args.self.now history end_step Ever _ (end_follows c.args.self.now history s c.requires.running) c.in_ok-count.ensures.count

@@ -1,0 +1,20 @@
+-- What a reorder buffer keeps, as its clauses see it.
+use Rattle.std.specs.Prelude.{ℕ, List, Option}
+use Rattle.receiver_rules.specs.declared.limits.Limits.{Limits}
+use Rattle.receiver_rules.specs.declared.anchor.Anchor.{Anchor}
+use Rattle.receiver_rules.specs.declared.anchor.Highest.{Highest}
+use Rattle.receiver_rules.specs.Packets.{Packet}
+use Rattle.reorder_buffer.specs.declared.phase.Phase.{Phase}
+
+pub record State : Type 0 where
+  pub limits : Limits
+  pub phase : Phase
+  -- the effective time of the last step
+  pub time : ℕ
+  pub anchor : Option Anchor
+  -- the kept packet with the highest number
+  pub highest : Option Highest
+  -- numbers below it are out, or can go out no more
+  pub floor : ℕ
+  -- the packets that wait, by rising number
+  pub held : List Packet

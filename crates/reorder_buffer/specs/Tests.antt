@@ -1,0 +1,34 @@
+-- The verdict as the buffer's own state shows it.
+use Rattle.std.specs.Prelude.{ℕ, ℤ, pos, int_le, int_lt, ◌+◌, ◌*◌, ◌^◌, not, nat_le, nat_lt, ◌==◌, if◌then◌else◌}
+use Rattle.std.specs.List.{list_any}
+use Rattle.receiver_rules.specs.declared.verdict.Verdict.{Verdict}
+use Rattle.receiver_rules.specs.declared.verdict.Verdict.TheVariants.{Kept, Stranger, Exhausted, Late, Behind, Early, Twice, Span}
+use Rattle.receiver_rules.specs.declared.anchor.Anchor.{Anchor}
+use Rattle.std.specs.Prelude.{unwrap_or}
+use Rattle.receiver_rules.specs.Steps.{Arrival}
+use Rattle.receiver_rules.specs.History.{new_anchor}
+use Rattle.receiver_rules.specs.Packets.{Packet, distance, placed_packet}
+use Rattle.reorder_buffer.specs.State.{State}
+
+abbrev pub verdict_here : State → Anchor → ℕ → ℕ → ℕ → ℤ → Verdict
+verdict_here b anchor t flow number deadline =
+    if not (flow == anchor.flow) then Stranger
+    else if nat_le (2 ^ 62) number then Exhausted
+    else if int_le deadline (pos t) then Late
+    else if nat_lt number b.floor then Behind
+    else if int_lt (pos (t + 2 * b.limits.playout_delay)) deadline then Early
+    else if list_any (λ p. p.number == number) b.held then Twice
+    else if list_any (λ p. nat_le b.limits.capacity (distance p.number number)) b.held then Span
+    else Kept
+
+-- the anchor at an arrival, and the arrival's place
+abbrev pub anchor_at : State → ℕ → Arrival → Anchor
+anchor_at b t arrival = unwrap_or b.anchor (new_anchor t arrival)
+
+abbrev pub placed_at : State → ℕ → Arrival → Packet
+placed_at b t arrival = placed_packet b.limits (anchor_at b t arrival) b.highest arrival
+
+abbrev pub judged : State → ℕ → Arrival → Verdict
+judged b t arrival =
+    let p = placed_at b t arrival in
+    verdict_here b (anchor_at b t arrival) t arrival.flow p.number p.deadline

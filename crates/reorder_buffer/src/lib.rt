@@ -1,0 +1,14 @@
+//! The receiver's reorder buffer: it decides on each media arrival, keeps what is to be played out, and writes it by
+//! rising number when it is due. A contract sees the list of steps that led to its state.
+#![tactic(auto)]
+
+pub mod buffer;
+mod due;
+mod packets;
+mod phase;
+#[cfg(test)]
+mod tests;
+
+pub use buffer::Buffer;
+pub use phase::{Phase, WriteFault};
+pub use receiver_rules::{Arrival, Verdict};

@@ -1,0 +1,133 @@
+//! The packets that are buffered, as an ordered map by their numbers.
+ghost use Rattle.std.specs.Prelude.{◌≡◌, ◌==◌, ◌<◌, ◌+◌, ◌^◌, ◌∷◌, false, nat_le, length, IfSome, IfNone, IfOk, OnOk, OnErr};
+ghost use Rattle.std.specs.List.{list_any, filter};
+ghost use Rattle.std.specs.BTreeMap.{keys};
+ghost use Rattle.outside_io.specs.Causes.{HasCause};
+ghost use Rattle.outside_io.specs.Told.{Appends, AppendsPart};
+ghost use Rattle.receiver_rules.specs.Packets.{Moment, distance, insert_by_number, is_below, is_from, IsRising};
+ghost use Rattle.reorder_buffer.specs.Release.{octets_below};
+ghost use Rattle.reorder_buffer.specs.Shown.{packet_of, packets_of, PopsBelow, IsNoneBelow};
+ghost use Rattle.reorder_buffer.specs.Due.{due_floor, SameFloors};
+
+use crate::due::{add_due, forget_due};
+use outside_io::{Failed, Sink};
+use std::alloc::AllocError;
+use std::collections::BTreeMap;
+
+/// A packet that waits, beside its number.
+#[derive(Drop)]
+pub struct Held {
+    pub timestamp: u64,
+    pub deadline: i64,
+    pub payload: Vec<u8>,
+}
+
+/// Whether the number waits.
+#[tactic(auto, using(crate::proofs::HeldLemmas::has_number))]
+pub fn holds(held: &BTreeMap<u64, Held>, number: u64) -> bool
+    ensures { result ≡ list_any (λ p. p.number == number) (packets_of held.now.entries) }
+{
+    held.contains_key(&number)
+}
+
+/// Whether some waiting number lies the capacity or more away.
+#[tactic(auto, using(crate::proofs::HeldLemmas::any_key))]
+pub fn is_any_far(held: &BTreeMap<u64, Held>, capacity: u64, number: u64) -> bool
+    ensures { result ≡ list_any (λ p. nat_le capacity (distance p.number number)) (packets_of held.now.entries) }
+{
+    is_any_key_far(held, capacity, number)
+}
+
+/// The first and the last number decide, since the others lie between.
+fn is_any_key_far(held: &BTreeMap<u64, Held>, capacity: u64, number: u64) -> bool
+    ensures { result ≡ list_any (λ k. nat_le capacity (distance k number)) (keys held.now) }
+{
+    match (held.first_key_value(), held.last_key_value()) {
+        (Some((first, _)), Some((last, _))) => {
+            is_far(*first, capacity, number) || is_far(*last, capacity, number)
+        }
+        _ => false,
+    }
+}
+
+/// Whether two numbers lie the capacity or more apart.
+fn is_far(one: u64, capacity: u64, other: u64) -> bool
+    ensures { result ≡ nat_le capacity (distance one other) }
+{
+    one.abs_diff(other) >= capacity
+}
+
+/// Takes out the packets below the floor, and writes them by rising number.
+pub fn put_below<K: Sink>(
+    held: &mut BTreeMap<u64, Held>,
+    due: &mut BTreeMap<i64, u64>,
+    floor: u64,
+    sink: &mut K,
+) -> Result<u32, Failed>
+    requires rising { IsRising 0 (packets_of held.old.entries) }
+    requires few { length held.old.entries < 2 ^ 32 }
+    ensures rest { OnOk result (packets_of held.new.entries ≡ filter (is_from floor) (packets_of held.old.entries)) }
+    ensures due { OnOk result (SameFloors floor due.old.entries due.new.entries) }
+    ensures ok { OnOk result (Appends (K.contents sink.old) (K.contents sink.new) (octets_below floor (packets_of held.old.entries))) }
+    ensures count { IfOk result (λ n. n ≡ length (filter (is_below floor) (packets_of held.old.entries))) }
+    ensures err { OnErr result (AppendsPart (K.contents sink.old) (K.contents sink.new) (octets_below floor (packets_of held.old.entries))) }
+    ensures cause { HasCause (K.faults sink.old) (K.faults sink.new) result }
+{
+    let mut count = 0;
+    while let Some(packet) = pop_below(held, floor) {
+        forget_due(due, packet.deadline, floor);
+        put(&packet, sink)?;
+        count += 1;
+    }
+    Ok(count)
+}
+
+/// The first packet, where its number is below the floor.
+fn pop_below(held: &mut BTreeMap<u64, Held>, floor: u64) -> Option<Held>
+    ensures some { IfSome result (λ packet. PopsBelow floor held.old.entries packet held.new.entries) }
+    ensures none { IfNone result ((held.new.entries ≡ held.old.entries) × IsNoneBelow floor held.old.entries) }
+{
+    match held.first_key_value() {
+        Some((number, _)) if *number < floor => match held.pop_first() {
+            Some((_, packet)) => Some(packet),
+            None => None,
+        },
+        _ => None,
+    }
+}
+
+/// Writes a payload. An empty one makes no piece.
+fn put<K: Sink>(packet: &Held, sink: &mut K) -> Result<(), Failed>
+    ensures ok { OnOk result (Appends (K.contents sink.old) (K.contents sink.new) packet.now.payload.items) }
+    ensures err { OnErr result (AppendsPart (K.contents sink.old) (K.contents sink.new) packet.now.payload.items) }
+    ensures cause { HasCause (K.faults sink.old) (K.faults sink.new) result }
+{
+    if packet.payload.is_empty() {
+        return Ok(());
+    }
+    sink.put(packet.payload.as_slice())
+}
+
+/// Puts a new packet among those that wait, and notes its deadline. Where memory is refused both stay as they were.
+pub fn insert_both(
+    held: &mut BTreeMap<u64, Held>,
+    due: &mut BTreeMap<i64, u64>,
+    number: u64,
+    packet: Held,
+) -> Result<(), AllocError>
+    requires high { number < 2 ^ 62 }
+    requires new { list_any (λ p. p.number == number) (packets_of held.old.entries) ≡ false }
+    ensures held { OnOk result (packets_of held.new.entries ≡ insert_by_number (packet_of (number, packet)) (packets_of held.old.entries)) }
+    ensures due { OnOk result ((m : Moment) → due_floor due.new.entries m ≡ due_floor ((packet.deadline, number + 1) ∷ due.old.entries) m) }
+    ensures err { OnErr result ((held.new.entries ≡ held.old.entries) × (due.new.entries ≡ due.old.entries)) }
+{
+    let deadline = packet.deadline;
+    held.insert(number, packet)?;
+    match add_due(due, deadline, number + 1) {
+        Ok(()) => Ok(()),
+        Err(error) => {
+            held.remove(&number);
+            Err(error)
+        }
+    }
+}

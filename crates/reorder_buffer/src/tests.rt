@@ -1,0 +1,267 @@
+//! The worked runs on the buffer, and generated ones beside the plain programs of the rules.
+ghost use Rattle.std.specs.Prelude.{◌≡◌, ◌<◌, ◌^◌, IfOk};
+ghost use Rattle.std.specs.List.{All};
+ghost use Rattle.receiver_rules.specs.Plain.{IsFit};
+
+use crate::{Arrival, Buffer, Phase, Verdict};
+use outside_io::Store8;
+use receiver_rules::Limits;
+use receiver_rules::plain::{Event, Step, released, verdicts};
+use seq_unwrap::Width;
+use std::alloc::{AllocError, Global};
+use std::test::Fail;
+
+/// A delay of one second, and a span of 8.
+const DELAY_MS: u64 = 1000;
+
+const SPAN: u64 = 8;
+
+/// What a buffer answered and wrote.
+#[derive(Drop)]
+struct Played {
+    verdicts: Vec<Verdict>,
+    sink: Store8,
+    failed: bool,
+}
+
+/// Plays steps on a buffer: at each the release, and then its event. Without an end nothing is flushed.
+fn play(alloc: Global, steps: &[Step<'_>], sink: Store8) -> Result<Played, Fail>
+    requires { All IsFit steps.now }
+{
+    let mut buffer = Buffer::with_limits(alloc, SPAN, DELAY_MS)?;
+    let mut played = Played {
+        verdicts: Vec::new(alloc),
+        sink,
+        failed: false,
+    };
+    let mut at = 0;
+    for step in steps {
+        at = at.max(step.tick);
+        if buffer.release(at, &mut played.sink).is_err() {
+            played.failed = buffer.ended();
+            return Ok(played);
+        }
+        match &step.event {
+            Event::Media(arrival) => {
+                played.verdicts.push(buffer.arrive(alloc, at, arrival)?)?;
+            }
+            Event::TimeOnly => {}
+            Event::End => {
+                played.failed = buffer.flush(&mut played.sink).is_err() && buffer.ended();
+                return Ok(played);
+            }
+        }
+    }
+    Ok(played)
+}
+
+/// Whether the buffer and the plain programs give these verdicts, and these payloads one after another.
+fn answers(
+    alloc: Global,
+    steps: &[Step<'_>],
+    want: &[Verdict],
+    written: &[u8],
+) -> Result<bool, Fail>
+    requires { All IsFit steps.now }
+{
+    let played = play(alloc, steps, Store8::with(alloc, 64, &[])?)?;
+    let bytes = played.sink.octets();
+    Ok(played.verdicts.as_slice() == want && bytes == written && agrees(alloc, steps)?)
+}
+
+/// Whether the buffer answers what the plain programs do.
+fn agrees(alloc: Global, steps: &[Step<'_>]) -> Result<bool, Fail>
+    requires { All IsFit steps.now }
+{
+    let limits = Limits {
+        playout_delay: 90 * DELAY_MS,
+        capacity: SPAN,
+    };
+    let played = play(alloc, steps, Store8::with(alloc, 64, &[])?)?;
+    let want = verdicts(alloc, &limits, steps)?;
+    let payloads = released(alloc, &limits, steps)?;
+    let mut bytes = Vec::new(alloc);
+    for payload in payloads.as_slice() {
+        bytes.extend_from_slice(payload)?;
+    }
+    Ok(played.verdicts.as_slice() == want.as_slice() && played.sink.octets() == bytes.as_slice())
+}
+
+fn media(flow: u32, tick: u64, word: u32, stamp: u32, payload: &[u8]) -> Step<'_>
+    requires tick { tick < 2 ^ 61 }
+    requires word { word < 2 ^ 16 }
+    ensures { IsFit result }
+{
+    let arrival = Arrival {
+        flow,
+        width: Width::W16,
+        word,
+        stamp,
+        payload,
+    };
+    Step {
+        tick,
+        event: Event::Media(arrival),
+    }
+}
+
+fn brings(tick: u64, word: u32, stamp: u32, payload: &[u8]) -> Step<'_>
+    requires tick { tick < 2 ^ 61 }
+    requires word { word < 2 ^ 16 }
+    ensures { IsFit result }
+{
+    media(0x1020_3040, tick, word, stamp, payload)
+}
+
+fn passes(tick: u64) -> Step<'static>
+    requires tick { tick < 2 ^ 61 }
+    ensures { IsFit result }
+{
+    Step {
+        tick,
+        event: Event::TimeOnly,
+    }
+}
+
+fn ends() -> Step<'static>
+    ensures { IsFit result }
+{
+    Step {
+        tick: 0,
+        event: Event::End,
+    }
+}
+
+#[test]
+fn a_copy_at_its_deadline_is_late_and_a_gap_is_filled_once(rt: HostRuntime) -> Result<(), Fail> {
+    let alloc = rt.alloc();
+    let first = brings(0, 10, 0, b"A");
+    let third = brings(200, 12, 1800, b"C");
+    let in_time = brings(90_899, 11, 900, b"B");
+    let late = brings(90_900, 11, 900, b"B");
+    let kept = [Verdict::Kept, Verdict::Kept, Verdict::Kept];
+    let missed = [Verdict::Kept, Verdict::Kept, Verdict::Late];
+    assert!(rt; answers(alloc, &[first, third, in_time], &kept, b"A")?);
+    assert!(rt; answers(alloc, &[first, third, in_time, ends()], &kept, b"ABC")?);
+    assert!(rt; answers(alloc, &[first, third, late, ends()], &missed, b"AC")?);
+    let (again, twice) = (brings(5000, 11, 900, b"B"), brings(6000, 11, 900, b"B"));
+    let once = [Verdict::Kept, Verdict::Kept, Verdict::Twice, Verdict::Late];
+    assert!(rt; answers(alloc, &[first, again, twice, late, ends()], &once, b"AB")?);
+    let other = media(0x2030_4050, 900, 11, 900, b"B");
+    assert!(rt;
+        answers(
+            alloc,
+            &[first, other],
+            &[Verdict::Kept, Verdict::Stranger],
+            b""
+        )?
+    );
+    Ok(())
+}
+
+#[test]
+fn the_span_counts_against_what_is_buffered(rt: HostRuntime) -> Result<(), Fail> {
+    let alloc = rt.alloc();
+    let (zero, span) = (brings(0, 10, 0, b"A"), brings(100, 18, 7200, b"C"));
+    let (near, late) = (brings(100, 17, 6300, b"B"), brings(90_000, 18, 7200, b"C"));
+    let want = [Verdict::Kept, Verdict::Span, Verdict::Kept, Verdict::Kept];
+    assert!(rt; answers(alloc, &[zero, span, near, late, ends()], &want, b"ABC")?);
+    Ok(())
+}
+
+#[test]
+fn numbers_go_out_rising(rt: HostRuntime) -> Result<(), Fail> {
+    let alloc = rt.alloc();
+    let (ten, nine) = (brings(0, 10, 1800, b"C"), brings(10, 9, 900, b"B"));
+    let eight = brings(20, 8, 0, b"A");
+    let three = [Verdict::Kept, Verdict::Kept, Verdict::Kept];
+    assert!(rt; answers(alloc, &[ten, nine, eight, passes(88_200)], &three, b"A")?);
+    assert!(rt; answers(alloc, &[ten, nine, eight, passes(90_000)], &three, b"ABC")?);
+    let (five, six) = (brings(0, 5, 900, b"A"), brings(0, 6, 0, b"B"));
+    let four = brings(89_100, 4, 900, b"4");
+    let behind = [Verdict::Kept, Verdict::Kept, Verdict::Behind];
+    assert!(rt; answers(alloc, &[five, six, passes(89_100)], &behind[..2], b"AB")?);
+    assert!(rt; answers(alloc, &[five, six, four, ends()], &behind, b"AB")?);
+    let (ahead, beyond) = (brings(0, 6, 90_900, b"B"), brings(0, 6, 90_901, b"B"));
+    assert!(rt; answers(alloc, &[five, ahead], &[Verdict::Kept, Verdict::Kept], b"")?);
+    assert!(rt;
+        answers(
+            alloc,
+            &[five, beyond],
+            &[Verdict::Kept, Verdict::Early],
+            b""
+        )?
+    );
+    Ok(())
+}
+
+#[test]
+fn a_failed_write_leaves_a_front_part_and_ends_the_buffer(rt: HostRuntime) -> Result<(), Fail> {
+    let alloc = rt.alloc();
+    let steps = [brings(0, 10, 0, b"A"), brings(0, 11, 900, b"B"), ends()];
+    let played = play(alloc, &steps, Store8::with(alloc, 64, &[1])?)?;
+    assert!(rt; played.failed);
+    assert_eq!(rt; played.sink.octets(), b"A".as_slice());
+    let mut buffer = Buffer::with_limits(alloc, SPAN, DELAY_MS)?;
+    assert!(rt; buffer.flow().is_none() && buffer.first().is_none() && !buffer.ended());
+    let arrival = Arrival {
+        flow: 7,
+        width: Width::W16,
+        word: 3,
+        stamp: 0,
+        payload: b"",
+    };
+    assert_eq!(rt; buffer.arrive(alloc, 5, &arrival)?, Verdict::Kept);
+    assert!(rt; buffer.held() == 1 && buffer.has((1 << 40) + 3) && buffer.flow() == Some(7));
+    assert_eq!(rt; buffer.high(), Some((1 << 40) + 3));
+    let mut sink = Store8::with(alloc, 64, &[0])?;
+    // An empty payload makes no piece, so a sink that fails at once is no fault.
+    assert!(rt; buffer.flush(&mut sink) == Ok(1) && sink.octets().is_empty());
+    assert_eq!(rt; buffer.floor(), Some((1 << 40) + 3));
+    Ok(())
+}
+
+/// The next of a row of numbers that look random (Numerical Recipes' constants).
+fn next(seed: u32) -> u32 {
+    seed.wrapping_mul(1_664_525).wrapping_add(1_013_904_223)
+}
+
+/// A step that a row of numbers gives: mostly near its time and its number, and sometimes far off.
+fn made(seed: u32, place: u64) -> Step<'static>
+    requires { place < 2 ^ 20 }
+    ensures { IsFit result }
+{
+    let kind = seed >> 29;
+    let word = (65_530 + (seed >> 8) % 16) % 65_536;
+    let stamp = (seed >> 8) % 16 * 9000 + (seed >> 24) % 3 * 45_000 * (kind / 6);
+    let tick = place * 15_000 + u64::from(seed >> 12) % 40_000;
+    let flow = if kind == 1 && place > 0 { 2 } else { 4 };
+    let letter = (seed >> 8) as usize % 16;
+    let letters = b"ABCDEFGHIJKLMNOP".as_slice();
+    media(flow, tick, word, stamp, &letters[letter..letter + 1])
+}
+
+/// Twelve made steps, and an end after them in every other case.
+fn made_run(alloc: Global, case: u32) -> Result<Vec<Step<'static>>, AllocError>
+    ensures { IfOk result (λ steps. All IsFit steps.items) }
+{
+    let mut seed = case;
+    let mut steps = Vec::new(alloc);
+    for place in 0..12_u64 {
+        seed = next(seed);
+        steps.push(made(seed, place))?;
+    }
+    if case % 2 == 0 {
+        steps.push(ends())?;
+    }
+    Ok(steps)
+}
+
+#[test]
+fn generated_runs_agree_with_the_plain_programs(rt: HostRuntime) -> Result<(), Fail> {
+    for case in 0..3000_u32 {
+        let steps = made_run(rt.alloc(), case)?;
+        assert!(rt; agrees(rt.alloc(), steps.as_slice())?, "case {case}");
+    }
+    Ok(())
+}
