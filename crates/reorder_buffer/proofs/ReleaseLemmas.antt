@@ -1,9 +1,8 @@
 -- A floor that rises: the state stays sound, and shows the history with one more step.
-use Rattle.std.proofs.Common.{◌≡◌, ◌≢◌, ℕ, ◌+◌, ◌^◌, ◌≤◌, max, Bool, true, false, cond, not, List, [], ◌∷◌, ◌++◌, Option, Some, length, refl, sym, ◌∙◌, ap, subst, map, arith, append_assoc}
+use Rattle.std.proofs.Common.{◌≡◌, ◌≢◌, ℕ, ◌+◌, ◌^◌, ◌≤◌, max, Bool, true, false, cond, not, List, [], ◌∷◌, ◌++◌, Option, length, refl, sym, ◌∙◌, ap, subst, map, arith, append_assoc}
 use Rattle.std.specs.Prelude.{nat_lt}
 use Rattle.std.proofs.lemmas.Bool.{ltb-false}
 use Rattle.std.specs.List.{filter, concat}
-use Rattle.std.specs.Option.{option_map}
 use Rattle.outside_io.specs.Told.{Appends, AppendsPart}
 use Rattle.receiver_rules.specs.Steps.{Step, effective_time, time_step, end_step}
 use Rattle.receiver_rules.specs.Packets.{Packet, Moment, At, Ever, is_played_out, is_buffered, playout_floor, by_number, IsRising, is_below, is_from}
@@ -133,19 +132,16 @@ octets_then b history step later f = ap concat (released_then b history step lat
 -- ---- what is written
 
 pub written_then : (b : State) (history : List Step) (step : Step) (later : Moment) (old new : Option (List ℕ)) → Follows b history step later → Appends old new (octets_below (floor_then b later) b.held) → Writes old new (released_bytes b.limits history) (released_bytes b.limits (step ∷ history))
-written_then b history step later old new f put before told =
-    put
-    ∙ ap (option_map (λ held. held ++ octets_below (floor_then b later) b.held)) told
-    ∙ ap Some (append_assoc before (released_bytes b.limits history) (octets_below (floor_then b later) b.held) ∙ ap (λ xs. before ++ xs) (sym (octets_then b history step later f)))
+written_then b history step later old new f put = (octets_below (floor_then b later) b.held, put, octets_then b history step later f)
 
 pub part_then : (b : State) (history : List Step) (step : Step) (later : Moment) (old new : Option (List ℕ)) → Follows b history step later → AppendsPart old new (octets_below (floor_then b later) b.held) → WritesPart old new (released_bytes b.limits history) (released_bytes b.limits (step ∷ history))
-part_then b history step later old new f part before told = (
-  released_bytes b.limits history ++ part.0,
-  record {
-    after = (part.0, refl);
-    within = (part.1.0, octets_then b history step later f ∙ ap (λ xs. released_bytes b.limits history ++ xs) part.1.1 ∙ sym (append_assoc (released_bytes b.limits history) part.0 part.1.0));
-  },
-  part.2 ∙ ap (option_map (λ held. held ++ part.0)) told ∙ ap Some (append_assoc before (released_bytes b.limits history) part.0),
+part_then b history step later old new f part = (
+  part.0,
+  part.2,
+  (
+    part.1.0,
+    octets_then b history step later f ∙ ap (λ xs. released_bytes b.limits history ++ xs) part.1.1 ∙ sym (append_assoc (released_bytes b.limits history) part.0 part.1.0),
+  ),
 )
 
 length-append-map : (xs : List (List ℕ)) (ps : List Packet) → length ps + length xs ≡ length (xs ++ map (λ (p : Packet). p.payload) ps)

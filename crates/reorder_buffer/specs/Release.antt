@@ -1,7 +1,7 @@
 -- What goes out where the floor rises.
 use Rattle.std.specs.Prelude.{◌≡◌, ℕ, max, List, ◌++◌, map}
-use Rattle.std.specs.Prelude.{Option, Some}
-use Rattle.outside_io.specs.Told.{IsPrefix}
+use Rattle.std.specs.Prelude.{Option}
+use Rattle.outside_io.specs.Told.{Appends, IsPrefix}
 use Rattle.std.specs.List.{filter, concat}
 use Rattle.receiver_rules.specs.Packets.{Packet, Moment, is_below, playout_floor}
 use Rattle.reorder_buffer.specs.State.{State}
@@ -14,14 +14,10 @@ octets_below floor packets = concat (map (λ p. p.payload) (filter (is_below flo
 abbrev pub floor_then : State → Moment → ℕ
 floor_then b later = max b.floor (playout_floor b.held later)
 
--- where all that was written was first, it is then whole. A sink may hold something before that
+-- the sink has gained what the whole has behind the first. One that does not tell stays silent
 abbrev pub Writes : Option (List ℕ) → Option (List ℕ) → List ℕ → List ℕ → Type 0
-Writes old new first whole = (before : List ℕ) → old ≡ Some (before ++ first) → new ≡ Some (before ++ whole)
+Writes old new first whole = (gain : List ℕ) × Appends old new gain × (whole ≡ first ++ gain)
 
--- a part of what was to be written is told after what was written first
-pub record IsPart (first part whole : List ℕ) : Type 0 where
-  pub after : IsPrefix first part
-  pub within : IsPrefix part whole
-
+-- it has gained a front part of that
 abbrev pub WritesPart : Option (List ℕ) → Option (List ℕ) → List ℕ → List ℕ → Type 0
-WritesPart old new first whole = (before : List ℕ) → old ≡ Some (before ++ first) → (part : List ℕ) × IsPart first part whole × (new ≡ Some (before ++ part))
+WritesPart old new first whole = (front : List ℕ) × Appends old new front × IsPrefix (first ++ front) whole
