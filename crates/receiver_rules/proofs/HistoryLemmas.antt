@@ -1,12 +1,12 @@
 -- Facts about whole histories.
-use Rattle.std.proofs.Common.{◌≡◌, ℕ, ◌+◌, ◌*◌, ◌^◌, ◌≤◌, pos, Bool, true, false, cond, not, ◌||◌, List, [], ◌∷◌, ◌++◌, Option, None, unwrap_or, refl, sym, ◌∙◌, ap, arith}
+use Rattle.std.proofs.Common.{◌≡◌, max, ℕ, ◌+◌, ◌*◌, ◌^◌, ◌≤◌, pos, Bool, true, false, cond, not, ◌||◌, List, [], ◌∷◌, ◌++◌, Option, None, unwrap_or, refl, sym, ◌∙◌, ap, arith}
 use Rattle.std.specs.Prelude.{nat_le, ◌==◌, int_lt}
 use Rattle.std.proofs.lemmas.Bool.{not-true}
 use Rattle.std.specs.List.{filter}
 use Rattle.receiver_rules.specs.declared.verdict.Verdict.TheVariants.{Kept, Stranger, Exhausted, Late, Behind, Early, Twice, Span}
 use Rattle.receiver_rules.specs.declared.limits.Limits.{Limits}
 use Rattle.receiver_rules.specs.declared.anchor.Anchor.{Anchor}
-use Rattle.receiver_rules.specs.Steps.{Arrival, Event, Media, TimeOnly, End, Step, effective_time, is_end, has_ended}
+use Rattle.receiver_rules.specs.Steps.{Arrival, Event, Media, TimeOnly, End, Step, effective_time, is_end, has_ended, media_step, time_step}
 use Rattle.receiver_rules.specs.Packets.{Packet, highest_of, Moment, At, Ever, placed_packet, is_past_deadline, is_played_out, is_buffered, is_behind_playout, is_duplicate, is_beyond_capacity, verdict_of, is_kept, playout_floor, by_number, insert_by_number, IsRising, is_below}
 use Rattle.receiver_rules.specs.History.{new_anchor, anchor_of, anchor_after, accepted_packets, accepted_after, current_moment, played_out_packets}
 use Rattle.receiver_rules.proofs.PacketLemmas.{is_behind_playout-floor, is_played_out-floor, any-by_number, filter_same, rising-insert, rising-filter, filter-insert_refused, IsLater, later_At, later_Ever, played_out_later}
@@ -113,3 +113,23 @@ played_out_grows limits step history going =
     or_going : (a b : Bool) → b ≡ false → (a || b) ≡ a
     or_going true b h = refl
     or_going false b h = h
+
+-- ---- an arrival after the time has moved
+
+-- an arrival puts nothing out that its time alone does not
+pub played_out_arrival : (limits : Limits) (history : List Step) (tick at : ℕ) (arrival : Arrival) → has_ended history ≡ false → at ≡ max tick (effective_time history) → played_out_packets limits (media_step tick arrival ∷ history) ≡ played_out_packets limits (time_step at ∷ history)
+played_out_arrival limits history tick at arrival going e =
+    let t : ℕ = max tick (effective_time history) in
+    let same : max at (effective_time history) ≡ t = omega arith in
+    let packets : List Packet = accepted_packets limits history in
+    let a : Anchor = unwrap_or (anchor_of history) (new_anchor t arrival) in
+    let p : Packet = placed_packet limits a (highest_of packets) arrival in
+    let now : current_moment (media_step tick arrival ∷ history) ≡ At t = ap (λ c. cond c Ever (At t)) going in
+    let then : current_moment (time_step at ∷ history) ≡ At t = ap (λ c. cond c Ever (At (max at (effective_time history)))) going ∙ ap At same in
+    ap (λ m. filter (is_played_out (accepted_packets limits (media_step tick arrival ∷ history)) m) (by_number (accepted_packets limits (media_step tick arrival ∷ history)))) now
+    ∙ elim (is_kept (verdict_of limits a packets t arrival)) as (λ c. is_kept (verdict_of limits a packets t arrival) ≡ c → filter (is_played_out (cond c (p ∷ packets) packets) (At t)) (by_number (cond c (p ∷ packets) packets)) ≡ filter (is_played_out packets (At t)) (by_number packets)) [
+      | true ↦ λ k. let parts = accepted_parts limits a packets t arrival k in
+          played_out-cons packets (At t) p parts.in_time (buffered_when_accepted packets (At t) p parts.ahead)
+      | false ↦ λ k. refl
+    ] refl
+    ∙ sym (ap (λ m. filter (is_played_out packets m) (by_number packets)) then)

@@ -1,13 +1,13 @@
 -- What a state shows of its history, before and after an arrival.
-use Rattle.std.proofs.Common.{◌≡◌, ◌≢◌, ℕ, ◌+◌, ◌*◌, ◌^◌, ◌<◌, ◌≤◌, max, pos, Bool, true, false, cond, ◌&&◌, List, [], ◌∷◌, Option, Some, None, unwrap_or, refl, sym, ◌∙◌, ap, subst, arith}
+use Rattle.std.proofs.Common.{◌≡◌, ◌||◌, ◌≢◌, ℕ, ◌+◌, ◌*◌, ◌^◌, ◌<◌, ◌≤◌, max, pos, Bool, true, false, cond, ◌&&◌, List, [], ◌∷◌, Option, Some, None, unwrap_or, refl, sym, ◌∙◌, ap, subst, arith}
 use Rattle.std.specs.Prelude.{nat_lt, nat_le, ◌==◌, int_le, int_lt, IsSome}
 use Rattle.std.proofs.lemmas.Bool.{ltb-false}
 use Rattle.std.specs.List.{filter, list_any}
 use Rattle.receiver_rules.specs.declared.verdict.Verdict.TheVariants.{Kept, Stranger, Exhausted, Late, Behind, Early, Twice, Span}
 use Rattle.receiver_rules.specs.declared.anchor.Anchor.{Anchor}
-use Rattle.receiver_rules.specs.Steps.{Arrival, Step, effective_time, has_ended, media_step}
+use Rattle.receiver_rules.specs.Steps.{Arrival, Event, Media, Step, effective_time, is_end, has_ended, media_step, time_step}
 use Rattle.receiver_rules.specs.Packets.{Packet, Moment, At, Ever, number_of, timestamp_of, deadline_of, placed_packet, distance, is_buffered, verdict_of, is_kept, playout_floor, by_number, highest_of, higher, insert_by_number, is_from}
-use Rattle.receiver_rules.specs.History.{new_anchor, anchor_of, accepted_packets, current_moment, verdict}
+use Rattle.receiver_rules.specs.History.{new_anchor, anchor_of, anchor_after, accepted_packets, accepted_after, current_moment, verdict}
 use Rattle.receiver_rules.proofs.PacketLemmas.{any_same, filter_same, any-filter, any-by_number, is_behind_playout-floor, is_buffered-floor, buffered-cons}
 use Rattle.receiver_rules.proofs.HistoryLemmas.{chain as kept_chain, anchorless, now_open, IsKept, accepted_parts, buffered_when_accepted}
 use Rattle.std.proofs.lemmas.Int.{ints}
@@ -203,3 +203,32 @@ has_accepted b history number stands live low =
     let s : Shows b history = stands (not_failed b.phase live) in
     ap (λ ps. list_any (λ q. q.number == number) ps) (s.held ∙ filter_same _ _ (is_buffered-floor (accepted_packets b.limits history) (current_moment history)) (by_number (accepted_packets b.limits history)))
     ∙ twice_at (playout_floor (accepted_packets b.limits history) (current_moment history)) number (accepted_packets b.limits history) (let e = s.floor in omega arith)
+
+-- ---- a step at its own tick, after the time has moved
+
+-- what a state shows of a history and one more step at this effective time
+record ShowsAt (b : State) (history : List Step) (event : Event) (t : ℕ) : Type 0 where
+  phase : b.phase ≡ cond (is_end event || has_ended history) Ended Open
+  time : b.time ≡ t
+  anchor : b.anchor ≡ anchor_after (anchor_of history) t event
+  highest : b.highest ≡ highest_of (accepted_after b.limits (anchor_of history) (accepted_packets b.limits history) t event)
+  floor : b.floor ≡ playout_floor (accepted_after b.limits (anchor_of history) (accepted_packets b.limits history) t event) (cond (is_end event || has_ended history) Ever (At t))
+  held : b.held ≡ filter (is_buffered (accepted_after b.limits (anchor_of history) (accepted_packets b.limits history) t event) (cond (is_end event || has_ended history) Ever (At t))) (by_number (accepted_after b.limits (anchor_of history) (accepted_packets b.limits history) t event))
+
+to_time : (b : State) (history : List Step) (event : Event) (t : ℕ) (step : Step) → step.event ≡ event → max step.tick (effective_time history) ≡ t → Shows b (step ∷ history) → ShowsAt b history event t
+to_time b history event t step same time s =
+    subst (λ n. ShowsAt b history event n) time (subst (λ x. ShowsAt b history x (max step.tick (effective_time history))) same (record { phase = s.phase; time = s.time; anchor = s.anchor; highest = s.highest; floor = s.floor; held = s.held }))
+
+from_time : (b : State) (history : List Step) (tick : ℕ) (event : Event) → ShowsAt b history event (max tick (effective_time history)) → Shows b (record { tick = tick; event = event } ∷ history)
+from_time b history tick event s = record { phase = s.phase; time = s.time; anchor = s.anchor; highest = s.highest; floor = s.floor; held = s.held }
+
+-- a step at the effective time is the step at its own tick
+pub shows_told : (b : State) (history : List Step) (tick at : ℕ) (event : Event) → at ≡ max tick (effective_time history) → Shows b (record { tick = at; event = event } ∷ history) → Shows b (record { tick = tick; event = event } ∷ history)
+shows_told b history tick at event e s =
+    from_time b history tick event (to_time b history event (max tick (effective_time history)) (record { tick = at; event = event }) refl (omega arith) s)
+
+-- an arrival after the time has moved is the arrival at its own tick
+pub shows_arrival : (b : State) (history : List Step) (tick at : ℕ) (arrival : Arrival) → at ≡ max tick (effective_time history) → Shows b (media_step at arrival ∷ time_step at ∷ history) → Shows b (media_step tick arrival ∷ history)
+shows_arrival b history tick at arrival e s =
+    let same : max at (max at (effective_time history)) ≡ max tick (effective_time history) = omega arith in
+    from_time b history tick (Media arrival) (subst (λ n. ShowsAt b history (Media arrival) n) same (record { phase = s.phase; time = s.time; anchor = s.anchor; highest = s.highest; floor = s.floor; held = s.held }))
