@@ -1,0 +1,3 @@
+pub mod HeadLemmas
+pub mod FillingLemmas
+pub mod ReadingLemmas

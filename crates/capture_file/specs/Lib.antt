@@ -1,0 +1,6 @@
+pub mod Capture
+pub mod Tests
+pub mod Heads
+pub mod Reader
+pub mod Reading
+pub mod Laws

@@ -1,0 +1,207 @@
+// Reads the records of a capture.
+ghost use Rattle.std.specs.Prelude.{◌≡◌, ◌≤◌, ◌<◌, ◌+◌, ◌^◌, IsTrue, false, true, IfOk, IsErrOf, IfSome, OnErr, take, length, []};
+ghost use Rattle.capture_file.specs.declared.reader.CapBad.TheVariants.{ReadFault};
+ghost use Rattle.outside_io.specs.Told.{Takes};
+ghost use Rattle.capture_file.specs.Reader.{ReaderState, new_reader};
+ghost use Rattle.capture_file.specs.Reading.{ReadsName, ReadsHead, ReadsBody, Enters, ReadsRecord, ReadsNext, HasReadCause, offset_at, spent_by};
+
+use crate::Head;
+use crate::filling::fill;
+use crate::head::head_of;
+use outside_io::{Failed, Source};
+use std::marker::Model;
+
+/// The first test that fails of what stands at an offset.
+#[derive(Clone, Copy, Debug, PartialEq, Eq)]
+pub enum CapKind {
+    Magic,
+    Truncated,
+    Link,
+    Channel,
+    Long,
+    TooLong,
+}
+
+/// Why a reader gives no record: what stands at an offset is none, or the source failed.
+#[derive(Clone, Copy, Debug, PartialEq, Eq)]
+pub enum CapBad {
+    Bad(CapKind, u64),
+    ReadFault,
+}
+
+impl From<Failed> for CapBad {
+    ghost use Rattle.capture_file.specs.declared.reader.CapBad.TheVariants.{ReadFault};
+
+    ghost from_gives = { λ _ e. e ≡ ReadFault };
+
+    fn from(_: Failed) -> Self {
+        CapBad::ReadFault
+    }
+}
+
+const MAGIC: [u8; 8] = *b"RISTCAP1";
+
+// Reads the name.
+fn begin<S: Source>(source: &mut S) -> Result<(), CapBad>
+    ensures value { ReadsName (S.remaining source.old) (S.remaining source.new) result }
+    ensures cause { HasReadCause (S.faults source.old) (S.faults source.new) result }
+{
+    let mut name = [0; 8];
+    let Ok(count) = fill(source, &mut name) else {
+        return Err(CapBad::ReadFault);
+    };
+    if count < 8 {
+        return Err(CapBad::Bad(CapKind::Magic, 0));
+    }
+    if name != MAGIC {
+        return Err(CapBad::Bad(CapKind::Magic, 0));
+    }
+    Ok(())
+}
+
+// Reads the head of the record at this offset, if the source doesn't end here.
+fn head_at<S: Source>(source: &mut S, at: u64) -> Result<Option<Head>, CapBad>
+    ensures value { ReadsHead at (S.remaining source.old) (S.remaining source.new) result }
+    ensures cause { HasReadCause (S.faults source.old) (S.faults source.new) result }
+{
+    let mut octets = [0; 12];
+    let Ok(count) = fill(source, &mut octets) else {
+        return Err(CapBad::ReadFault);
+    };
+    if count == 0 {
+        return Ok(None);
+    }
+    if count < 12 {
+        return Err(CapBad::Bad(CapKind::Truncated, at));
+    }
+    match head_of(&octets, at) {
+        Ok(head) => Ok(Some(head)),
+        Err(kind) => Err(CapBad::Bad(kind, at)),
+    }
+}
+
+// Reads the octets of the record at this offset.
+fn body<S: Source>(source: &mut S, at: u64, buf: &mut [u8]) -> Result<(), CapBad>
+    ensures value { ReadsBody at (length buf.old) (S.remaining source.old) (S.remaining source.new) buf.new result }
+    ensures cause { HasReadCause (S.faults source.old) (S.faults source.new) result }
+{
+    let Ok(count) = fill(source, buf) else {
+        return Err(CapBad::ReadFault);
+    };
+    if count < buf.len() {
+        return Err(CapBad::Bad(CapKind::Truncated, at));
+    }
+    Ok(())
+}
+
+// Reads the name where a reader stands at 0, and says where its next record stands.
+fn enter<S: Source>(source: &mut S, at: u64) -> Result<u64, CapBad>
+    ensures value { Enters at (S.remaining source.old) (S.remaining source.new) result }
+    ensures cause { HasReadCause (S.faults source.old) (S.faults source.new) result }
+{
+    if at != 0 {
+        return Ok(at);
+    }
+    match begin(source) {
+        Ok(()) => Ok(8),
+        Err(bad) => Err(bad),
+    }
+}
+
+// Reads the record at this offset, if the source doesn't end here.
+fn record_at<S: Source>(
+    source: &mut S,
+    at: u64,
+    buf: &mut [u8; 2048],
+) -> Result<Option<Head>, CapBad>
+    ensures value { ReadsRecord at (S.remaining source.old) (S.remaining source.new) buf.new result }
+    ensures within { IfOk result (λ o. IfSome o (λ head. at + 12 + head.length ≤ 2 ^ 40)) }
+    ensures size { IfOk result (λ o. IfSome o (λ head. length (take head.length buf.new) ≡ head.length)) }
+    ensures cause { HasReadCause (S.faults source.old) (S.faults source.new) result }
+{
+    let head = match head_at(source, at) {
+        Ok(Some(head)) => head,
+        Ok(None) => return Ok(None),
+        Err(bad) => return Err(bad),
+    };
+    match body(source, at, &mut buf[..head.length as usize]) {
+        Ok(()) => Ok(Some(head)),
+        Err(bad) => Err(bad),
+    }
+}
+
+/// Reads the records of a capture, whatever way the source cuts its octets.
+#[derive(Drop)]
+pub struct Reader<S: Source> {
+    source: S,
+    at: u64,
+    spent: bool,
+}
+
+impl<S: Source> Model for Reader<S> {
+    ghost Value = { ReaderState };
+
+    ghost view = { λ r. record { remaining = S.remaining r.source; ahead = []; at = r.at; faults = S.faults r.source; spent = r.spent } };
+}
+
+impl<S: Source> Reader<S> {
+    pub fn over(source: S) -> Reader<S>
+        ensures value { result ≡ new_reader (S.remaining source) (S.faults source) }
+    {
+        Reader {
+            source,
+            at: 0,
+            spent: false,
+        }
+    }
+
+    /// Whether it answered an error or the end. It is not to be asked again then.
+    pub fn spent(&self) -> bool
+        ensures value { result ≡ self.now.spent }
+    {
+        self.spent
+    }
+
+    /// Gives the source back. What was taken from it ahead of need is lost.
+    pub fn back(self) -> S
+        ensures value { Takes self.remaining (S.remaining result) self.ahead }
+        ensures same { S.faults result ≡ self.faults }
+    {
+        self.source
+    }
+
+    /// Reads the next record, its octets into the front of the slice, or answers none at the end.
+    pub fn next(&mut self, buf: &mut [u8; 2048]) -> Result<Option<Head>, CapBad>
+        requires running { self.old.spent ≡ false }
+        ensures value { ReadsNext self.old.at self.old.remaining self.new.remaining buf.new result }
+        ensures at { IfOk result (λ o. IfSome o (λ head. self.new.at ≡ offset_at self.old.at + 12 + head.length)) }
+        ensures within { IfOk result (λ o. IfSome o (λ head. self.new.at ≤ 2 ^ 40)) }
+        ensures size { IfOk result (λ o. IfSome o (λ head. length (take head.length buf.new) ≡ head.length)) }
+        ensures spent { self.new.spent ≡ spent_by result }
+        // At a fault all that was taken from the source was read.
+        ensures ahead { IsErrOf result ReadFault → self.new.ahead ≡ [] }
+        ensures cause { HasReadCause self.old.faults self.new.faults result }
+    {
+        let at = match enter(&mut self.source, self.at) {
+            Ok(at) => at,
+            Err(bad) => {
+                self.spent = true;
+                return Err(bad);
+            }
+        };
+        match record_at(&mut self.source, at, buf) {
+            Ok(Some(head)) => {
+                self.at = at + 12 + head.length as u64;
+                Ok(Some(head))
+            }
+            Ok(None) => {
+                self.spent = true;
+                Ok(None)
+            }
+            Err(bad) => {
+                self.spent = true;
+                Err(bad)
+            }
+        }
+    }
+}
