@@ -1,0 +1,2 @@
+mod CtrLemmas
+mod Vectors

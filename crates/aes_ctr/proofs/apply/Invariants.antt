@@ -1,0 +1,16 @@
+use Rattle.std.proofs.Common.{◌≡◌, ℕ, ◌+◌, ◌-◌, ◌/◌, ◌%◌, ◌^◌, ◌≤◌, length, get_or}
+use Rattle.std.specs.Int.{w128, from_be_bytes}
+use Rattle.aes_ctr.proofs.CtrLemmas.{EncipheredBelow}
+use Rattle.aes_ctr.proofs.apply.Given as goal
+
+abbrev pub invariant-groups : goal.invariant-groups
+invariant-groups l = record {
+  within : l.at ≤ length l.text;
+  whole : l.at % 64 ≡ 0;
+  counter : l.counter ≡ (from_be_bytes w128 l.fn.first + l.at / 16) % 2 ^ 128;
+  done : EncipheredBelow l.aes l.fn.first l.fn.text l.text l.at;
+  rest : (k : ℕ) → l.at ≤ k → get_or l.text k 0 ≡ get_or l.fn.text k 0;
+}
+
+abbrev pub decreases-groups : goal.decreases-groups
+decreases-groups l = length l.initial.text - l.at
