@@ -1,0 +1,12 @@
+//! Keys from a passphrase: HMAC (RFC 2104) and PBKDF2 (RFC 8018) over SHA-256.
+#![tactic(auto)]
+
+mod derivation;
+mod mac;
+mod phrase;
+#[cfg(test)]
+mod tests;
+
+pub use derivation::pbkdf2;
+pub use mac::hmac;
+pub use phrase::{MAX_PHRASE_LEN, Phrase};
