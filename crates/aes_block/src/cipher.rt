@@ -80,7 +80,11 @@ impl Aes {
     {
         let mut state = with_key(columns_of(block), key_columns(&self.words, 0));
         for round in 1..self.rounds {
-            state = with_key(mixed(state), key_columns(&self.words, round));
+            // The key is read first, so that its words open the sums of their columns. Read last, it is
+            // added to all four columns as one vector, and moving them there and back takes a third of
+            // the time.
+            let key = key_columns(&self.words, round);
+            state = with_key(mixed(state), key);
         }
         *block = block_of(with_key(shifted(state), key_columns(&self.words, self.rounds)));
     }

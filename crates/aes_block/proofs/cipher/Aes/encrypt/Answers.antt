@@ -18,7 +18,7 @@ loop-round-preserved c =
     let next : suc n ≡ c.loop-round.round + 1 - 1 = omega arith in
     let before = c.mixed.ensures ∙ ap (λ (s : List ℕ). mix_columns (shift_rows (sub_bytes s))) c.loop-round.invariant in
     c.with_key-state-in-loop-round.ensures
-    ∙ (λ i. add_round_key (before i) ((c.key_columns-in-loop-round.ensures ∙ ap (round_key w) here) i))
+    ∙ (λ i. add_round_key (before i) ((c.key_columns-key.ensures ∙ ap (round_key w) here) i))
     ∙ ap (λ (m : ℕ). state_after w m c.args.block.now) next
 
 pub returns : goal.returns
