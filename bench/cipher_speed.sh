@@ -1,8 +1,8 @@
 #!/bin/sh
 # Measures `aes_ctr::apply` on datagrams of 1,400 octets, `psk_keys::pbkdf2` of 1,024 rounds, and
 # OpenSSL's AES-128-CTR beside them, with the processor's AES instructions and without them.
-# Run it at the top of the repository on a machine with nothing else to do. It takes about a minute,
-# and writes only below a new folder in /tmp.
+# Figures are of processor time. It takes about two minutes, needs rt, bash and openssl, and writes
+# only below a new folder in /tmp.
 set -e
 top=$(cd "$(dirname "$0")/.." && pwd)
 work=$(mktemp -d /tmp/cipher_speed.XXXXXX)
