@@ -1,0 +1,2 @@
+pub mod MessageLemmas
+mod Rows

@@ -1,0 +1,5 @@
+use Rattle.keepalive_msg.proofs.MessageLemmas.{AreOctets-from_all, reading-spells}
+use Rattle.keepalive_msg.proofs.laws.what_is_read_is_spelled.Goals as goal
+
+pub returns : goal.returns
+returns c = λ octets value all e. reading-spells octets value (AreOctets-from_all octets all) e

@@ -1,0 +1,4 @@
+pub mod Keepalive
+pub mod Reading
+pub mod Writing
+pub mod Text
