@@ -1,0 +1,4 @@
+pub mod Gre
+pub mod Reading
+pub mod Writing
+pub mod Text

@@ -1,0 +1,15 @@
+//! GRE headers in UDP (RFC 2784, section 2; RFC 2890, section 2; RFC 8086, section 3): the key, the
+//! sequence number and the protocol. A contract sees a header as these and its length.
+#![tactic(auto)]
+
+mod gre;
+pub mod laws;
+mod reading;
+mod writing;
+
+pub use gre::{Gre, GreBad};
+pub use reading::{DATAGRAM, KEEPALIVE};
+pub use writing::write;
+
+#[cfg(test)]
+mod tests;

@@ -1,0 +1,124 @@
+ghost use Rattle.std.specs.Prelude.{◌≡◌, ◌+◌, ◌*◌, ◌%◌, ◌<◌, ◌≤◌, ◌||◌, ◌==◌, ℕ, List, IfOk, Ok, length, take, drop};
+ghost use Rattle.std.specs.Int.{w16, w32, from_be_bytes, bit_at};
+ghost use Rattle.gre_tunnel.specs.Gre.{Header, Spells, bit_of};
+ghost use Rattle.gre_tunnel.specs.Reading.{number_at, is_known_protocol, reading_of, value_of};
+
+use crate::gre::{Gre, GreBad};
+
+/// The protocol of a keepalive (this profile).
+pub const KEEPALIVE: u16 = 0x88b5;
+
+/// The protocol of a datagram with reduced overhead (this profile).
+pub const DATAGRAM: u16 = 0x88b6;
+
+const FIXED_LEN: usize = 4;
+
+// What the first word's first half says.
+#[derive(Clone, Copy)]
+struct Flags {
+    version: u8,
+    checksum: bool,
+    reserved: bool,
+    key: bool,
+    sequence: bool,
+}
+
+fn is_set(word: u16, bit: u32) -> bool
+    requires { bit < 16 }
+    ensures { result ≡ (bit_at word bit == 1) }
+{
+    (word >> bit) & 1 == 1
+}
+
+fn flags_of(word: u16) -> Flags
+    ensures version { result.version ≡ word % 8 }
+    ensures checksum { result.checksum ≡ (bit_at word 15 == 1) }
+    ensures reserved { result.reserved ≡ ((bit_at word 14 == 1) || ((bit_at word 11 == 1) || (bit_at word 10 == 1))) }
+    ensures key { result.key ≡ (bit_at word 13 == 1) }
+    ensures sequence { result.sequence ≡ (bit_at word 12 == 1) }
+{
+    Flags {
+        version: (word & 7) as u8,
+        checksum: is_set(word, 15),
+        reserved: is_set(word, 14) || is_set(word, 11) || is_set(word, 10),
+        key: is_set(word, 13),
+        sequence: is_set(word, 12),
+    }
+}
+
+fn u16_at(octets: &[u8], at: usize) -> u16
+    requires { at + 2 ≤ length octets.now }
+    ensures { result ≡ from_be_bytes w16 (take 2 (drop at octets.now)) }
+{
+    u16::from_be_bytes([octets[at], octets[at + 1]])
+}
+
+// The number at this place, where the flag says that it is there.
+fn number_at(flag: bool, at: usize, octets: &[u8]) -> Option<u32>
+    requires { at + 4 * bit_of flag ≤ length octets.now }
+    ensures { result ≡ number_at flag at octets.now }
+{
+    if !flag {
+        return None;
+    }
+    Some(u32::from_be_bytes([octets[at], octets[at + 1], octets[at + 2], octets[at + 3]]))
+}
+
+fn is_known(protocol: u16) -> bool
+    ensures { result ≡ is_known_protocol protocol }
+{
+    protocol == KEEPALIVE || protocol == DATAGRAM
+}
+
+#[tactic(auto, using(std::proofs::lemmas::Bool::Decides::nat_tests), unfolding(crate::specs::Reading::reading_of))]
+fn value_of(octets: &[u8]) -> Result<Gre, GreBad>
+    ensures value { result ≡ reading_of octets.now }
+{
+    if octets.len() < FIXED_LEN {
+        return Err(GreBad::Short);
+    }
+    let flags = flags_of(u16_at(octets, 0));
+    if flags.version != 0 {
+        return Err(GreBad::Version);
+    }
+    if flags.checksum {
+        return Err(GreBad::Checksum);
+    }
+    if flags.reserved {
+        return Err(GreBad::Reserved);
+    }
+    if flags.key && !flags.sequence {
+        return Err(GreBad::KeyedNoSequence);
+    }
+    let sequence_at = FIXED_LEN + if flags.key { 4 } else { 0 };
+    let rest = sequence_at + if flags.sequence { 4 } else { 0 };
+    if octets.len() < rest {
+        return Err(GreBad::Short);
+    }
+    let protocol = u16_at(octets, 2);
+    if !is_known(protocol) {
+        return Err(GreBad::Protocol);
+    }
+    Ok(Gre {
+        key: number_at(flags.key, FIXED_LEN, octets),
+        sequence: number_at(flags.sequence, sequence_at, octets),
+        protocol,
+        rest,
+    })
+}
+
+impl Gre {
+    /// Reads the header at the front of a datagram. Seven of its bits are ignored.
+    pub fn read(octets: &[u8]) -> Result<Gre, GreBad>
+        // The value, or the first test that fails.
+        ensures value { result ≡ reading_of octets.now }
+
+        // What is read is the value of a header with which the octets begin.
+        ensures found { IfOk result (λ gre. (header : Header) × Spells header (drop gre.rest octets.now) octets.now × (gre ≡ value_of header)) }
+
+        // A header with which the octets begin is read, whatever follows.
+        ensures only { (header : Header) (rest : List ℕ) → Spells header rest octets.now → result ≡ Ok (value_of header) }
+    {
+        value_of(octets)
+    }
+}

@@ -1,0 +1,71 @@
+ghost use Rattle.std.specs.Prelude.{◌≡◌, ◌⊎◌, ◌+◌, ◌*◌, ◌^◌, ◌<◌, ◌≤◌, ◌++◌, ℕ, List, Ok, IfSome, IsSome, IsTrue, length, take, drop};
+ghost use Rattle.gre_tunnel.specs.Gre.{bit_of, optional_word, spelling, keepalive_protocol, datagram_protocol};
+ghost use Rattle.gre_tunnel.specs.Reading.{reading_of, value_of};
+ghost use Rattle.gre_tunnel.specs.Writing.{header_with, ignored_with, KeepsFrom};
+
+const KEY: u16 = 0x2000;
+
+const SEQUENCE: u16 = 0x1000;
+
+// An ignored bit: the key has 32 octets (this profile).
+const LONG_KEY: u16 = 0x0040;
+
+// Copies a part to its place, and says where it ends.
+fn put(out: &mut [u8], at: usize, part: &[u8]) -> usize
+    requires room { at + length part.now ≤ length out.old }
+    ensures end { result ≡ at + length part.now }
+    ensures octets { take result out.new ≡ take at out.old ++ part.now }
+    ensures rest { KeepsFrom result out.old out.new }
+{
+    let end = at + part.len();
+    out[at..end].copy_from_slice(part);
+    end
+}
+
+// Writes a number of 32 bits, where it is there.
+fn put_number(out: &mut [u8], at: usize, number: Option<u32>) -> usize
+    requires room { at + 4 ≤ length out.old }
+    ensures fits { IfSome number (λ n. n < 2 ^ 32) }
+    ensures within { result ≤ at + 4 }
+    ensures octets { take result out.new ≡ take at out.old ++ optional_word number }
+    ensures rest { KeepsFrom result out.old out.new }
+{
+    match number {
+        Some(number) => put(out, at, &number.to_be_bytes()),
+        None => at,
+    }
+}
+
+fn flag(is_set: bool, mask: u16) -> u16
+    ensures { result ≡ mask * bit_of is_set }
+{
+    if is_set { mask } else { 0 }
+}
+
+/// Writes a header at the front of `out`, and says how many octets it has. `long` says that the key has
+/// 32 octets.
+pub fn write(
+    key: Option<u32>,
+    sequence: Option<u32>,
+    long: bool,
+    protocol: u16,
+    out: &mut [u8; 12],
+) -> usize
+    requires paired { IsSome key → IsSome sequence }
+    requires long { IsTrue long → IsSome key }
+    requires protocol { (protocol ≡ keepalive_protocol) ⊎ (protocol ≡ datagram_protocol) }
+    ensures octets { take result out.new ≡ spelling (header_with key sequence protocol) (ignored_with long) }
+    ensures rest { drop result out.new ≡ drop result out.old }
+    ensures within { result ≤ 12 }
+
+    // What is written is read back as it was given, whatever follows it.
+    ensures read_back { (more : List ℕ) → reading_of (take result out.new ++ more) ≡ Ok (value_of (header_with key sequence protocol)) }
+{
+    let flags = flag(key.is_some(), KEY)
+        + flag(sequence.is_some(), SEQUENCE)
+        + flag(long, LONG_KEY);
+    let at = put(out, 0, &flags.to_be_bytes());
+    let at = put(out, at, &protocol.to_be_bytes());
+    let at = put_number(out, at, key);
+    put_number(out, at, sequence)
+}
