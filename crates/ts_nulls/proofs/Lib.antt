@@ -1,0 +1,3 @@
+pub mod StripLemmas
+pub mod RestoreLemmas
+pub mod LawLemmas

@@ -1,0 +1,4 @@
+pub mod Shape
+pub mod Packets
+pub mod Nulls
+pub mod Text

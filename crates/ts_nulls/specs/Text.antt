@@ -1,0 +1,7 @@
+-- What is printed for the test that fails.
+use Rattle.std.specs.Prelude.{ℕ, List, codes}
+use Rattle.ts_nulls.specs.declared.nulls.NullBad.{NullBad}
+use Rattle.ts_nulls.specs.declared.nulls.NullBad.TheVariants.{Shape}
+
+abbrev pub text_of : NullBad → List ℕ
+text_of Shape = codes "nulls shape"

@@ -1,0 +1,60 @@
+ghost use Rattle.std.specs.Prelude.{◌≡◌, ◌*◌, ◌/◌, ◌<◌, ◌≤◌, if◌then◌else◌, IfSome, Some, None, length};
+ghost use Rattle.ts_nulls.specs.Packets.{packet_len, are_whole, packets_in, begins_packet, is_null};
+
+const SHORT_LEN: usize = 188;
+
+const LONG_LEN: usize = 204;
+
+const SYNC_BYTE: u8 = 0x47;
+
+/// How many octets a packet has.
+pub(crate) fn packet_len(long: bool) -> usize
+    ensures value { result ≡ packet_len long }
+    ensures low { 188 ≤ result }
+    ensures high { result ≤ 204 }
+{
+    if long { LONG_LEN } else { SHORT_LEN }
+}
+
+fn count_of(len: usize, size: usize) -> Option<u8>
+    requires { 0 < size }
+    ensures { result ≡ (if are_whole len size then Some (len / size) else None) }
+{
+    let count = len / size;
+    if len % size != 0 || count == 0 || count > 7 {
+        return None;
+    }
+    Some(count as u8)
+}
+
+/// Whether packets have 204 octets, and how many of them a payload of this length is: 1 to 7.
+pub(crate) fn packets_in(len: usize) -> Option<(bool, u8)>
+    ensures value { result ≡ packets_in len }
+    ensures whole { IfSome result (λ found. packet_len found.0 * found.1 ≡ len) }
+    ensures some { IfSome result (λ found. 1 ≤ found.1) }
+    ensures few { IfSome result (λ found. found.1 ≤ 7) }
+{
+    if let Some(count) = count_of(len, SHORT_LEN) {
+        return Some((false, count));
+    }
+    match count_of(len, LONG_LEN) {
+        Some(count) => Some((true, count)),
+        None => None,
+    }
+}
+
+/// Whether a packet begins with the sync byte.
+pub(crate) fn begins_packet(octets: &[u8]) -> bool
+    requires { 188 ≤ length octets.now }
+    ensures { result ≡ begins_packet octets.now }
+{
+    octets[0] == SYNC_BYTE
+}
+
+/// Whether a packet is null.
+pub(crate) fn is_null(octets: &[u8]) -> bool
+    requires { 188 ≤ length octets.now }
+    ensures { result ≡ is_null octets.now }
+{
+    octets[1] & 0x1f == 0x1f && octets[2] == 0xff
+}

@@ -1,0 +1,110 @@
+ghost use Rattle.std.specs.Prelude.{◌≡◌, ◌+◌, ◌-◌, ◌*◌, ◌<◌, ◌≤◌, ◌++◌, ◌==◌, if◌then◌else◌, false, IfOk, length, take, drop};
+ghost use Rattle.std.specs.Int.{bit_at};
+ghost use Rattle.ts_nulls.specs.Nulls.{null_flags, kept_count, restored, restoring_of, written};
+ghost use Rattle.ts_nulls.specs.Packets.{packet_len, null_packet};
+
+use crate::nulls::{NullBad, Strip};
+use crate::packets::packet_len;
+
+// Whether the packet at this place was null.
+fn was_null(nulls: u8, place: u8) -> bool
+    requires { place < 7 }
+    ensures { result ≡ (bit_at nulls (6 - place) == 1) }
+{
+    (nulls >> (6 - place)) & 1 == 1
+}
+
+// One where the packet at this place was kept.
+fn kept_at(nulls: u8, place: u8) -> usize
+    requires { place < 7 }
+    ensures value { result ≡ (if bit_at nulls (6 - place) == 1 then 0 else 1) }
+    ensures within { result ≤ 1 }
+{
+    if was_null(nulls, place) { 0 } else { 1 }
+}
+
+fn kept_count(units: u8, nulls: u8) -> usize
+    requires { units ≤ 7 }
+    ensures count { result ≡ kept_count (null_flags 7 units nulls) }
+    ensures within { result ≤ 7 }
+{
+    let mut kept = 0;
+    for place in 0..units {
+        kept += kept_at(nulls, place);
+    }
+    kept
+}
+
+// Copies a packet to its place, and says where it ends.
+fn put(out: &mut [u8], at: usize, packet: &[u8]) -> usize
+    requires room { at + length packet.now ≤ length out.old }
+    ensures end { result ≡ at + length packet.now }
+    ensures octets { take result out.new ≡ take at out.old ++ packet.now }
+{
+    let end = at + packet.len();
+    out[at..end].copy_from_slice(packet);
+    end
+}
+
+// Writes a null packet at its place.
+fn put_null(out: &mut [u8], at: usize, long: bool) -> usize
+    requires room { at + packet_len long ≤ length out.old }
+    ensures end { result ≡ at + packet_len long }
+    ensures octets { take result out.new ≡ take at out.old ++ null_packet long }
+{
+    let mut packet = [0xff; 204];
+    packet[0] = 0x47;
+    packet[1] = 0x1f;
+    packet[3] = 0x10;
+    put(out, at, &packet[..packet_len(long)])
+}
+
+// Writes the next packet, a null one or the first of the rest, and says where it ends and what is left.
+fn put_next<'a>(
+    out: &mut [u8],
+    at: usize,
+    long: bool,
+    null: bool,
+    rest: &'a [u8],
+) -> (usize, &'a [u8])
+    requires room { at + packet_len long ≤ length out.old }
+    requires rest { null ≡ false → packet_len long ≤ length rest.now }
+    ensures end { result.0 ≡ at + packet_len long }
+    ensures octets { take result.0 out.new ≡ take at out.old ++ (if null then null_packet long else take (packet_len long) rest.now) }
+    ensures rest { result.1.now ≡ (if null then rest.now else drop (packet_len long) rest.now) }
+{
+    if null {
+        return (put_null(out, at, long), rest);
+    }
+    let (packet, after) = rest.split_at(packet_len(long));
+    (put(out, at, packet), after)
+}
+
+// Writes all packets of a payload, and says how many octets they are.
+fn put_back(octets: &[u8], units: u8, long: bool, nulls: u8, out: &mut [u8; 1500]) -> usize
+    requires few { units ≤ 7 }
+    requires whole { length octets.now ≡ packet_len long * kept_count (null_flags 7 units nulls) }
+    ensures octets { take result out.new ≡ restored long (null_flags 7 units nulls) octets.now }
+    ensures end { result ≡ packet_len long * units }
+{
+    let mut rest = octets;
+    let mut at = 0;
+    for place in 0..units {
+        let (end, after) = put_next(out, at, long, was_null(nulls, place), rest);
+        at = end;
+        rest = after;
+    }
+    at
+}
+
+/// Copies a payload with its null packets put back to the front of `out`, and says how many octets it has.
+pub fn restore(strip: &Strip, payload: &[u8], out: &mut [u8; 1500]) -> Result<usize, NullBad>
+    ensures value { written out.new result ≡ restoring_of strip.now payload.now }
+    ensures within { IfOk result (λ len. len ≤ 1428) }
+{
+    let kept = kept_count(strip.units, strip.nulls);
+    if payload.len() != packet_len(strip.long) * kept {
+        return Err(NullBad::Shape);
+    }
+    Ok(put_back(payload, strip.units, strip.long, strip.nulls, out))
+}
