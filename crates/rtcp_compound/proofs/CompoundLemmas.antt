@@ -162,3 +162,17 @@ pub packets_none : (b : List ℕ) → length b ≡ 0 → packets_in b ≡ []
 unfolding packets_in
 packets_none [] h = refl
 packets_none (x ∷ xs) h = absurd (omega arith)
+
+-- no more packets than octets
+packets_count : (most : ℕ) (b : List ℕ) → length (packets_within most b) ≤ length b
+packets_count zero b = omega arith
+packets_count (suc most) [] = omega arith
+packets_count (suc most) (x ∷ xs) =
+    let four = header_within (x ∷ xs) in
+    let left = length-drop (length_in (x ∷ xs)) (x ∷ xs) in
+    let more = packets_count most (drop (length_in (x ∷ xs)) (x ∷ xs)) in
+    omega (arith, four, left, more)
+
+pub packets_few : (b : List ℕ) → length (packets_in b) ≤ length b
+unfolding packets_in
+packets_few b = packets_count (length b) b

@@ -1,6 +1,6 @@
 //! A compound that was read, and its packets. A contract sees each as the list of the contents that
 //! are left to give.
-ghost use Rattle.std.specs.Prelude.{◌≡◌, List, IfOk, IfErr, IsOkAnd, OnOk, Some, None};
+ghost use Rattle.std.specs.Prelude.{◌≡◌, ◌^◌, ◌<◌, List, length, IfOk, IfErr, IsOkAnd, OnOk, Some, None};
 ghost use Rattle.rtcp_compound.specs.Compound.{Content, content_of, IsCompound};
 ghost use Rattle.rtcp_compound.specs.Reading.{count_in, kind_in, body_in, fault_at, fault_of, packets_in};
 
@@ -48,7 +48,8 @@ impl<'a> Compound<'a> {
 
     /// The packets in order.
     pub fn packets(&self) -> Packets<'a>
-        ensures { result ≡ self.now }
+        ensures value { result ≡ self.now }
+        ensures within { length result < 2 ^ 64 }
     {
         Packets { rest: self.octets }
     }
