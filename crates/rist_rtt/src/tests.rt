@@ -1,0 +1,109 @@
+use super::*;
+use rtcp_compound::{Compound, CompoundOut, Full};
+use std::test::Fail;
+
+const RR: [u8; 8] = [0x80, 0xC9, 0, 1, 0, 0, 0, 7];
+
+// A request at one second.
+const REQUEST: [u8; 24] = [
+    0x82, 0xCC, 0, 5, 0x10, 0x20, 0x30, 0x40, 0x52, 0x49, 0x53, 0x54, 0, 0, 0, 0, 0, 0x0F, 0x42,
+    0x40, 0, 0, 0, 0,
+];
+
+fn echo_of(answer: bool, stamp: u64, delay: u32) -> Echo<'static> {
+    Echo {
+        answer,
+        flow: 0x1020_3040,
+        stamp,
+        delay,
+        more: &[],
+    }
+}
+
+#[test]
+fn a_request_and_its_answer_are_written_octet_for_octet(rt: HostRuntime) -> Result<(), Fail> {
+    let mut out = CompoundOut::new();
+    out.put_rr(7).ok().ok_or("a report")?;
+    put_request(&mut out, 0x1020_3040, 1_000_000)
+        .ok()
+        .ok_or("a request")?;
+    assert_eq!(rt; out.octets().len(), 32);
+    assert_eq!(rt; &out.octets()[8..], REQUEST.as_slice());
+    let mut back = CompoundOut::new();
+    back.put_rr(7).ok().ok_or("a report")?;
+    put_answer(&mut back, &echo_of(false, 1_000_000, 5), 0)
+        .ok()
+        .ok_or("an answer")?;
+    assert_eq!(rt; back.octets().len(), 32);
+    assert_eq!(rt; back.octets()[8], 0x83);
+    assert_eq!(rt; &back.octets()[9..], &REQUEST[1..]);
+    Ok(())
+}
+
+#[test]
+fn an_answer_copies_the_first_64_words(rt: HostRuntime) -> Result<(), Fail> {
+    let more = [9; 300];
+    let echo = Echo {
+        answer: false,
+        flow: 1,
+        stamp: 1,
+        delay: 0,
+        more: &more,
+    };
+    let mut out = CompoundOut::new();
+    out.put_rr(7).ok().ok_or("a report")?;
+    put_answer(&mut out, &echo, 3).ok().ok_or("an answer")?;
+    assert_eq!(rt; out.octets().len(), 8 + 24 + 256);
+    put_answer(&mut out, &echo, 3).ok().ok_or("an answer")?;
+    put_answer(&mut out, &echo, 3).ok().ok_or("an answer")?;
+    put_answer(&mut out, &echo, 3).ok().ok_or("an answer")?;
+    assert_eq!(rt; put_answer(&mut out, &echo, 3), Err(Full));
+    assert_eq!(rt; out.octets().len(), 8 + 4 * 280);
+    Ok(())
+}
+
+#[test]
+fn echoes_are_read_and_shorter_bodies_skipped(rt: HostRuntime) -> Result<(), Fail> {
+    let mut out = CompoundOut::new();
+    out.put_rr(7).ok().ok_or("a report")?;
+    // a body of eight octets, another name, another subtype
+    out.put_app(2, 1, *b"RIST", &[0; 8]).ok().ok_or("a packet")?;
+    out.put_app(2, 2, *b"RISU", &[0; 12])
+        .ok()
+        .ok_or("a packet")?;
+    out.put_app(1, 3, *b"RIST", &[0; 12])
+        .ok()
+        .ok_or("a packet")?;
+    put_request(&mut out, 4, 5).ok().ok_or("a request")?;
+    put_answer(&mut out, &echo_of(false, 6, 0), 7)
+        .ok()
+        .ok_or("an answer")?;
+    let compound = Compound::read(out.octets()).ok().ok_or("a compound")?;
+    let mut found = echoes(&compound);
+    let request = found.next().ok_or("a request")?;
+    assert_eq!(rt; (request.answer, request.flow), (false, 4));
+    assert_eq!(rt; (request.stamp, request.delay), (5, 0));
+    let answer = found.next().ok_or("an answer")?;
+    assert_eq!(rt; (answer.answer, answer.flow), (true, 0x1020_3040));
+    assert_eq!(rt; (answer.stamp, answer.delay), (6, 7));
+    assert!(rt; found.next().is_none());
+    Ok(())
+}
+
+#[test]
+fn samples_are_smoothed_and_stale_ones_left(rt: HostRuntime) {
+    let mut rtt = Rtt::new();
+    assert_eq!(rt; rtt.value(), None);
+    assert_eq!(rt; rtt.sample(8_000, &echo_of(true, 0, 0)), Sample::Taken);
+    assert_eq!(rt; rtt.value(), Some(8_000));
+    assert_eq!(rt; rtt.sample(16_500, &echo_of(true, 0, 500)), Sample::Taken);
+    assert_eq!(rt; rtt.value(), Some(9_000));
+    assert_eq!(rt; rtt.sample(4, &echo_of(true, 5, 0)), Sample::Stale);
+    assert_eq!(rt; rtt.sample(10_000_001, &echo_of(true, 0, 0)), Sample::Stale);
+    assert_eq!(rt; rtt.value(), Some(9_000));
+    assert_eq!(rt;
+        rtt.sample(10_000_000, &echo_of(true, 0, 10_000_001)),
+        Sample::Taken
+    );
+    assert_eq!(rt; rtt.value(), Some(7_875));
+}
