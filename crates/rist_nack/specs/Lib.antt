@@ -1,0 +1,5 @@
+pub mod Requests
+pub mod Asked
+pub mod State
+pub mod Seen
+pub mod Written
