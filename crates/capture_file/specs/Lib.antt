@@ -1,6 +1,7 @@
 pub mod Capture
 pub mod Tests
 pub mod Heads
+pub mod Block
 pub mod Reader
 pub mod Reading
 pub mod Laws

@@ -2,6 +2,7 @@
 //! octets spell.
 #![tactic(auto)]
 
+mod block;
 mod filling;
 mod head;
 mod laws;

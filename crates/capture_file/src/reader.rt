@@ -6,6 +6,7 @@ ghost use Rattle.capture_file.specs.Reader.{ReaderState, new_reader};
 ghost use Rattle.capture_file.specs.Reading.{ReadsName, ReadsHead, ReadsBody, Enters, ReadsRecord, ReadsNext, HasReadCause, offset_at, spent_by};
 
 use crate::Head;
+use crate::block::Block;
 use crate::filling::fill;
 use crate::head::head_of;
 use outside_io::{Failed, Source};
@@ -42,9 +43,10 @@ impl From<Failed> for CapBad {
 const MAGIC: [u8; 8] = *b"RISTCAP1";
 
 // Reads the name.
-fn begin<S: Source>(source: &mut S) -> Result<(), CapBad>
-    ensures value { ReadsName (S.remaining source.old) (S.remaining source.new) result }
-    ensures cause { HasReadCause (S.faults source.old) (S.faults source.new) result }
+fn begin<S: Source>(source: &mut Block<S>) -> Result<(), CapBad>
+    ensures value { ReadsName source.old.remaining source.new.remaining result }
+    ensures ahead { IsErrOf result ReadFault → source.new.ahead ≡ [] }
+    ensures cause { HasReadCause source.old.faults source.new.faults result }
 {
     let mut name = [0; 8];
     let Ok(count) = fill(source, &mut name) else {
@@ -60,9 +62,10 @@ fn begin<S: Source>(source: &mut S) -> Result<(), CapBad>
 }
 
 // Reads the head of the record at this offset, if the source doesn't end here.
-fn head_at<S: Source>(source: &mut S, at: u64) -> Result<Option<Head>, CapBad>
-    ensures value { ReadsHead at (S.remaining source.old) (S.remaining source.new) result }
-    ensures cause { HasReadCause (S.faults source.old) (S.faults source.new) result }
+fn head_at<S: Source>(source: &mut Block<S>, at: u64) -> Result<Option<Head>, CapBad>
+    ensures value { ReadsHead at source.old.remaining source.new.remaining result }
+    ensures ahead { IsErrOf result ReadFault → source.new.ahead ≡ [] }
+    ensures cause { HasReadCause source.old.faults source.new.faults result }
 {
     let mut octets = [0; 12];
     let Ok(count) = fill(source, &mut octets) else {
@@ -81,9 +84,10 @@ fn head_at<S: Source>(source: &mut S, at: u64) -> Result<Option<Head>, CapBad>
 }
 
 // Reads the octets of the record at this offset.
-fn body<S: Source>(source: &mut S, at: u64, buf: &mut [u8]) -> Result<(), CapBad>
-    ensures value { ReadsBody at (length buf.old) (S.remaining source.old) (S.remaining source.new) buf.new result }
-    ensures cause { HasReadCause (S.faults source.old) (S.faults source.new) result }
+fn body<S: Source>(source: &mut Block<S>, at: u64, buf: &mut [u8]) -> Result<(), CapBad>
+    ensures value { ReadsBody at (length buf.old) source.old.remaining source.new.remaining buf.new result }
+    ensures ahead { IsErrOf result ReadFault → source.new.ahead ≡ [] }
+    ensures cause { HasReadCause source.old.faults source.new.faults result }
 {
     let Ok(count) = fill(source, buf) else {
         return Err(CapBad::ReadFault);
@@ -95,9 +99,10 @@ fn body<S: Source>(source: &mut S, at: u64, buf: &mut [u8]) -> Result<(), CapBad
 }
 
 // Reads the name where a reader stands at 0, and says where its next record stands.
-fn enter<S: Source>(source: &mut S, at: u64) -> Result<u64, CapBad>
-    ensures value { Enters at (S.remaining source.old) (S.remaining source.new) result }
-    ensures cause { HasReadCause (S.faults source.old) (S.faults source.new) result }
+fn enter<S: Source>(source: &mut Block<S>, at: u64) -> Result<u64, CapBad>
+    ensures value { Enters at source.old.remaining source.new.remaining result }
+    ensures ahead { IsErrOf result ReadFault → source.new.ahead ≡ [] }
+    ensures cause { HasReadCause source.old.faults source.new.faults result }
 {
     if at != 0 {
         return Ok(at);
@@ -110,14 +115,15 @@ fn enter<S: Source>(source: &mut S, at: u64) -> Result<u64, CapBad>
 
 // Reads the record at this offset, if the source doesn't end here.
 fn record_at<S: Source>(
-    source: &mut S,
+    source: &mut Block<S>,
     at: u64,
     buf: &mut [u8; 2048],
 ) -> Result<Option<Head>, CapBad>
-    ensures value { ReadsRecord at (S.remaining source.old) (S.remaining source.new) buf.new result }
+    ensures value { ReadsRecord at source.old.remaining source.new.remaining buf.new result }
     ensures within { IfOk result (λ o. IfSome o (λ head. at + 12 + head.length ≤ 2 ^ 40)) }
     ensures size { IfOk result (λ o. IfSome o (λ head. length (take head.length buf.new) ≡ head.length)) }
-    ensures cause { HasReadCause (S.faults source.old) (S.faults source.new) result }
+    ensures ahead { IsErrOf result ReadFault → source.new.ahead ≡ [] }
+    ensures cause { HasReadCause source.old.faults source.new.faults result }
 {
     let head = match head_at(source, at) {
         Ok(Some(head)) => head,
@@ -133,7 +139,7 @@ fn record_at<S: Source>(
 /// Reads the records of a capture, whatever way the source cuts its octets.
 #[derive(Drop)]
 pub struct Reader<S: Source> {
-    source: S,
+    source: Block<S>,
     at: u64,
     spent: bool,
 }
@@ -141,7 +147,7 @@ pub struct Reader<S: Source> {
 impl<S: Source> Model for Reader<S> {
     ghost Value = { ReaderState };
 
-    ghost view = { λ r. record { remaining = S.remaining r.source; ahead = []; at = r.at; faults = S.faults r.source; spent = r.spent } };
+    ghost view = { λ r. record { remaining = r.source.remaining; ahead = r.source.ahead; at = r.at; faults = r.source.faults; spent = r.spent } };
 }
 
 impl<S: Source> Reader<S> {
@@ -149,7 +155,7 @@ impl<S: Source> Reader<S> {
         ensures value { result ≡ new_reader (S.remaining source) (S.faults source) }
     {
         Reader {
-            source,
+            source: Block::over(source),
             at: 0,
             spent: false,
         }
@@ -167,7 +173,7 @@ impl<S: Source> Reader<S> {
         ensures value { Takes self.remaining (S.remaining result) self.ahead }
         ensures same { S.faults result ≡ self.faults }
     {
-        self.source
+        self.source.back()
     }
 
     /// Reads the next record, its octets into the front of the slice, or answers none at the end.

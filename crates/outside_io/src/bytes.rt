@@ -4,7 +4,7 @@ ghost use Rattle.outside_io.specs.Calls.{no_calls};
 ghost use Rattle.outside_io.specs.Memory.{MemorySource};
 
 use crate::failing::FailingCalls;
-use crate::{Failed, NoMemory, Source};
+use crate::{Failed, NoMemory, Source, copy_front};
 use std::alloc::Global;
 use std::marker::Model;
 
@@ -35,17 +35,6 @@ impl Bytes {
             calls: FailingCalls::with(alloc, failing)?,
         })
     }
-}
-
-// Copies the front of some octets into the front of a slice, as many as fit.
-fn copy_front(octets: &[u8], buf: &mut [u8]) -> usize
-    ensures count { result ≡ min (length buf.old) (length octets.now) }
-    ensures copied { take result buf.new ≡ take result octets.now }
-    ensures size { length buf.new ≡ length buf.old }
-{
-    let count = buf.len().min(octets.len());
-    buf[..count].copy_from_slice(&octets[..count]);
-    count
 }
 
 // Gives the octets from a place on, as many as fit and none past the end.

@@ -4,6 +4,7 @@
 
 mod bytes;
 mod channel;
+mod copying;
 mod failing;
 mod host;
 mod mem_host;
@@ -18,6 +19,7 @@ mod store;
 
 pub use bytes::Bytes;
 pub use channel::Channel;
+pub use copying::copy_front;
 pub use host::{Host, HostBad, Place};
 pub use mem_host::{MemHost, MemParts};
 pub use mem_source::MemSource;

@@ -2,7 +2,9 @@
 ghost use Rattle.std.specs.Prelude.{◌≡◌, ◌≤◌, ◌<◌, length, take, false, None};
 ghost use Rattle.outside_io.specs.Causes.{HasCause, Rose};
 ghost use Rattle.outside_io.specs.Shelf.{nowhere};
-ghost use Rattle.outside_io.specs.Told.{IsPrefix};
+ghost use Rattle.std.specs.Prelude.{OnOk, OnErr};
+ghost use Rattle.std.specs.Io.KnownBytes.{Appends as WriterAppends};
+ghost use Rattle.outside_io.specs.Told.{Appends, AppendsPart};
 
 use crate::{Failed, Host, HostBad, Sink, Source};
 use std::fs::{self, Files};
@@ -41,6 +43,7 @@ pub struct Writing<W> {
 // Writes the piece, all of it where it can, and says how much.
 fn write_through<W: Write>(writer: &mut W, piece: &[u8]) -> usize
     ensures within { result ≤ length piece.now }
+    ensures value { WriterAppends (W.contents writer.old) (W.contents writer.new) (take result piece.now) }
 {
     let mut done = 0;
     while done < piece.len() {
@@ -58,7 +61,13 @@ impl<W: Write> Sink for Writing<W> {
 
     ghost faults = { λ sink. sink.faults };
 
-    fn put(&mut self, piece: &[u8]) -> Result<(), Failed> {
+    fn put(&mut self, piece: &[u8]) -> Result<(), Failed>
+        ensures ok { OnOk result (Appends None None piece.now) }
+        ensures err { OnErr result (AppendsPart None None piece.now) }
+        ensures cause { HasCause self.old.faults self.new.faults result }
+        // A piece that is taken was written whole, where the writer tells.
+        ensures whole { OnOk result (WriterAppends (W.contents self.old.inner) (W.contents self.new.inner) piece.now) }
+    {
         if write_through(&mut self.inner, piece) == piece.len() {
             return Ok(());
         }

@@ -5,8 +5,8 @@ use Rattle.capture_file.proofs.filling.fill.Given as goal
 abbrev pub invariant-loop-filled : goal.invariant-loop-filled
 invariant-loop-filled g l = record {
   inside : l.filled ≤ length l.buf;
-  told : Takes (g.S.Source.remaining l.fn.source) (g.S.Source.remaining l.source) (take l.filled l.buf);
-  later : g.S.Source.faults l.fn.source ≤ g.S.Source.faults l.source;
+  told : Takes l.fn.source.remaining l.source.remaining (take l.filled l.buf);
+  later : l.fn.source.faults ≤ l.source.faults;
 }
 
 abbrev pub decreases-loop-filled : goal.decreases-loop-filled

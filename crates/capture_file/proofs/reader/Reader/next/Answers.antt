@@ -5,6 +5,6 @@ use Rattle.capture_file.proofs.reader.Reader.next.Goals as goal
 
 pub returns-in-Err-record_at-clause-value : goal.returns-in-Err-record_at-clause-value
 returns-in-Err-record_at-clause-value g c =
-    let made = next_of_bad c.self.inside.at c.in-Ok.at (g.S.Source.remaining c.self.inside.source) (g.S.Source.remaining c.enter.new.source) (g.S.Source.remaining c.record_at.new.source)
+    let made = next_of_bad c.self.inside.at c.in-Ok.at c.self.inside.source.remaining c.enter.new.source.remaining c.record_at.new.source.remaining
     c.record_at.new.buf c.in-Err-record_at.bad c.in-Ok.ensures.value c.in-Err-record_at.ensures.value in
-    subst (λ v. ReadsNext v.at v.remaining (g.S.Source.remaining c.record_at.new.source) c.record_at.new.buf (Err c.in-Err-record_at.bad)) c.self.view_is made
+    subst (λ v. ReadsNext v.at v.remaining c.record_at.new.source.remaining c.record_at.new.buf (Err c.in-Err-record_at.bad)) c.self.view_is made
