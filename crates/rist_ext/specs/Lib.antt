@@ -1,0 +1,3 @@
+pub mod Extension
+pub mod Reading
+pub mod Text
