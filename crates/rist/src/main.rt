@@ -1,0 +1,37 @@
+//! The program: words and the real host in, a status out. Its text goes to the error output.
+#![tactic(auto)]
+
+use outside_io::RealHost;
+use rist_top::{Status, run};
+use std::env;
+use std::process::ExitCode;
+
+/// The words of the command line, or the status where they can't be had: a word that isn't UTF-8 is no line.
+fn words_of(rt: &HostRuntime) -> Result<Vec<String>, Status> {
+    let Ok(args) = env::args(rt) else {
+        return Err(Status::Usage);
+    };
+    let mut words = Vec::new(rt.alloc());
+    for word in args {
+        if words.push(word).is_err() {
+            return Err(Status::Memory);
+        }
+    }
+    Ok(words)
+}
+
+fn status_of(rt: &HostRuntime) -> Status {
+    match words_of(rt) {
+        Ok(words) => run(rt.alloc(), &words, &mut RealHost::new(rt)),
+        Err(status) => status,
+    }
+}
+
+fn main(rt: HostRuntime) -> ExitCode {
+    let status = status_of(&rt);
+    if status != Status::Done {
+        // A text that can't be written changes no status.
+        let _ = eprintln!(rt; "rist: {status}");
+    }
+    ExitCode::from(status.exit_code())
+}

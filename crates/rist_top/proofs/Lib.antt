@@ -1,0 +1,4 @@
+pub mod SteppingLemmas
+pub mod GoingLemmas
+pub mod EndingLemmas
+pub mod HandedLemmas
