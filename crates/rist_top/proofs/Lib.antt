@@ -2,3 +2,4 @@ pub mod SteppingLemmas
 pub mod GoingLemmas
 pub mod EndingLemmas
 pub mod HandedLemmas
+pub mod ExactLemmas

@@ -6,3 +6,4 @@ pub mod Replay
 pub mod Sofar
 pub mod Turns
 pub mod Ran
+pub mod Exact

@@ -2,6 +2,7 @@ ghost use Rattle.std.specs.Prelude.{◌≡◌, ◌≢◌, ◌≤◌, ◌⊎◌, 
 ghost use Rattle.outside_io.specs.Causes.{Rose};
 ghost use Rattle.rist_top.specs.Words.{is_line, word};
 ghost use Rattle.rist_top.specs.Ran.{Ran};
+ghost use Rattle.rist_top.specs.Exact.{WritesReached};
 
 use crate::replaying::replay;
 use crate::status::Status;
