@@ -1,5 +1,6 @@
 -- A floor that rises: the state stays sound, and shows the history with one more step.
-use Rattle.std.proofs.Common.{◌≡◌, ◌≢◌, ℕ, ◌+◌, ◌^◌, ◌≤◌, max, Bool, true, false, cond, not, List, [], ◌∷◌, ◌++◌, Option, length, refl, sym, ◌∙◌, ap, subst, map, arith, append_assoc}
+use Rattle.std.proofs.Common.{◌≡◌, ◌≢◌, ℕ, ◌+◌, ◌^◌, ◌≤◌, max, Bool, true, false, cond, not, List, [], ◌∷◌, ◌++◌, Option, length, refl, sym, ◌∙◌, ap, subst, map, arith, append_assoc, length-append}
+use Rattle.std.proofs.lemmas.List.{nil_from_length}
 use Rattle.std.specs.Prelude.{nat_lt}
 use Rattle.std.proofs.lemmas.Bool.{ltb-false}
 use Rattle.std.specs.List.{filter, concat}
@@ -143,6 +144,12 @@ part_then b history step later old new f part = (
     octets_then b history step later f ∙ ap (λ xs. released_bytes b.limits history ++ xs) part.1.1 ∙ sym (append_assoc (released_bytes b.limits history) part.0 part.1.0),
   ),
 )
+
+-- where a step releases no octet there is none below its floor
+pub nothing_then : (b : State) (history : List Step) (step : Step) (later : Moment) → Follows b history step later → released_bytes b.limits (step ∷ history) ≡ released_bytes b.limits history → octets_below (floor_then b later) b.held ≡ []
+nothing_then b history step later f same =
+    let whole = ap length (sym (octets_then b history step later f) ∙ same) in
+    nil_from_length (octets_below (floor_then b later) b.held) (omega (arith, whole, length-append (released_bytes b.limits history) (octets_below (floor_then b later) b.held)))
 
 length-append-map : (xs : List (List ℕ)) (ps : List Packet) → length ps + length xs ≡ length (xs ++ map (λ (p : Packet). p.payload) ps)
 length-append-map [] [] = omega arith

@@ -1,5 +1,6 @@
 -- Writing the packets below a floor, one by one.
-use Rattle.std.proofs.Common.{◌≡◌, ℕ, ◌+◌, ◌<◌, ◌≤◌, Bool, false, cond, not, List, [], ◌∷◌, ◌++◌, Option, Some, None, length, refl, sym, ◌∙◌, ap, subst, map, arith, append_assoc}
+use Rattle.std.proofs.Common.{◌≡◌, ℕ, ◌+◌, ◌<◌, ◌≤◌, Bool, false, cond, not, List, [], ◌∷◌, ◌++◌, Option, Some, None, length, refl, sym, ◌∙◌, ap, subst, map, arith, append_assoc, length-append}
+use Rattle.std.proofs.lemmas.List.{nil_from_length}
 use Rattle.std.specs.Prelude.{nat_lt, Result, Ok, Err, OnErr}
 use Rattle.std.proofs.lemmas.Bool.{lt-ltb, le-ltb}
 use Rattle.std.specs.List.{filter, concat}
@@ -123,6 +124,14 @@ length_filter f (p ∷ ps) = grind (arith, length_filter f ps)
 pub length_packets : (es : List (ℕ × Held)) → length (packets_of es) ≡ length es
 length_packets [] = refl
 length_packets (e ∷ es) = grind (arith, length_packets es)
+
+-- where nothing is to be written the payload is empty
+pub pops_nothing : (floor : ℕ) (before told : Option (List ℕ)) (all : List Packet) (old new : List (ℕ × Held)) (packet : Held) (count : ℕ) → Writes floor before told all (packets_of old) count → PopsBelow floor old packet new → octets_below floor all ≡ [] → packet.payload.items ≡ []
+pops_nothing floor before told all old new packet count w pops none =
+    let first = first_is floor before told all old new packet count w pops in
+    let octets = ap length (octets-cons floor (packet_of (pops.0, packet)) (packets_of new) pops.1) in
+    let whole = ap length (first.octets ∙ none) in
+    nil_from_length packet.payload.items (omega (arith, octets, whole, length-append first.done (octets_below floor (packet_of (pops.0, packet) ∷ packets_of new)), length-append packet.payload.items (octets_below floor (packets_of new))))
 
 -- the count with one more is no more than all entries
 pub pops_fit : (floor : ℕ) (before told : Option (List ℕ)) (all old new : List (ℕ × Held)) (packet : Held) (count : ℕ) → Writes floor before told (packets_of all) (packets_of old) count → PopsBelow floor old packet new → count + 1 ≤ length all

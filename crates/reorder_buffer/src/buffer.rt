@@ -39,7 +39,7 @@ impl Model for Buffer {
 }
 
 impl Buffer {
-    ghost use Rattle.std.specs.Prelude.{◌≡◌, ◌≢◌, ◌↔◌, ◌≤◌, ◌<◌, ◌+◌, ◌*◌, ◌^◌, List, [], ◌∷◌, length, IsTrue, ◌==◌, nat_le, false, IfOk, OnOk, OnErr, IsSome};
+    ghost use Rattle.std.specs.Prelude.{◌≡◌, ◌≢◌, ◌↔◌, ◌≤◌, ◌<◌, ◌+◌, ◌*◌, ◌^◌, List, [], ◌∷◌, length, IsTrue, ◌==◌, nat_le, false, IfOk, IsOk, OnOk, OnErr, IsSome};
     ghost use Rattle.std.specs.List.{list_any, filter};
     ghost use Rattle.std.specs.Option.{option_map, ForSome};
     ghost use Rattle.outside_io.specs.Causes.{HasCause};
@@ -118,6 +118,8 @@ impl Buffer {
 
         ensures err { OnErr result (self.new.phase ≡ Phase.Failed) }
         ensures part { OnErr result ((history : List Step) → IsStateAfter self.old history → WritesPart (K.contents sink.old) (K.contents sink.new) (released_bytes self.old.limits history) (released_bytes self.old.limits (time_step at ∷ history))) }
+        // Where no octet is to be written no write can fail: an empty payload makes no piece.
+        ensures complete { (history : List Step) → IsStateAfter self.old history → released_bytes self.old.limits (time_step at ∷ history) ≡ released_bytes self.old.limits history → IsOk result }
         ensures cause { HasCause (K.faults sink.old) (K.faults sink.new) result }
     {
         let count = self.let_out(Some(at), sink)?;
@@ -137,6 +139,8 @@ impl Buffer {
 
         ensures err { OnErr result (self.new.phase ≡ Phase.Failed) }
         ensures part { OnErr result ((history : List Step) → IsStateAfter self.old history → WritesPart (K.contents sink.old) (K.contents sink.new) (released_bytes self.old.limits history) (released_bytes self.old.limits (end_step ∷ history))) }
+        // Where no octet is to be written no write can fail: an empty payload makes no piece.
+        ensures complete { (history : List Step) → IsStateAfter self.old history → released_bytes self.old.limits (end_step ∷ history) ≡ released_bytes self.old.limits history → IsOk result }
         ensures cause { HasCause (K.faults sink.old) (K.faults sink.new) result }
     {
         let count = self.let_out(None, sink)?;
@@ -307,6 +311,7 @@ impl Buffer {
         ensures err { OnErr result (self.new.phase ≡ Phase.Failed) }
         ensures limits { self.new.limits ≡ self.old.limits }
         ensures part { OnErr result (AppendsPart (K.contents sink.old) (K.contents sink.new) (octets_below (floor_then self.old (moment_of until)) self.old.held)) }
+        ensures complete { octets_below (floor_then self.old (moment_of until)) self.old.held ≡ [] → IsOk result }
         ensures cause { HasCause (K.faults sink.old) (K.faults sink.new) result }
     {
         let floor = pop_floor(&mut self.due, self.floor, until);

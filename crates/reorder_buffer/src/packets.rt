@@ -1,5 +1,5 @@
 //! The packets that are buffered, as an ordered map by their numbers.
-ghost use Rattle.std.specs.Prelude.{◌≡◌, ◌==◌, ◌<◌, ◌+◌, ◌^◌, ◌∷◌, false, nat_le, length, IfSome, IfNone, IfOk, OnOk, OnErr};
+ghost use Rattle.std.specs.Prelude.{◌≡◌, ◌==◌, ◌<◌, ◌+◌, ◌^◌, ◌∷◌, [], false, nat_le, length, IfSome, IfNone, IfOk, IsOk, OnOk, OnErr};
 ghost use Rattle.std.specs.List.{list_any, filter};
 ghost use Rattle.std.specs.BTreeMap.{keys};
 ghost use Rattle.outside_io.specs.Causes.{HasCause};
@@ -71,6 +71,7 @@ pub fn put_below<K: Sink>(
     ensures ok { OnOk result (Appends (K.contents sink.old) (K.contents sink.new) (octets_below floor (packets_of held.old.entries))) }
     ensures count { IfOk result (λ n. n ≡ length (filter (is_below floor) (packets_of held.old.entries))) }
     ensures err { OnErr result (AppendsPart (K.contents sink.old) (K.contents sink.new) (octets_below floor (packets_of held.old.entries))) }
+    ensures complete { octets_below floor (packets_of held.old.entries) ≡ [] → IsOk result }
     ensures cause { HasCause (K.faults sink.old) (K.faults sink.new) result }
 {
     let mut count = 0;
@@ -100,6 +101,7 @@ fn pop_below(held: &mut BTreeMap<u64, Held>, floor: u64) -> Option<Held>
 fn put<K: Sink>(packet: &Held, sink: &mut K) -> Result<(), Failed>
     ensures ok { OnOk result (Appends (K.contents sink.old) (K.contents sink.new) packet.now.payload.items) }
     ensures err { OnErr result (AppendsPart (K.contents sink.old) (K.contents sink.new) packet.now.payload.items) }
+    ensures complete { packet.now.payload.items ≡ [] → IsOk result }
     ensures cause { HasCause (K.faults sink.old) (K.faults sink.new) result }
 {
     if packet.payload.is_empty() {

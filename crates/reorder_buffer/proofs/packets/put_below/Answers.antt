@@ -1,6 +1,6 @@
 -- Each turn writes the first packet below the floor, and the loop ends where there is none.
 use Rattle.std.proofs.Common.{arith, ◌∙◌}
-use Rattle.reorder_buffer.proofs.WriteLemmas.{pops_more, pops_part, pops_fit, pops_end, on_err_always}
+use Rattle.reorder_buffer.proofs.WriteLemmas.{pops_more, pops_nothing, pops_part, pops_fit, pops_end, on_err_always}
 use Rattle.reorder_buffer.proofs.packets.put_below.Goals as goal
 
 pub returns-in_err-put-clause-err : goal.returns-in_err-put-clause-err
@@ -27,3 +27,8 @@ returns-clause-ok g c = (pops_end c.args.floor _ _ _ _ _ _ c.loop-packet.invaria
 
 pub returns-clause-count : goal.returns-clause-count
 returns-clause-count g c = (pops_end c.args.floor _ _ _ _ _ _ c.loop-packet.invariant.0 c.in_default.ensures.none).counted
+
+pub returns-in_err-put-clause-complete : goal.returns-in_err-put-clause-complete
+returns-in_err-put-clause-complete g c none =
+    let fine = c.in_err-put.ensures.complete (pops_nothing c.args.floor _ _ _ _ _ c.in-Some.packet _ c.loop-packet.invariant.0 c.in-Some.ensures.some none) in
+    cc

@@ -4,7 +4,7 @@ use Rattle.receiver_rules.specs.Steps.{time_step}
 use Rattle.receiver_rules.specs.Packets.{At}
 use Rattle.reorder_buffer.specs.StateAfter.{Shows}
 use Rattle.reorder_buffer.proofs.WriteLemmas.{on_err_always}
-use Rattle.reorder_buffer.proofs.ReleaseLemmas.{timed, pass_follows, shows_pass, written_then, part_then, count_then}
+use Rattle.reorder_buffer.proofs.ReleaseLemmas.{timed, pass_follows, shows_pass, written_then, part_then, count_then, nothing_then}
 use Rattle.reorder_buffer.proofs.buffer.Buffer.release.Goals as goal
 
 pub returns-in_err-count-clause-part : goal.returns-in_err-count-clause-part
@@ -24,3 +24,8 @@ returns-clause-sink g c = λ history s.
 pub returns-clause-count : goal.returns-clause-count
 returns-clause-count g c = λ history s.
     count_then c.args.self.now history (time_step c.args.at) (At c.args.at) _ (pass_follows c.args.self.now history c.args.at s c.requires.running c.requires.clock) c.in_ok-count.ensures.count
+
+pub returns-in_err-count-clause-complete : goal.returns-in_err-count-clause-complete
+returns-in_err-count-clause-complete g c = λ history s same.
+    let fine = c.in_err-count.ensures.complete (nothing_then c.args.self.now history (time_step c.args.at) (At c.args.at) (pass_follows c.args.self.now history c.args.at s c.requires.running c.requires.clock) same) in
+    cc
