@@ -1,5 +1,5 @@
 -- Octets given from the front of a block.
-use Rattle.std.proofs.Common.{◌≡◌, ℕ, ◌+◌, ◌-◌, ◌≤◌, List, ◌++◌, take, drop, None, Some, refl, sym, ap, ◌∙◌, arith, take-append-drop, append_assoc, subst}
+use Rattle.std.proofs.Common.{◌≡◌, ℕ, ◌+◌, ◌-◌, ◌≤◌, List, ◌++◌, take, drop, None, Some, refl, sym, ap, ◌∙◌, arith, take-append-drop, append_assoc}
 use Rattle.std.proofs.lemmas.List.{drop-take, drop-drop}
 use Rattle.std.specs.declared.option.Option.{Option}
 use Rattle.outside_io.specs.Told.{Takes}

@@ -7,7 +7,7 @@ use borrow.Rule.Slice.PartMut.{put_mid, post_of}
 use Rattle.outside_io.specs.Told.{Takes}
 use Rattle.outside_io.specs.ToldLaws.{takes_both}
 
-taken_more : (a n k : ℕ) (xs ys : List ℕ) → a ≤ length xs → n ≤ length ys → take (a + n) (put_mid a k xs ys) ≡ take a xs ++ take n ys
+pub taken_more : (a n k : ℕ) (xs ys : List ℕ) → a ≤ length xs → n ≤ length ys → take (a + n) (put_mid a k xs ys) ≡ take a xs ++ take n ys
 taken_more a n k xs ys inside fits =
     let size : length (take a xs) ≡ a = length-take-le a xs inside in
     ap (λ i. take (i + n) (put_mid a k xs ys)) (sym size) ∙ take-append-add (take a xs) (ys ++ post_of a k xs) n

@@ -1,12 +1,12 @@
 -- What the steps of a reader say together.
-use Rattle.std.proofs.Common.{◌≡◌, ◌≢◌, ℕ, ◌+◌, ◌<◌, ◌≤◌, arith, List, [], ◌++◌, length, take, drop, None, Some, Ok, Err, refl, sym, ap, ◌∙◌, subst, append-nil, IfSome, length-append, length-take}
+use Rattle.std.proofs.Common.{◌≡◌, ◌≢◌, ℕ, ◌<◌, arith, List, ◌++◌, length, take, None, Some, Ok, Err, refl, sym, ap, ◌∙◌, IfSome, length-append, length-take}
 use Rattle.std.proofs.lemmas.List.{take_at}
 use Rattle.std.proofs.lemmas.Bool.Decides.{nat_tests}
 use Rattle.std.specs.declared.option.Option.{Option}
-use mathlib.Core.Logic.{inl, inr}
+use mathlib.Core.Logic.{inr}
 use Rattle.outside_io.specs.Told.{Takes, IsEmpty}
 use Rattle.outside_io.specs.ToldLaws.{takes_both}
-use Rattle.capture_file.specs.Capture.{magic, NoRecord}
+use Rattle.capture_file.specs.Capture.{magic}
 use Rattle.capture_file.specs.Tests.{fault_at, fault_of_body, length_said, or_else}
 use Rattle.capture_file.specs.Laws.{no_record_cut}
 use Rattle.capture_file.specs.Heads.{head_octets}

@@ -1,11 +1,10 @@
 -- Laws of the capture format.
 use Rattle.std.specs.Prelude.{◌≡◌, ℕ, ◌+◌, ◌^◌, ◌<◌, ◌≤◌, List, [], ◌∷◌, ◌++◌, length, take, drop, flat_map, All, None, Some, if◌then◌else◌, nat_lt}
 use Rattle.std.specs.Int.{w16, w64, to_be_bytes, from_be_bytes}
-use Rattle.std.proofs.Common.{refl, sym, ap, ◌∙◌, subst, append_assoc, append-nil, arith, rules, length-append, get_or}
+use Rattle.std.proofs.Common.{refl, sym, ap, ◌∙◌, subst, append_assoc, append-nil, arith, length-append, get_or}
 use Rattle.std.proofs.lemmas.Nat.{from_be_bytes-to_be_bytes_2, from_be_bytes-to_be_bytes_8}
 use Rattle.std.proofs.lemmas.List.{take_at, drop_at}
 use Rattle.std.proofs.lemmas.List.Elements.{All-head, All-tail}
-use Rattle.std.specs.declared.option.Option.{Option}
 use Rattle.capture_file.specs.Tests.{BadAt, fault_at, fault_of_head, fault_of_body, or_else}
 use Rattle.capture_file.specs.declared.reader.CapKind.{CapKind}
 use Rattle.capture_file.specs.declared.reader.CapKind.TheVariants.{Truncated, Link, Long, TooLong}
@@ -14,7 +13,7 @@ use mathlib.Core.Logic.{inl, inr}
 use Rattle.std.proofs.lemmas.Bool.Decides.{nat_tests}
 use Rattle.outside_io.specs.declared.channel.Channel.{Channel}
 use Rattle.outside_io.specs.declared.channel.Channel.TheVariants.{Media, Control, Tunnel}
-use Rattle.capture_file.specs.Capture.{Record, Fits, spelling, head_spelling, channel_code, magic, NoRecord, IsFront, IsCapture}
+use Rattle.capture_file.specs.Capture.{Record, Fits, spelling, head_spelling, channel_code, NoRecord, IsFront, IsCapture}
 
 same_code : (a b : Channel) → channel_code a ≡ channel_code b → a ≡ b
 same_code Media Media e = refl

@@ -4,4 +4,5 @@ pub mod Heads
 pub mod Block
 pub mod Reader
 pub mod Reading
+pub mod Writer
 pub mod Laws

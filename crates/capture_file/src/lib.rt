@@ -7,7 +7,11 @@ mod filling;
 mod head;
 mod laws;
 mod reader;
+#[cfg(test)]
+mod tests;
+mod writer;
 
 pub use head::Head;
 pub use laws::{no_capture_at_fault, one_reading, one_spelling};
 pub use reader::{CapBad, CapKind, Reader};
+pub use writer::{WriteFault, Writer};

@@ -40,7 +40,7 @@ impl From<Failed> for CapBad {
     }
 }
 
-const MAGIC: [u8; 8] = *b"RISTCAP1";
+pub(crate) const MAGIC: [u8; 8] = *b"RISTCAP1";
 
 // Reads the name.
 fn begin<S: Source>(source: &mut Block<S>) -> Result<(), CapBad>

@@ -1,5 +1,5 @@
 -- What a source in memory gives, and where it is cut.
-use Rattle.std.proofs.Common.{◌≡◌, ℕ, ◌+◌, ◌-◌, ◌<◌, ◌≤◌, min, List, ◌++◌, length, take, drop, refl, sym, ap, ◌∙◌, arith, get_or, length-drop, take-append-drop, slice_index_or}
+use Rattle.std.proofs.Common.{◌≡◌, ℕ, ◌+◌, ◌<◌, ◌≤◌, List, ◌++◌, length, take, drop, sym, ap, ◌∙◌, arith, get_or, take-append-drop}
 use Rattle.std.proofs.lemmas.List.{drop-drop, take-take}
 use mathlib.Core.Logic.{inl, inr}
 use Rattle.outside_io.specs.Memory.{IsNextCut, IsEarlier}

@@ -1,10 +1,9 @@
 -- Laws of told octets, for the crates above.
-use Rattle.std.specs.Prelude.{◌≡◌, ℕ, ◌+◌, List, [], ◌++◌, take, drop, None, Some}
+use Rattle.std.specs.Prelude.{ℕ, List, [], ◌++◌, None, Some}
 use Rattle.std.specs.Prelude.{Option}
 use Rattle.std.specs.Option.{option_map}
 use Rattle.outside_io.specs.Told.{Appends, Takes}
-use Rattle.std.proofs.Common.{refl, sym, ap, ◌∙◌, subst, append_assoc, append-nil}
-use Rattle.std.proofs.Math.Seq.{take-add}
+use Rattle.std.proofs.Common.{refl, sym, ap, ◌∙◌, append_assoc, append-nil}
 
 -- nothing put leaves what was held
 pub appends_none : (a : Option (List ℕ)) → Appends a a []

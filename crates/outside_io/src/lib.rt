@@ -16,6 +16,8 @@ mod sink;
 mod slots;
 mod source;
 mod store;
+#[cfg(test)]
+mod tests;
 
 pub use bytes::Bytes;
 pub use channel::Channel;

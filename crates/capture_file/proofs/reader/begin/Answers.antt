@@ -1,6 +1,6 @@
 use Rattle.std.proofs.Common.{refl, arith, take}
 use Rattle.std.proofs.lemmas.List.{length-take-le}
-use Rattle.capture_file.proofs.ReadingLemmas.{no_name_short, no_name_other}
+use Rattle.capture_file.proofs.ReadingLemmas.{no_name_short}
 use Rattle.capture_file.proofs.reader.begin.Goals as goal
 
 pub returns-then-count-lt8-clause-value : goal.returns-then-count-lt8-clause-value

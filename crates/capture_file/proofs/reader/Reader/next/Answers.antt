@@ -1,4 +1,4 @@
-use Rattle.std.proofs.Common.{ap, sym, subst, Err}
+use Rattle.std.proofs.Common.{subst, Err}
 use Rattle.capture_file.specs.Reading.{ReadsNext}
 use Rattle.capture_file.proofs.ReadingLemmas.{next_of_bad}
 use Rattle.capture_file.proofs.reader.Reader.next.Goals as goal
