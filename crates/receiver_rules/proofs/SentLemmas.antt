@@ -13,9 +13,9 @@ use Rattle.receiver_rules.specs.declared.limits.Limits.{Limits}
 use Rattle.receiver_rules.specs.declared.anchor.Highest.{Highest}
 use Rattle.receiver_rules.specs.Packets.{Packet, At, Ever, placed_packet, deadline_of, is_behind_playout, is_duplicate, is_beyond_capacity, is_kept, verdict_of, higher, highest_of, by_number, insert_by_number, distance, is_played_out, is_buffered}
 use Rattle.seq_unwrap.specs.Nearest.{cycle_of}
-use Rattle.receiver_rules.specs.Sent.{SentStream, Start, Delivery, Content, CopyOf, NoCopy, HasSteadyTimestamps, IsNear, IsNearAfter, AreDeliveriesOf, copy_of, event_of, steps_of, run_time, start_of, start_after, arrives_in_window, reached_numbers, reached_after, number_deadline, greatest_of, rising_numbers, insert_number}
+use Rattle.receiver_rules.specs.Sent.{SentStream, Start, Delivery, Content, CopyOf, NoCopy, HasSteadyTimestamps, IsOrdinary, IsNear, IsNearAfter, AreDeliveriesOf, copy_of, event_of, steps_of, run_time, start_of, start_after, arrives_in_window, reached_numbers, reached_after, number_deadline, greatest_of, rising_numbers, insert_number}
 use Rattle.receiver_rules.specs.Steps.{Media, Step, effective_time, end_step}
-use Rattle.receiver_rules.specs.History.{new_anchor, anchor_of, anchor_after, accepted_packets, accepted_after, released_payloads}
+use Rattle.receiver_rules.specs.History.{new_anchor, anchor_of, anchor_after, accepted_packets, accepted_after, released_payloads, verdict}
 use Rattle.receiver_rules.specs.declared.anchor.Anchor.{Anchor}
 use Rattle.receiver_rules.specs.declared.verdict.Verdict.TheVariants.{Kept, Stranger, Exhausted, Late, Behind, Early, Twice, Span}
 use Rattle.receiver_rules.proofs.PacketLemmas.{is_behind_playout-floor, is_played_out-floor}
@@ -306,25 +306,39 @@ accepted_then limits p s t n rs at e =
     ∙ ap (λ b. cond b (packet_for limits p s n ∷ packets_for limits p s (firsts rs)) (packets_for limits p s (firsts rs))) (e ∙ ap (λ b. b && not (has n (firsts rs))) (reaching_firsts limits p s rs t n) ∙ ap (λ b. arrives_in_window limits p s rs t n && not b) (any-firsts (λ m. m == n) rs))
     ∙ kept_cases limits p s rs n (arrives_in_window limits p s rs t n)
 
-later_one : (limits : Limits) (p : SentStream) (s : Start) → HasSteadyTimestamps p → (t n : ℕ) (first : Option Anchor) (packets : List Packet) (rs : List ℕ) → AgreesAt limits p s first packets rs → IsNear p s.number (greatest_of rs) n
-    → AgreesAt limits p s (anchor_after first t (Media (copy_of p n))) (accepted_after limits first packets t (Media (copy_of p n))) (cond (arrives_in_window limits p s rs t n) (n ∷ rs) rs)
-later_one limits p s steady t n first packets rs a nearest =
+-- a copy is placed where its number belongs, beside the packets of these numbers
+pub record IsPlaced (limits : Limits) (p : SentStream) (s : Start) (n : ℕ) (ns : List ℕ) : Type 0 where
+  pub low : base_of (cycle_of p.width) s.number ≤ 2 ^ 40 + n
+  pub counted : AllCounted (base_of (cycle_of p.width) s.number) ns
+  pub small : number_then p s n < 2 ^ 62
+  pub at : placed_packet limits (anchor_for p s) (highest_of (packets_for limits p s ns)) (copy_of p n) ≡ packet_for limits p s n
+
+later_placed : (limits : Limits) (p : SentStream) (s : Start) → HasSteadyTimestamps p → (n : ℕ) (first : Option Anchor) (packets : List Packet) (rs : List ℕ) → AgreesAt limits p s first packets rs → IsNear p s.number (greatest_of rs) n → IsPlaced limits p s n (firsts rs)
+later_placed limits p s steady n first packets rs a nearest =
     let since : s.number ≤ greatest_of rs = greatest_has s.number rs a.some in
     let le : base_of (cycle_of p.width) s.number ≤ s.number = base_le (cycle_of p.width) s.number in
     let half = half_small p.width in
     let low = nearest.low in
-    let hn : base_of (cycle_of p.width) s.number ≤ 2 ^ 40 + n = omega arith in
     let rest = base_rest (cycle_of p.width) s.number in
     let bound = nearest.small in
-    let small : number_then p s n < 2 ^ 62 = omega arith in
     let h = counted-firsts (base_of (cycle_of p.width) s.number) rs a.counted in
     let highest : highest_of (packets_for limits p s (firsts rs)) ≡ Some (highest_at p s (greatest_of rs)) = highest_some limits p s s.number (firsts rs) (any-firsts (λ m. m == s.number) rs ∙ a.some) h ∙ ap (λ g. Some (highest_at p s g)) (greatest-firsts rs) in
-    let at : placed_packet limits (anchor_for p s) (highest_of (packets_for limits p s (firsts rs))) (copy_of p n) ≡ packet_for limits p s n = ap (λ o. placed_packet limits (anchor_for p s) o (copy_of p n)) highest ∙ placed_is limits p s steady (greatest_of rs) n since nearest in
+    record {
+      low = omega arith;
+      counted = h;
+      small = omega arith;
+      at = ap (λ o. placed_packet limits (anchor_for p s) o (copy_of p n)) highest ∙ placed_is limits p s steady (greatest_of rs) n since nearest;
+    }
+
+later_one : (limits : Limits) (p : SentStream) (s : Start) → HasSteadyTimestamps p → (t n : ℕ) (first : Option Anchor) (packets : List Packet) (rs : List ℕ) → AgreesAt limits p s first packets rs → IsNear p s.number (greatest_of rs) n
+    → AgreesAt limits p s (anchor_after first t (Media (copy_of p n))) (accepted_after limits first packets t (Media (copy_of p n))) (cond (arrives_in_window limits p s rs t n) (n ∷ rs) rs)
+later_one limits p s steady t n first packets rs a nearest =
+    let f = later_placed limits p s steady n first packets rs a nearest in
     record {
       anchor = ap (λ o. Some (unwrap_or o (new_anchor t (copy_of p n)))) a.anchor;
       accepted = ap (λ o. accepted_after limits o packets t (Media (copy_of p n))) a.anchor ∙ ap (λ ps. accepted_after limits (Some (anchor_for p s)) ps t (Media (copy_of p n))) a.accepted
-          ∙ accepted_then limits p s t n rs at (accepted_is_reached limits p s steady t n (firsts rs) hn h small at);
-      counted = counted_cases (base_of (cycle_of p.width) s.number) n rs (arrives_in_window limits p s rs t n) hn a.counted;
+          ∙ accepted_then limits p s t n rs f.at (accepted_is_reached limits p s steady t n (firsts rs) f.low f.counted f.small f.at);
+      counted = counted_cases (base_of (cycle_of p.width) s.number) n rs (arrives_in_window limits p s rs t n) f.low a.counted;
       some = some_cases s.number n rs (arrives_in_window limits p s rs t n) a.some;
     }
 
@@ -335,27 +349,34 @@ rest_small W32 n = omega arith
 first_reaches : (t delay timestamp : ℕ) → 1 ≤ delay → (not (int_le (pos (t + timestamp + delay) -ℤ pos timestamp) (pos t)) && (not (int_lt (pos (t + 2 * delay)) (pos (t + timestamp + delay) -ℤ pos timestamp)) && true)) ≡ true
 first_reaches t delay timestamp some = grind (arith, ints)
 
+first_placed : (limits : Limits) (p : SentStream) (t n : ℕ) → IsPlaced limits p (record { number = n; time = t }) n []
+first_placed limits p t n =
+    let le : base_of (cycle_of p.width) n ≤ n = base_le (cycle_of p.width) n in
+    let rest = base_rest (cycle_of p.width) n in
+    let few = rest_small p.width n in
+    let le_timestamp : base_of 4294967296 (p.timestamp n) ≤ p.timestamp n = base_le 4294967296 (p.timestamp n) in
+    let rest_timestamp = base_rest 4294967296 (p.timestamp n) in
+    record {
+      low = omega arith;
+      counted = tt;
+      small = omega arith;
+      at = packet_same limits p (record { number = n; time = t }) n _ _ (omega arith) (omega arith) (omega arith);
+    }
+
 first_one : (limits : Limits) (p : SentStream) → HasSteadyTimestamps p → 1 ≤ limits.playout_delay → (t n : ℕ) (first : Option Anchor) (packets : List Packet) (rs : List ℕ) → BlankAt first packets rs
     → AgreesAt limits p (record { number = n; time = t }) (anchor_after first t (Media (copy_of p n))) (accepted_after limits first packets t (Media (copy_of p n))) (cond (arrives_in_window limits p (record { number = n; time = t }) rs t n) (n ∷ rs) rs)
 first_one limits p steady delay t n first packets rs b =
     let s : Start = record { number = n; time = t } in
-    let le : base_of (cycle_of p.width) n ≤ n = base_le (cycle_of p.width) n in
-    let hn : base_of (cycle_of p.width) n ≤ 2 ^ 40 + n = omega arith in
-    let rest = base_rest (cycle_of p.width) n in
-    let few = rest_small p.width n in
-    let small : number_then p s n < 2 ^ 62 = omega arith in
-    let le_timestamp : base_of 4294967296 (p.timestamp n) ≤ p.timestamp n = base_le 4294967296 (p.timestamp n) in
-    let rest_timestamp = base_rest 4294967296 (p.timestamp n) in
-    let at : placed_packet limits (anchor_for p s) None (copy_of p n) ≡ packet_for limits p s n = packet_same limits p s n _ _ (omega arith) (omega arith) (omega arith) in
+    let f = first_placed limits p t n in
     let reaches : arrives_in_window limits p s [] t n ≡ true = first_reaches t limits.playout_delay (p.timestamp n) delay in
     let reaches_rs : arrives_in_window limits p s rs t n ≡ true = ap (λ ms. arrives_in_window limits p s ms t n) b.reached ∙ reaches in
     let after : cond (arrives_in_window limits p s rs t n) (n ∷ rs) rs ≡ n ∷ [] = ap (λ c. cond c (n ∷ rs) rs) reaches_rs ∙ ap (λ ms. n ∷ ms) b.reached in
     record {
       anchor = ap (λ o. Some (unwrap_or o (new_anchor t (copy_of p n)))) b.anchor;
       accepted = ap (λ o. accepted_after limits o packets t (Media (copy_of p n))) b.anchor ∙ ap (λ ps. accepted_after limits None ps t (Media (copy_of p n))) b.accepted
-          ∙ accepted_then limits p s t n [] at (accepted_is_reached limits p s steady t n [] hn tt small at)
+          ∙ accepted_then limits p s t n [] f.at (accepted_is_reached limits p s steady t n [] f.low f.counted f.small f.at)
           ∙ ap (λ ms. packets_for limits p s (firsts ms)) (ap (λ c. cond c (n ∷ []) []) reaches ∙ sym after);
-      counted = subst (AllCounted (base_of (cycle_of p.width) n)) (sym after) (hn, tt);
+      counted = subst (AllCounted (base_of (cycle_of p.width) n)) (sym after) (f.low, tt);
       some = ap (has n) after ∙ or_left _ _ (eq-eqb n n refl);
     }
 
@@ -517,3 +538,42 @@ pub release_set : (limits : Limits) (p : SentStream) (run : List Delivery) → H
 release_set limits p run steady delay h =
     released_end limits (steps_of p run)
     ∙ release_set_at limits p (start_of run) (anchor_of (steps_of p run)) (accepted_packets limits (steps_of p run)) (reached_numbers limits p run) (agrees limits p steady delay run h)
+
+-- ---- verdicts that never come
+
+ordinary_chain : (a b c d e f g : Bool) → a ≡ false → b ≡ false → (c ≡ false → d ≡ false) → IsOrdinary (cond a Stranger (cond b Exhausted (cond c Late (cond d Behind (cond e Early (cond f Twice (cond g Span Kept)))))))
+ordinary_chain true b c d e f g p q r = absurd (true≢false p)
+ordinary_chain false true c d e f g p q r = absurd (true≢false q)
+ordinary_chain false false true d e f g p q r = record { known = λ h. cc; small = λ h. cc; ahead = λ h. cc }
+ordinary_chain false false false true e f g p q r = absurd (true≢false (r refl))
+ordinary_chain false false false false true f g p q r = record { known = λ h. cc; small = λ h. cc; ahead = λ h. cc }
+ordinary_chain false false false false false true g p q r = record { known = λ h. cc; small = λ h. cc; ahead = λ h. cc }
+ordinary_chain false false false false false false true p q r = record { known = λ h. cc; small = λ h. cc; ahead = λ h. cc }
+ordinary_chain false false false false false false false p q r = record { known = λ h. cc; small = λ h. cc; ahead = λ h. cc }
+
+ordinary_at : (limits : Limits) (p : SentStream) (s : Start) → HasSteadyTimestamps p → (t n : ℕ) (ns : List ℕ) → IsPlaced limits p s n ns
+    → IsOrdinary (verdict_of limits (anchor_for p s) (packets_for limits p s ns) t (copy_of p n))
+ordinary_at limits p s steady t n ns f =
+    let ks : List Packet = packets_for limits p s ns in
+    let q : Packet = packet_for limits p s n in
+    subst (λ r. IsOrdinary (cond (not (p.flow == p.flow)) Stranger (cond (nat_le (2 ^ 62) r.number) Exhausted (cond (int_le r.deadline (pos t)) Late (cond (is_behind_playout ks (At t) r) Behind (cond (int_lt (pos (t + 2 * limits.playout_delay)) r.deadline) Early (cond (is_duplicate ks r) Twice (cond (is_beyond_capacity limits ks (At t) r) Span Kept)))))))) (sym f.at)
+    (ordinary_chain _ _ _ _ _ _ _
+    (ap not (eq-eqb p.flow p.flow refl))
+    (lt-leb _ _ f.small)
+    (λ e. is_behind_playout-floor ks (At t) q ∙ sym (is_played_out-floor ks (At t) q) ∙ out_not_past limits p s steady t n e ns f.low f.counted))
+
+ordinary_from : (limits : Limits) (p : SentStream) → HasSteadyTimestamps p → (t n : ℕ) (from : Option Start) (first : Option Anchor) (packets : List Packet) (rs : List ℕ) → StateAt limits p from first packets rs → IsNearAfter limits p from rs (CopyOf n)
+    → IsOrdinary (verdict_of limits (unwrap_or first (new_anchor t (copy_of p n))) packets t (copy_of p n))
+ordinary_from limits p steady t n None first packets rs a near =
+    subst (λ o. IsOrdinary (verdict_of limits (unwrap_or o (new_anchor t (copy_of p n))) packets t (copy_of p n))) (sym a.anchor)
+    (subst (λ ps. IsOrdinary (verdict_of limits (new_anchor t (copy_of p n)) ps t (copy_of p n))) (sym a.accepted)
+    (ordinary_at limits p (record { number = n; time = t }) steady t n [] (first_placed limits p t n)))
+ordinary_from limits p steady t n (Some s) first packets rs a near =
+    subst (λ o. IsOrdinary (verdict_of limits (unwrap_or o (new_anchor t (copy_of p n))) packets t (copy_of p n))) (sym a.anchor)
+    (subst (λ ps. IsOrdinary (verdict_of limits (anchor_for p s) ps t (copy_of p n))) (sym a.accepted)
+    (ordinary_at limits p s steady t n (firsts rs) (later_placed limits p s steady n first packets rs a near)))
+
+-- the verdict on a copy is none of the three
+pub ordinary : (limits : Limits) (p : SentStream) (tick n : ℕ) (before : List Delivery) → HasSteadyTimestamps p → 1 ≤ limits.playout_delay → AreDeliveriesOf limits p (record { tick = tick; what = CopyOf n } ∷ before) → IsOrdinary (verdict limits (steps_of p before) tick (copy_of p n))
+ordinary limits p tick n before steady delay h =
+    ordinary_from limits p steady (max tick (effective_time (steps_of p before))) n (start_of before) (anchor_of (steps_of p before)) (accepted_packets limits (steps_of p before)) (reached_numbers limits p before) (agrees limits p steady delay before h.1) h.0

@@ -1,9 +1,11 @@
 -- What a sender sent, which copies of it came, and which of them came in time. Nothing here extends a sequence number,
 -- and nothing speaks of what a receiver keeps.
-use Rattle.std.specs.Prelude.{ℕ, ℤ, pos, ◌-ℤ◌, int_le, int_lt, ◌+◌, ◌*◌, ◌/◌, ◌%◌, ◌^◌, ◌<◌, ◌≤◌, max, List, [], ◌∷◌, Bool, not, ◌&&◌, nat_le, nat_lt, ◌==◌, if◌then◌else◌}
+use Rattle.std.specs.Prelude.{◌≢◌, ℕ, ℤ, pos, ◌-ℤ◌, int_le, int_lt, ◌+◌, ◌*◌, ◌/◌, ◌%◌, ◌^◌, ◌<◌, ◌≤◌, max, List, [], ◌∷◌, Bool, not, ◌&&◌, nat_le, nat_lt, ◌==◌, if◌then◌else◌}
 use Rattle.std.specs.Prelude.{Option, None, Some, unwrap_or}
 use Rattle.std.specs.List.{list_any}
 use Rattle.receiver_rules.specs.declared.limits.Limits.{Limits}
+use Rattle.receiver_rules.specs.declared.verdict.Verdict.{Verdict}
+use Rattle.receiver_rules.specs.declared.verdict.Verdict.TheVariants.{Stranger, Exhausted, Behind}
 use Rattle.seq_unwrap.specs.declared.width.Width.{Width}
 use Rattle.receiver_rules.specs.Steps.{Arrival, Event, Media, TimeOnly, Step}
 use Rattle.receiver_rules.specs.Packets.{distance}
@@ -113,3 +115,9 @@ insert_number n (m ∷ ms) = if nat_lt n m then n ∷ m ∷ ms else if n == m th
 abbrev pub rising_numbers : List ℕ → List ℕ
 rising_numbers [] = []
 rising_numbers (n ∷ ns) = insert_number n (rising_numbers ns)
+
+-- the verdict is none of these: of another flow, past the end of the numbers, behind what was played out
+pub record IsOrdinary (verdict : Verdict) : Type 0 where
+  pub known : verdict ≢ Stranger
+  pub small : verdict ≢ Exhausted
+  pub ahead : verdict ≢ Behind

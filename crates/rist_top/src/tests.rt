@@ -134,6 +134,26 @@ fn a_missing_name_and_a_short_line_are_refused(rt: HostRuntime) -> Result<(), Fa
     Ok(())
 }
 
+#[test]
+fn each_status_has_its_text(rt: HostRuntime) -> Result<(), Fail> {
+    for (status, text) in [
+        (Status::Memory, "out of memory"),
+        (Status::Usage, "usage"),
+        (Status::OpenFault, "cannot open"),
+        (Status::ReadFault, "read failed"),
+        (Status::WriteFault, "write failed"),
+        (
+            Status::BadCapture(CapKind::Truncated, 33),
+            "bad capture: truncated at 33",
+        ),
+        (Status::TooLong, "input too long"),
+    ] {
+        let written = format!(in rt.alloc(); "{status}")?;
+        assert_eq!(rt; written.as_str(), text);
+    }
+    Ok(())
+}
+
 /// The next of a row of numbers that look random (Numerical Recipes' constants).
 fn next(seed: u32) -> u32 {
     seed.wrapping_mul(1_664_525).wrapping_add(1_013_904_223)
