@@ -4,7 +4,9 @@ pub mod Calls
 pub mod Memory
 pub mod Shelf
 pub mod Slots
+pub mod ByPlace
 pub mod MemSource
 pub mod MemHost
 pub mod Real
 pub mod ToldLaws
+pub mod Text

@@ -1,9 +1,16 @@
--- What stands under the names of a host in memory.
+-- What stands under the names and at the places of a host in memory.
 use Rattle.outside_io.specs.Shelf.{Shelf}
 use Rattle.outside_io.specs.Slots.{place_of}
+use Rattle.outside_io.specs.ByPlace.{object_at}
 use Rattle.outside_io.specs.declared.mem_source.MemSource.{MemSource}
 use Rattle.outside_io.specs.declared.store.Store8.{Store8}
+use Rattle.outside_io.specs.declared.words.Words.{Words}
 use Rattle.outside_io.specs.declared.mem_host.MemHost.{MemHost}
 
-abbrev pub mem_shelf : MemHost → Shelf MemSource Store8
-mem_shelf host = record { sources = place_of host.sources.items; sinks = place_of host.sinks.items }
+abbrev pub mem_shelf : MemHost → Shelf MemSource Store8 Words
+mem_shelf host = record {
+  sources = place_of host.sources.items;
+  sinks = place_of host.sinks.items;
+  entropies = object_at host.entropies.items;
+  next_entropy = host.next_entropy;
+}

@@ -1,9 +1,21 @@
--- What a contract sees of sources and sinks in memory.
-use Rattle.std.specs.Prelude.{ℕ, ◌<◌, ◌≤◌, ◌≡◌, ◌⊎◌, List, length, get_or}
+-- What a contract sees of sources, sinks and random words in memory.
+use Rattle.std.specs.Prelude.{ℕ, ◌<◌, ◌≤◌, ◌≡◌, ◌⊎◌, ◌+◌, ◌-◌, min, List, length, get_or}
 use Rattle.outside_io.specs.Calls.{Calls}
 
 -- a source: the octets that remain
 pub record MemorySource : Type 0 where
+  pub remaining : List ℕ
+  pub calls : Calls
+
+-- a source that is cut: the octets that remain, how many were given, and the cuts, each the number of octets before it
+pub record CutSource : Type 0 where
+  pub remaining : List ℕ
+  pub given : ℕ
+  pub cuts : List ℕ
+  pub calls : Calls
+
+-- random words: those that remain
+pub record MemoryWords : Type 0 where
   pub remaining : List ℕ
   pub calls : Calls
 
@@ -20,6 +32,12 @@ pub record IsNextCut (cuts : List ℕ) (count at end cut : ℕ) : Type 0 where
   pub inside : cut ≤ end
   pub first : (k : ℕ) → k < count → at < get_or cuts k 0 → cut ≤ get_or cuts k 0
   pub one : (cut ≡ end) ⊎ ((k : ℕ) × (k < length cuts) × (get_or cuts k 0 ≡ cut))
+
+-- a read gave what stands before the next cut, or the front of it that fits a slice of this length
+pub record ReadsToCut (s : CutSource) (room count : ℕ) : Type 0 where
+  pub cut : ℕ
+  pub next : IsNextCut s.cuts (length s.cuts) s.given (s.given + length s.remaining) cut
+  pub fits : count ≡ min room (cut - s.given)
 
 -- this cut counts where it is past the place and before the next one so far
 abbrev pub IsEarlier : ℕ → ℕ → ℕ → ℕ → Type 0

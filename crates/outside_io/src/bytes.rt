@@ -1,7 +1,10 @@
 // A source in memory that gives as many octets as are asked for.
-ghost use Rattle.std.specs.Prelude.{◌≡◌, ◌≤◌, ◌-◌, ◌+◌, ◌++◌, length, min, take, drop, Some, IfOk};
-ghost use Rattle.outside_io.specs.Calls.{no_calls};
+ghost use Rattle.std.specs.Prelude.{◌≡◌, ◌≤◌, ◌<◌, ◌-◌, ◌+◌, ◌++◌, [], length, min, take, drop, Some, IfOk, OnOk, OnErr, Contains};
+ghost use Rattle.std.specs.Io.{ReadsAtMost};
+ghost use Rattle.outside_io.specs.Calls.{no_calls, call_done, call_failed};
+ghost use Rattle.outside_io.specs.Causes.{HasCause};
 ghost use Rattle.outside_io.specs.Memory.{MemorySource};
+ghost use Rattle.outside_io.specs.Told.{Takes, IsEmpty};
 
 use crate::failing::FailingCalls;
 use crate::{Failed, NoMemory, Source, copy_front};
@@ -53,7 +56,20 @@ impl Source for Bytes {
 
     ghost faults = { λ source. source.calls.faults };
 
-    fn read(&mut self, buf: &mut [u8]) -> Result<usize, Failed> {
+    fn read(&mut self, buf: &mut [u8]) -> Result<usize, Failed>
+        ensures within { ReadsAtMost result buf.new }
+        ensures ok { IfOk result (λ count. Takes (Some self.old.remaining) (Some self.new.remaining) (take count buf.new)) }
+        ensures end { IfOk result (λ count. count ≡ 0 → 0 < length buf.new → IsEmpty (Some self.new.remaining)) }
+        ensures err { OnErr result (Some self.new.remaining ≡ Some self.old.remaining) }
+        ensures cause { HasCause self.old.calls.faults self.new.calls.faults result }
+        // It gives all that fits.
+        ensures count { IfOk result (λ count. count ≡ min (length buf.old) (length self.old.remaining)) }
+        ensures state { IfOk result (λ count. self.new ≡ record { remaining = drop count self.old.remaining; calls = call_done self.old.calls }) }
+        ensures same { OnErr result (self.new ≡ record self.old { calls = call_failed self.old.calls }) }
+        // It fails exactly where the call is to fail.
+        ensures refused { OnErr result (Contains self.old.calls.failing self.old.calls.made) }
+        ensures complete { OnOk result (Contains self.old.calls.failing self.old.calls.made → ⊥) }
+    {
         if self.calls.next_fails() {
             self.calls.count_fault();
             return Err(Failed);

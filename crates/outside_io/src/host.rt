@@ -1,9 +1,10 @@
-// What hands out sources and sinks, by name, and takes them back.
-ghost use Rattle.std.specs.Prelude.{◌≡◌, ◌≤◌, ℕ, Bool, IsTrue, IfOk, OnErr};
+// What hands out sources and sinks by name, and random words by place, and takes them back.
+ghost use Rattle.std.specs.Prelude.{◌≡◌, ◌≤◌, ◌<◌, ◌+◌, ℕ, Bool, IsTrue, IfOk, OnOk, OnErr};
 ghost use Rattle.outside_io.specs.Told.{IsEmpty};
 ghost use Rattle.outside_io.specs.Shelf.{Shelf, Stays, HandsOut, TakesBack, HasHostCause};
 
-use crate::{Sink, Source};
+use crate::{Entropy, Sink, Source};
+use std::fmt::{self, Display, Formatter, Write};
 
 /// Why a host hands nothing out.
 #[derive(Clone, Copy, Debug, PartialEq, Eq)]
@@ -12,7 +13,21 @@ pub enum HostBad {
     NoMemory,
 }
 
-/// What stands under a name: nothing, an object to be handed out, one that is out, or one that came back.
+impl Display for HostBad {
+    ghost use Rattle.std.specs.Prelude.{Some};
+    ghost use Rattle.outside_io.specs.Text.{host_text};
+
+    ghost output = { λ bad. Some (host_text bad) };
+
+    fn fmt<W: Write>(&self, f: &mut Formatter<W>) -> fmt::Result {
+        f.write_str(match self {
+            HostBad::Failed => "cannot open",
+            HostBad::NoMemory => "out of memory",
+        })
+    }
+}
+
+/// What stands under a name or at a place: nothing, an object to be handed out, one that is out, or one that came back.
 #[derive(Drop)]
 pub enum Place<T> {
     Absent,
@@ -21,17 +36,19 @@ pub enum Place<T> {
     Back(T),
 }
 
-/// Hands out each object once, under its name, and takes it back there.
+/// Hands out each object once, under its name or from its place, and takes it back there.
 pub trait Host {
     type Input: Source + Drop;
 
     type Output: Sink + Drop;
 
-    /// Whether a host of this type tells what stands under its names.
+    type Random: Entropy + Drop;
+
+    /// Whether a host of this type tells what stands under its names and at its places.
     ghost tells: { Bool };
 
-    /// What stands under each name.
-    ghost shelf: { Self → Shelf Self.Input Self.Output };
+    /// What stands under each name and at each place.
+    ghost shelf: { Self → Shelf Self.Input Self.Output Self.Random };
 
     /// How many calls failed. It never falls.
     ghost faults: { Self → ℕ };
@@ -51,6 +68,16 @@ pub trait Host {
         ensures same { IsTrue tells → shelf self.new ≡ record (shelf self.old) { sinks = (shelf self.new).sinks } }
         ensures cause { HasHostCause (faults self.old) (faults self.new) result };
 
+    /// Hands out the next source of random words: the first one asked for stands at place 0. At most 256 are handed out.
+    fn entropy(&mut self) -> Result<Self::Random, HostBad>
+        ensures ok { IsTrue tells → IfOk result (λ object. HandsOut (shelf self.old).entropies (shelf self.new).entropies (shelf self.old).next_entropy object) }
+        ensures next { IsTrue tells → OnOk result ((shelf self.new).next_entropy ≡ (shelf self.old).next_entropy + 1) }
+        ensures within { IsTrue tells → OnOk result ((shelf self.old).next_entropy < 256) }
+        ensures err { IsTrue tells → OnErr result (Stays (shelf self.old).entropies (shelf self.new).entropies) }
+        ensures err_next { IsTrue tells → OnErr result ((shelf self.new).next_entropy ≡ (shelf self.old).next_entropy) }
+        ensures same { IsTrue tells → shelf self.new ≡ record (shelf self.old) { entropies = (shelf self.new).entropies; next_entropy = (shelf self.new).next_entropy } }
+        ensures cause { HasHostCause (faults self.old) (faults self.new) result };
+
     /// Takes back the source of this name. Under a name that isn't out it lets the source go.
     fn back_source(&mut self, name: &str, object: Self::Input)
         ensures state { IsTrue tells → TakesBack (shelf self.old).sources (shelf self.new).sources name.now object }
@@ -61,5 +88,11 @@ pub trait Host {
     fn back_sink(&mut self, name: &str, object: Self::Output)
         ensures state { IsTrue tells → TakesBack (shelf self.old).sinks (shelf self.new).sinks name.now object }
         ensures same { IsTrue tells → shelf self.new ≡ record (shelf self.old) { sinks = (shelf self.new).sinks } }
+        ensures cause { faults self.old ≤ faults self.new };
+
+    /// Takes back the source of random words of this place. At a place that isn't out it lets the source go.
+    fn back_entropy(&mut self, place: u8, object: Self::Random)
+        ensures state { IsTrue tells → TakesBack (shelf self.old).entropies (shelf self.new).entropies place object }
+        ensures same { IsTrue tells → shelf self.new ≡ record (shelf self.old) { entropies = (shelf self.new).entropies } }
         ensures cause { faults self.old ≤ faults self.new };
 }

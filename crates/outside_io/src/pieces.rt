@@ -1,7 +1,10 @@
 // A source in memory that is cut at stated places.
-ghost use Rattle.std.specs.Prelude.{◌≡◌, ◌≤◌, length, drop, Some, IfOk};
-ghost use Rattle.outside_io.specs.Calls.{no_calls};
-ghost use Rattle.outside_io.specs.Memory.{MemorySource, IsNextCut, IsEarlier};
+ghost use Rattle.std.specs.Prelude.{◌≡◌, ◌≤◌, ◌<◌, ◌+◌, [], length, drop, take, Some, IfOk, OnOk, OnErr, Contains};
+ghost use Rattle.std.specs.Io.{ReadsAtMost};
+ghost use Rattle.outside_io.specs.Calls.{no_calls, call_done, call_failed};
+ghost use Rattle.outside_io.specs.Causes.{HasCause};
+ghost use Rattle.outside_io.specs.Memory.{CutSource, IsNextCut, IsEarlier, ReadsToCut};
+ghost use Rattle.outside_io.specs.Told.{Takes, IsEmpty};
 
 use crate::bytes::give;
 use crate::failing::FailingCalls;
@@ -19,9 +22,9 @@ pub struct Pieces {
 }
 
 impl Model for Pieces {
-    ghost Value = { MemorySource };
+    ghost Value = { CutSource };
 
-    ghost view = { λ s. record { remaining = drop s.at s.octets.items; calls = s.calls } };
+    ghost view = { λ s. record { remaining = drop s.at s.octets.items; given = s.at; cuts = s.cuts.items; calls = s.calls } };
 
     ghost invariant = { λ s. s.at ≤ length s.octets.items };
 }
@@ -34,7 +37,7 @@ impl Pieces {
         cuts: &[usize],
         failing: &[u64],
     ) -> Result<Pieces, NoMemory>
-        ensures value { IfOk result (λ source. source ≡ record { remaining = octets.now; calls = no_calls failing.now }) }
+        ensures value { IfOk result (λ source. source ≡ record { remaining = octets.now; given = 0; cuts = cuts.now; calls = no_calls failing.now }) }
     {
         Ok(Pieces {
             octets: Vec::from_slice(alloc, octets)?,
@@ -74,7 +77,20 @@ impl Source for Pieces {
 
     ghost faults = { λ source. source.calls.faults };
 
-    fn read(&mut self, buf: &mut [u8]) -> Result<usize, Failed> {
+    fn read(&mut self, buf: &mut [u8]) -> Result<usize, Failed>
+        ensures within { ReadsAtMost result buf.new }
+        ensures ok { IfOk result (λ count. Takes (Some self.old.remaining) (Some self.new.remaining) (take count buf.new)) }
+        ensures end { IfOk result (λ count. count ≡ 0 → 0 < length buf.new → IsEmpty (Some self.new.remaining)) }
+        ensures err { OnErr result (Some self.new.remaining ≡ Some self.old.remaining) }
+        ensures cause { HasCause self.old.calls.faults self.new.calls.faults result }
+        // It gives what stands before the next cut, as far as it fits.
+        ensures cut { IfOk result (λ count. ReadsToCut self.old (length buf.old) count) }
+        ensures state { IfOk result (λ count. self.new ≡ record { remaining = drop count self.old.remaining; given = self.old.given + count; cuts = self.old.cuts; calls = call_done self.old.calls }) }
+        ensures same { OnErr result (self.new ≡ record self.old { calls = call_failed self.old.calls }) }
+        // It fails exactly where the call is to fail.
+        ensures refused { OnErr result (Contains self.old.calls.failing self.old.calls.made) }
+        ensures complete { OnOk result (Contains self.old.calls.failing self.old.calls.made → ⊥) }
+    {
         if self.calls.next_fails() {
             self.calls.count_fault();
             return Err(Failed);

@@ -6,9 +6,11 @@ ghost use Rattle.std.specs.Prelude.{OnOk, OnErr};
 ghost use Rattle.std.specs.Io.KnownBytes.{Appends as WriterAppends};
 ghost use Rattle.outside_io.specs.Told.{Appends, AppendsPart};
 
-use crate::{Failed, Host, HostBad, Sink, Source};
+use crate::{Failed, Host, HostBad, RealEntropy, Sink, Source};
 use std::fs::{self, Files};
 use std::io::{self, Input, Print, Printer, Read, Write};
+use std::marker::Model;
+use std::random::RandomSource;
 
 /// Any reader, with a count of its faults.
 #[derive(Drop)]
@@ -120,23 +122,35 @@ impl<F: Write, O: Write> Sink for RealSink<F, O> {
     }
 }
 
-/// The system's files, and its standard streams under the name `-`.
+/// The system's files, its standard streams under the name `-`, and its random source.
 #[derive(Drop)]
 pub struct RealHost<'a, R> {
     rt: &'a R,
     faults: u64,
 }
 
+impl<'a, R> Model for RealHost<'a, R> {
+    ghost use Rattle.outside_io.specs.Real.{RealHostState};
+
+    ghost Value = { RealHostState };
+
+    ghost view = { λ host. record { faults = host.faults } };
+}
+
 impl<'a, R> RealHost<'a, R> {
-    pub fn new(rt: &'a R) -> RealHost<'a, R> {
+    pub fn new(rt: &'a R) -> RealHost<'a, R>
+        ensures value { result.faults ≡ 0 }
+    {
         RealHost { rt, faults: 0 }
     }
 }
 
-impl<'a, R: Files + Input + Print> Host for RealHost<'a, R> {
+impl<'a, R: Files + Input + Print + RandomSource> Host for RealHost<'a, R> {
     type Input = RealSource<R::File, R::Reader>;
 
     type Output = RealSink<R::File, Printer<'a, R>>;
+
+    type Random = RealEntropy<'a, R>;
 
     ghost tells = { false };
 
@@ -176,7 +190,16 @@ impl<'a, R: Files + Input + Print> Host for RealHost<'a, R> {
         }
     }
 
+    fn entropy(&mut self) -> Result<Self::Random, HostBad> {
+        Ok(RealEntropy {
+            rt: self.rt,
+            faults: 0,
+        })
+    }
+
     fn back_source(&mut self, _name: &str, _object: Self::Input) {}
 
     fn back_sink(&mut self, _name: &str, _object: Self::Output) {}
+
+    fn back_entropy(&mut self, _place: u8, _object: Self::Random) {}
 }

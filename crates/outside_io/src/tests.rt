@@ -1,7 +1,7 @@
 // What no clause says: that calls succeed, and that files and streams do what they say.
 use crate::{
-    Bytes, Failed, Host, HostBad, MemHost, MemParts, MemSource, Pieces, Place, RealHost, Sink,
-    Slot, Source, Store8,
+    Bytes, Entropy, Failed, Host, HostBad, MemHost, MemParts, MemSource, NoMemory, Pieces, Place,
+    RealHost, Sink, Slot, Source, Store8, Words, read_full,
 };
 use std::fs;
 use std::test::Fail;
@@ -19,6 +19,11 @@ fn a_read_ends_at_a_cut(rt: HostRuntime) -> Result<(), Fail> {
         assert_eq!(rt; cut.read(&mut buf), want);
     }
     assert_eq!(rt; &buf[..3], b"DEF".as_slice());
+    let mut cut = Pieces::with(alloc, b"ABCDEF", &[3, 1], &[3])?;
+    assert_eq!(rt; read_full(&mut cut, &mut buf), Ok(4));
+    assert_eq!(rt; &buf, b"ABCD");
+    assert_eq!(rt; read_full(&mut cut, &mut buf), Err(Failed));
+    assert_eq!(rt; read_full(&mut cut, &mut buf), Ok(2));
     Ok(())
 }
 
@@ -54,6 +59,7 @@ fn what_comes_back_stands_under_its_name(rt: HostRuntime) -> Result<(), Fail> {
     let mut host = MemHost::with(MemParts {
         sources,
         sinks,
+        entropies: Vec::new(alloc),
         failing: Vec::from_slice(alloc, &[0])?,
     });
     assert!(rt; matches!(host.source("in"), Err(HostBad::Failed)));
@@ -96,5 +102,56 @@ fn a_file_gives_what_it_took(rt: HostRuntime) -> Result<(), Fail> {
     assert_eq!(rt; source.read(&mut buf), Ok(0));
     host.back_source("taken.bin", source);
     fs::remove_file(&rt, "taken.bin")?;
+    Ok(())
+}
+
+#[test]
+fn random_words_are_handed_out_by_place(rt: HostRuntime) -> Result<(), Fail> {
+    let alloc = rt.alloc();
+    let mut entropies = Vec::new(alloc);
+    entropies.push(Place::Here(Words::with(alloc, &[7, 8], &[1])?))?;
+    entropies.push(Place::Here(Words::with(alloc, &[9], &[])?))?;
+    let mut host = MemHost::with(MemParts {
+        sources: Vec::new(alloc),
+        sinks: Vec::new(alloc),
+        entropies,
+        failing: Vec::from_slice(alloc, &[1])?,
+    });
+    let Ok(mut first) = host.entropy() else {
+        return Err(Fail::new("no words"));
+    };
+    for want in [Ok(7), Err(Failed), Ok(8), Err(Failed)] {
+        assert_eq!(rt; first.word(), want);
+    }
+    // A call of the host that fails hands nothing out: place 1 comes next.
+    assert!(rt; matches!(host.entropy(), Err(HostBad::Failed)));
+    let Ok(mut second) = host.entropy() else {
+        return Err(Fail::new("no words"));
+    };
+    assert_eq!(rt; second.word(), Ok(9));
+    assert!(rt; matches!(host.entropy(), Err(HostBad::Failed)));
+    host.back_entropy(1, second);
+    assert!(rt; host.returned_entropy(0).is_none() && host.returned_entropy(1).is_some());
+    Ok(())
+}
+
+#[test]
+fn the_system_gives_random_words_and_each_failure_has_its_text(
+    rt: HostRuntime,
+) -> Result<(), Fail> {
+    let mut host = RealHost::new(&rt);
+    let Ok(mut entropy) = host.entropy() else {
+        return Err(Fail::new("no random source"));
+    };
+    // Eight words that are all alike come once in 2^224 runs.
+    let first = entropy.word();
+    let mut alike = first.is_ok();
+    for _ in 0..7 {
+        alike = alike && entropy.word() == first;
+    }
+    assert!(rt; !alike);
+    host.back_entropy(0, entropy);
+    let shown = format!(in rt.alloc(); "{}, {}, {}", Failed, NoMemory, HostBad::Failed)?;
+    assert_eq!(rt; shown.as_str(), "call failed, out of memory, cannot open");
     Ok(())
 }

@@ -9,6 +9,10 @@ returns-then-matches g c =
     record {
       state = record {
         now = λ out. stands c.args.slots.now c.args.name.now c.index-slots-i.result _ _ e.0 e.1;
+        kept = λ other. elim c.match-matches.branch [
+          | in-Out w ↦ absurd (other (stood c.args.slots.now c.args.name.now _ _ e.0 e.1 ∙ w.in-Out.is))
+          | in_default-matches w ↦ let no = sym w.matches-is ∙ c.if-matches.true in cc
+        ];
         others = stay c.args.slots.now c.args.name.now c.index-slots-i.result _ _ e.0 e.1;
       };
     }
@@ -22,6 +26,7 @@ returns-else-matches g c =
           | in-Out w ↦ let no = sym w.matches-is ∙ c.if-matches.false in cc
           | in_default-matches w ↦ absurd (w.in_default-matches.not-Out (sym (stood c.args.slots.now c.args.name.now _ _ e.0 e.1) ∙ out))
         ];
+        kept = λ other. refl;
         others = λ m apart. refl;
       };
     }
@@ -30,6 +35,7 @@ pub returns-in_default : goal.returns-in_default
 returns-in_default g c = record {
   state = record {
     now = λ out. let none = sym (place_of-none c.args.slots.now c.args.name.now c.in_default.ensures.value) ∙ out in cc;
+    kept = λ other. refl;
     others = λ m apart. refl;
   };
 }

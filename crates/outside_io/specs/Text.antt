@@ -1,0 +1,8 @@
+-- What is printed for a failure.
+use Rattle.std.specs.Prelude.{ℕ, List, codes}
+use Rattle.outside_io.specs.declared.host.HostBad.{HostBad}
+use Rattle.outside_io.specs.declared.host.HostBad.TheVariants.{Failed, NoMemory}
+
+abbrev pub host_text : HostBad → List ℕ
+host_text Failed = codes "cannot open"
+host_text NoMemory = codes "out of memory"
