@@ -1,5 +1,4 @@
 pub mod HeadLemmas
-pub mod FillingLemmas
 pub mod ReadingLemmas
 pub mod BlockLemmas
 pub mod WritingLemmas

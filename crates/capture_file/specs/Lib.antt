@@ -6,3 +6,4 @@ pub mod Reader
 pub mod Reading
 pub mod Writer
 pub mod Laws
+pub mod Text

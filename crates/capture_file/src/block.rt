@@ -84,6 +84,8 @@ impl<S: Source> Block<S> {
 impl<S: Source> Source for Block<S> {
     ghost remaining = { λ b. b.remaining };
 
+    ghost ahead = { λ b. b.ahead };
+
     ghost faults = { λ b. b.faults };
 
     fn read(&mut self, buf: &mut [u8]) -> Result<usize, Failed>

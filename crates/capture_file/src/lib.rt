@@ -3,7 +3,6 @@
 #![tactic(auto)]
 
 mod block;
-mod filling;
 mod head;
 mod laws;
 mod reader;

@@ -7,9 +7,9 @@ ghost use Rattle.capture_file.specs.Reading.{ReadsName, ReadsHead, ReadsBody, En
 
 use crate::Head;
 use crate::block::Block;
-use crate::filling::fill;
 use crate::head::head_of;
-use outside_io::{Failed, Source};
+use outside_io::{Failed, Source, read_full};
+use std::fmt::{self, Display, Formatter, Write};
 use std::marker::Model;
 
 /// The first test that fails of what stands at an offset.
@@ -23,11 +23,43 @@ pub enum CapKind {
     TooLong,
 }
 
+impl Display for CapKind {
+    ghost use Rattle.std.specs.Prelude.{Some};
+    ghost use Rattle.capture_file.specs.Text.{kind_text};
+
+    ghost output = { λ kind. Some (kind_text kind) };
+
+    fn fmt<W: Write>(&self, f: &mut Formatter<W>) -> fmt::Result {
+        f.write_str(match self {
+            CapKind::Magic => "magic",
+            CapKind::Truncated => "truncated",
+            CapKind::Link => "link",
+            CapKind::Channel => "channel",
+            CapKind::Long => "long",
+            CapKind::TooLong => "too long",
+        })
+    }
+}
+
 /// Why a reader gives no record: what stands at an offset is none, or the source failed.
 #[derive(Clone, Copy, Debug, PartialEq, Eq)]
 pub enum CapBad {
     Bad(CapKind, u64),
     ReadFault,
+}
+
+impl Display for CapBad {
+    ghost use Rattle.std.specs.Prelude.{Some};
+    ghost use Rattle.capture_file.specs.Text.{bad_text};
+
+    ghost output = { λ bad. Some (bad_text bad) };
+
+    fn fmt<W: Write>(&self, f: &mut Formatter<W>) -> fmt::Result {
+        match self {
+            CapBad::Bad(kind, at) => write!(f, "{kind} at {at}"),
+            CapBad::ReadFault => f.write_str("read failed"),
+        }
+    }
 }
 
 impl From<Failed> for CapBad {
@@ -49,7 +81,7 @@ fn begin<S: Source>(source: &mut Block<S>) -> Result<(), CapBad>
     ensures cause { HasReadCause source.old.faults source.new.faults result }
 {
     let mut name = [0; 8];
-    let Ok(count) = fill(source, &mut name) else {
+    let Ok(count) = read_full(source, &mut name) else {
         return Err(CapBad::ReadFault);
     };
     if count < 8 {
@@ -68,7 +100,7 @@ fn head_at<S: Source>(source: &mut Block<S>, at: u64) -> Result<Option<Head>, Ca
     ensures cause { HasReadCause source.old.faults source.new.faults result }
 {
     let mut octets = [0; 12];
-    let Ok(count) = fill(source, &mut octets) else {
+    let Ok(count) = read_full(source, &mut octets) else {
         return Err(CapBad::ReadFault);
     };
     if count == 0 {
@@ -89,7 +121,7 @@ fn body<S: Source>(source: &mut Block<S>, at: u64, buf: &mut [u8]) -> Result<(),
     ensures ahead { IsErrOf result ReadFault → source.new.ahead ≡ [] }
     ensures cause { HasReadCause source.old.faults source.new.faults result }
 {
-    let Ok(count) = fill(source, buf) else {
+    let Ok(count) = read_full(source, buf) else {
         return Err(CapBad::ReadFault);
     };
     if count < buf.len() {
