@@ -47,7 +47,7 @@ done_reached first u w b rs p run told work capture is steady honest =
     let same : here.0 ≡ rs = one_capture b here.0 rs here.1 capture in
     subst (Appends u w) (ap replayed same ∙ replayed_reached rs p run is steady honest) here.3
 
-pub ran_reached : {I O : Type 0} (remaining : I → Option (List ℕ)) (read_faults : I → ℕ) (contents : O → Option (List ℕ)) (write_faults : O → ℕ) (old new : Shelf I O) (capture out : List ℕ) (status : Status)
+pub ran_reached : {I O E : Type 0} (remaining : I → Option (List ℕ)) (read_faults : I → ℕ) (contents : O → Option (List ℕ)) (write_faults : O → ℕ) (old new : Shelf I O E) (capture out : List ℕ) (status : Status)
     → status ≡ statuses.Done → Ran remaining read_faults contents write_faults old new capture out status → WritesReached remaining contents old new capture out
 ran_reached remaining read_faults contents write_faults old new capture out status done ran source sink filled b rs p run here_source here_sink back_sink told is_capture is steady honest =
     let r = subst (λ s. Ran remaining read_faults contents write_faults old new capture out s) done ran in

@@ -3,13 +3,13 @@ use Rattle.std.proofs.Common.{◌≡◌, ℕ, List, sym, ap, ◌∙◌}
 use Rattle.outside_io.specs.Shelf.{Shelf, HandsOut, TakesBack}
 use Rattle.outside_io.specs.declared.host.Place.TheVariants.{Here, Back}
 
-pub record Handed {I O : Type 0} (first last : Shelf I O) (capture out : List ℕ) (source spent : I) (sink filled : O) : Type 0 where
+pub record Handed {I O E : Type 0} (first last : Shelf I O E) (capture out : List ℕ) (source spent : I) (sink filled : O) : Type 0 where
   pub took_source : first.sources capture ≡ Here source
   pub gave_source : last.sources capture ≡ Back spent
   pub took_sink : first.sinks out ≡ Here sink
   pub gave_sink : last.sinks out ≡ Back filled
 
-pub handed : {I O : Type 0} (s0 s1 s2 s3 s4 : Shelf I O) (capture out : List ℕ) (source spent : I) (sink filled : O)
+pub handed : {I O E : Type 0} (s0 s1 s2 s3 s4 : Shelf I O E) (capture out : List ℕ) (source spent : I) (sink filled : O)
     → HandsOut s0.sources s1.sources capture source → s1 ≡ record s0 { sources = s1.sources }
     → HandsOut s1.sinks s2.sinks out sink → s2 ≡ record s1 { sinks = s2.sinks }
     → TakesBack s2.sources s3.sources capture spent → s3 ≡ record s2 { sources = s3.sources }

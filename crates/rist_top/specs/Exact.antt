@@ -19,8 +19,8 @@ IsCaptureOf p run rs = history_of rs ≡ steps_of p run
 
 -- what the sink of this name gained are the reached payloads, for every sender and every run of copies of its packets that the
 -- octets of the source, told, are a capture of
-abbrev pub WritesReached : {I O : Type 0} → (I → Option (List ℕ)) → (O → Option (List ℕ)) → Shelf I O → Shelf I O → List ℕ → List ℕ → Type 0
-WritesReached {I} {O} remaining contents old new capture out =
+abbrev pub WritesReached : {I O E : Type 0} → (I → Option (List ℕ)) → (O → Option (List ℕ)) → Shelf I O E → Shelf I O E → List ℕ → List ℕ → Type 0
+WritesReached {I} {O} {E} remaining contents old new capture out =
     (source : I) (sink filled : O) (b : List ℕ) (rs : List Record) (p : SentStream) (run : List Delivery)
     → old.sources capture ≡ Here source → old.sinks out ≡ Here sink → new.sinks out ≡ Back filled
     → remaining source ≡ Some b → IsCapture rs b → IsCaptureOf p run rs → HasSteadyTimestamps p → AreDeliveriesOf default_limits p run

@@ -9,8 +9,8 @@ use Rattle.rist_top.specs.declared.status.Status.{Status}
 use Rattle.rist_top.specs.declared.status.Status.TheVariants as statuses
 
 -- the source and the sink of these names were handed out and came back, and the status says what they tell
-pub record Ran {I O : Type 0} (remaining : I → Option (List ℕ)) (read_faults : I → ℕ) (contents : O → Option (List ℕ)) (write_faults : O → ℕ)
-    (old new : Shelf I O) (capture out : List ℕ) (status : Status) : Type 0 where
+pub record Ran {I O E : Type 0} (remaining : I → Option (List ℕ)) (read_faults : I → ℕ) (contents : O → Option (List ℕ)) (write_faults : O → ℕ)
+    (old new : Shelf I O E) (capture out : List ℕ) (status : Status) : Type 0 where
   pub source : I
   pub spent : I
   pub sink : O

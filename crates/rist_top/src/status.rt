@@ -52,22 +52,8 @@ impl Display for Status {
             Status::OpenFault => f.write_str("cannot open"),
             Status::ReadFault => f.write_str("read failed"),
             Status::WriteFault => f.write_str("write failed"),
-            Status::BadCapture(kind, at) => {
-                let kind = kind_text(*kind);
-                write!(f, "bad capture: {kind} at {at}")
-            }
+            Status::BadCapture(kind, at) => write!(f, "bad capture: {kind} at {at}"),
             Status::TooLong => f.write_str("input too long"),
         }
-    }
-}
-
-fn kind_text(kind: CapKind) -> &'static str {
-    match kind {
-        CapKind::Magic => "magic",
-        CapKind::Truncated => "truncated",
-        CapKind::Link => "link",
-        CapKind::Channel => "channel",
-        CapKind::Long => "long",
-        CapKind::TooLong => "too long",
     }
 }

@@ -54,6 +54,7 @@ fn host(
     Ok(MemHost::with(MemParts {
         sources,
         sinks,
+        entropies: Vec::new(alloc),
         failing: Vec::from_slice(alloc, calls)?,
     }))
 }
