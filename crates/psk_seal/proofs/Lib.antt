@@ -1,0 +1,2 @@
+mod Pigeonhole
+mod NonceLemmas

@@ -1,0 +1,45 @@
+-- The nonces that random words give (this profile): the nonce of a word is the first of it and the numbers after it, modulo 2^32,
+-- that isn't 0 and isn't one of the earlier nonces.
+use Rattle.std.specs.Prelude.{◌≡◌, ◌≢◌, ℕ, ◌+◌, ◌-◌, ◌%◌, ◌^◌, ◌<◌, List, length, take, get_or, Contains}
+use Rattle.std.specs.Prelude.{Option}
+use Rattle.outside_io.specs.Told.{Takes}
+
+-- a number that can be the next nonce after these
+pub record IsFree (earlier : List ℕ) (number : ℕ) : Type 0 where
+  pub some : number ≢ 0
+  pub new : Contains earlier number → ⊥
+
+-- how many steps of one lead from a number of 32 bits to another, modulo 2^32
+abbrev pub steps_between : ℕ → ℕ → ℕ
+steps_between from to = (to + 2 ^ 32 - from) % 2 ^ 32
+
+-- the nonce of a word after these
+pub record IsFirstFree (earlier : List ℕ) (word nonce : ℕ) : Type 0 where
+  pub drawn : word < 2 ^ 32
+  pub within : nonce < 2 ^ 32
+  pub free : IsFree earlier nonce
+  pub first : (k : ℕ) → k < steps_between word nonce → IsFree earlier ((word + k) % 2 ^ 32) → ⊥
+
+-- these words give the first nonces of the list
+pub record GiveNonces (words nonces : List ℕ) (count : ℕ) : Type 0 where
+  pub drawn : length words ≡ count
+  pub size : length nonces ≡ 16
+  pub each : (i : ℕ) → i < count → IsFirstFree (take i nonces) (get_or words i 0) (get_or nonces i 0)
+
+-- the words that give the first nonces of the list were taken from the front of those that remained
+pub record Draws (old new : Option (List ℕ)) (nonces : List ℕ) (count : ℕ) : Type 0 where
+  pub words : List ℕ
+  pub taken : Takes old new words
+  pub given : GiveNonces words nonces count
+
+-- fewer than sixteen words were taken from the front of those that remained
+pub record DrawsFewer (old new : Option (List ℕ)) : Type 0 where
+  pub words : List ℕ
+  pub few : length words < 16
+  pub taken : Takes old new words
+
+-- sixteen numbers of 32 bits, all different and none of them 0
+pub record AreNonces (nonces : List ℕ) : Type 0 where
+  pub size : length nonces ≡ 16
+  pub each : (i : ℕ) → i < 16 → (0 < get_or nonces i 0) × (get_or nonces i 0 < 2 ^ 32)
+  pub apart : (i j : ℕ) → i < j → j < 16 → get_or nonces i 0 ≢ get_or nonces j 0
