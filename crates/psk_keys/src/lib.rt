@@ -1,12 +1,14 @@
-//! Keys from a passphrase: HMAC (RFC 2104) and PBKDF2 (RFC 8018) over SHA-256.
+//! Keys from a passphrase: HMAC (RFC 2104) and PBKDF2 (RFC 8018) over SHA-256, and a session's keys by nonce (this profile).
 #![tactic(auto)]
 
 mod derivation;
+mod keys;
 mod mac;
 mod phrase;
 #[cfg(test)]
 mod tests;
 
 pub use derivation::pbkdf2;
+pub use keys::Keys;
 pub use mac::hmac;
 pub use phrase::{MAX_PHRASE_LEN, Phrase};

@@ -1,5 +1,7 @@
-use crate::{Phrase, hmac, pbkdf2};
+use crate::{Keys, Phrase, hmac, pbkdf2};
+use aes_block::Key;
 use std::process::Abort;
+use std::test::Fail;
 
 static COUNT_TO_25: [u8; 25] = [
     1, 2, 3, 4, 5, 6, 7, 8, 9, 10, 11, 12, 13, 14, 15, 16, 17, 18, 19, 20, 21, 22, 23, 24, 25,
@@ -93,4 +95,44 @@ fn a_phrase_keeps_its_octets(rt: HostRuntime) {
     assert!(rt; Phrase::of(b"p").octets() == b"p".as_slice());
     let longest = [0x7e; 128];
     assert!(rt; Phrase::of(&longest).octets() == longest.as_slice());
+}
+
+fn octets_of(key: &Key) -> &[u8] {
+    match key {
+        Key::Short(octets) => octets,
+        Key::Long(octets) => octets,
+    }
+}
+
+// Python's hashlib: pbkdf2_hmac('sha256', b'correct horse', nonce, 1024), of the nonces 1 and 5.
+const FIRST: (u128, u128) = (
+    0x89eab5119215f773089c8d36b10231b0,
+    0x9ca4a1f6b726ceb7aba89a2140e0ccca,
+);
+
+const FIFTH: (u128, u128) = (
+    0x6878b913e02d0be7fccdcb0f5d57bc9c,
+    0x435db3971ca68005344b048ed2f9cc90,
+);
+
+#[test]
+fn the_first_key_comes_again_after_a_fifth(rt: HostRuntime) -> Result<(), Fail> {
+    let mut keys = Keys::with(rt.alloc(), Phrase::of(b"correct horse"), 256)?;
+    for nonce in [1_u32, 2, 3, 4, 5, 1, 1] {
+        let key = keys.key_for(nonce.to_be_bytes());
+        let want = pbkdf2(b"correct horse", &nonce.to_be_bytes(), 1024);
+        assert!(rt; octets_of(&key) == want.as_slice(), "nonce {nonce}");
+        if let Key::Long(octets) = key
+            && (nonce == 1 || nonce == 5)
+        {
+            let (high, low) = if nonce == 1 { FIRST } else { FIFTH };
+            assert_octets(&rt, octets, high, low);
+        }
+    }
+    assert_eq!(rt; keys.cached(), 4);
+    let mut short = Keys::with(rt.alloc(), Phrase::of(b"correct horse"), 128)?;
+    let key = short.key_for([0, 0, 0, 1]);
+    assert!(rt; octets_of(&key) == FIRST.0.to_be_bytes().as_slice());
+    assert_eq!(rt; short.cached(), 1);
+    Ok(())
 }

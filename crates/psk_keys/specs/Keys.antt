@@ -1,0 +1,28 @@
+-- The keys of a session (this profile): what PBKDF2 (RFC 8018) derives from its passphrase and the four octets of a nonce.
+use Rattle.std.specs.Prelude.{◌≡◌, ℕ, ◌/◌, ◌⊎◌, List, take, Contains}
+use Rattle.std.specs.Int.{w32, to_be_bytes}
+use Rattle.aes_block.specs.Cipher.{key_octets}
+use Rattle.aes_block.specs.declared.cipher.Key.{Key}
+use Rattle.psk_keys.specs.Pbkdf2.{pbkdf2}
+
+-- the rounds of a derivation
+abbrev pub round_count : ℕ
+round_count = 1024
+
+-- the octets of the key of so many bits, of a passphrase and a nonce
+unfoldable pub key_of : List ℕ → ℕ → List ℕ → List ℕ
+key_of pass bits nonce = take (bits / 8) (pbkdf2 pass nonce round_count)
+
+-- a key has 128 or 256 bits
+abbrev pub IsKeyLength : ℕ → Type 0
+IsKeyLength bits = (bits ≡ 128) ⊎ (bits ≡ 256)
+
+-- each key that is cached is the one of its nonce
+pub record AreDerived (pass : List ℕ) (bits : ℕ) (entries : List (ℕ × Key)) : Type 0 where
+  pub each : (e : ℕ × Key) → Contains entries e → key_octets e.1 ≡ key_of pass bits (to_be_bytes w32 e.0)
+
+-- what a contract sees of the keys: the passphrase, the bits of a key, and how many keys are cached
+pub record KeysState : Type 0 where
+  pub phrase : List ℕ
+  pub bits : ℕ
+  pub cached : ℕ
