@@ -4,3 +4,4 @@ pub mod Name
 pub mod Reading
 pub mod Writing
 pub mod Seen
+pub mod Text

@@ -24,6 +24,11 @@ pub enum RtcpWhy {
 }
 
 impl fmt::Display for RtcpWhy {
+    ghost use Rattle.std.specs.Prelude.{Some};
+    ghost use Rattle.rtcp_compound.specs.Text.{text_of};
+
+    ghost output = { λ why. Some (text_of why) };
+
     fn fmt<W: fmt::Write>(&self, f: &mut fmt::Formatter<W>) -> fmt::Result {
         f.write_str(match self {
             RtcpWhy::Short => "rtcp short",

@@ -1,61 +1,63 @@
 use super::*;
 use std::test::Fail;
 
+// Octets that are no packet, and the first test that fails.
+static REFUSED: [(&[u8], RtpBad); 13] = [
+    (b"", RtpBad::Short),
+    (
+        b"\x40\x21\x00\x0a\x00\x00\x00\x00\x10\x20\x30",
+        RtpBad::Short,
+    ),
+    (
+        b"\x4f\x21\x00\x0a\x00\x00\x00\x00\x10\x20\x30\x40",
+        RtpBad::Version,
+    ),
+    (
+        b"\xb1\x21\x00\x0a\x00\x00\x00\x00\x10\x20\x30\x40abc",
+        RtpBad::Sources,
+    ),
+    (
+        b"\x8f\x21\x00\x0a\x00\x00\x00\x00\x10\x20\x30\x40abcd",
+        RtpBad::Sources,
+    ),
+    (
+        b"\xb0\x21\x00\x0a\x00\x00\x00\x00\x10\x20\x30\x40",
+        RtpBad::Extension,
+    ),
+    (
+        b"\x90\x21\x00\x0a\x00\x00\x00\x00\x10\x20\x30\x40RI\x00",
+        RtpBad::Extension,
+    ),
+    (
+        b"\xb0\x21\x00\x0a\x00\x00\x00\x00\x10\x20\x30\x40RI\x00\x01abc",
+        RtpBad::Extension,
+    ),
+    (
+        b"\xa0\x21\x00\x0a\x00\x00\x00\x00\x10\x20\x30\x40",
+        RtpBad::Padding,
+    ),
+    (
+        b"\xa0\x21\x00\x0a\x00\x00\x00\x00\x10\x20\x30\x40\x00",
+        RtpBad::Padding,
+    ),
+    (
+        b"\xa0\x21\x00\x0a\x00\x00\x00\x00\x10\x20\x30\x40a\x03",
+        RtpBad::Padding,
+    ),
+    (
+        b"\xa1\x21\x00\x0a\x00\x00\x00\x00\x10\x20\x30\x40\x00\x00\x00\x01",
+        RtpBad::Padding,
+    ),
+    (
+        b"\xb0\x21\x00\x0a\x00\x00\x00\x00\x10\x20\x30\x40RI\x00\x01abc\x01",
+        RtpBad::Padding,
+    ),
+];
+
 #[test]
 fn the_first_test_that_fails_is_named(rt: HostRuntime) {
-    let rows: [(&[u8], RtpBad); 13] = [
-        (b"", RtpBad::Short),
-        (
-            b"\x40\x21\x00\x0a\x00\x00\x00\x00\x10\x20\x30",
-            RtpBad::Short,
-        ),
-        (
-            b"\x4f\x21\x00\x0a\x00\x00\x00\x00\x10\x20\x30\x40",
-            RtpBad::Version,
-        ),
-        (
-            b"\xb1\x21\x00\x0a\x00\x00\x00\x00\x10\x20\x30\x40abc",
-            RtpBad::Sources,
-        ),
-        (
-            b"\x8f\x21\x00\x0a\x00\x00\x00\x00\x10\x20\x30\x40abcd",
-            RtpBad::Sources,
-        ),
-        (
-            b"\xb0\x21\x00\x0a\x00\x00\x00\x00\x10\x20\x30\x40",
-            RtpBad::Extension,
-        ),
-        (
-            b"\x90\x21\x00\x0a\x00\x00\x00\x00\x10\x20\x30\x40RI\x00",
-            RtpBad::Extension,
-        ),
-        (
-            b"\xb0\x21\x00\x0a\x00\x00\x00\x00\x10\x20\x30\x40RI\x00\x01abc",
-            RtpBad::Extension,
-        ),
-        (
-            b"\xa0\x21\x00\x0a\x00\x00\x00\x00\x10\x20\x30\x40",
-            RtpBad::Padding,
-        ),
-        (
-            b"\xa0\x21\x00\x0a\x00\x00\x00\x00\x10\x20\x30\x40\x00",
-            RtpBad::Padding,
-        ),
-        (
-            b"\xa0\x21\x00\x0a\x00\x00\x00\x00\x10\x20\x30\x40a\x03",
-            RtpBad::Padding,
-        ),
-        (
-            b"\xa1\x21\x00\x0a\x00\x00\x00\x00\x10\x20\x30\x40\x00\x00\x00\x01",
-            RtpBad::Padding,
-        ),
-        (
-            b"\xb0\x21\x00\x0a\x00\x00\x00\x00\x10\x20\x30\x40RI\x00\x01abc\x01",
-            RtpBad::Padding,
-        ),
-    ];
-    for (octets, bad) in rows {
-        assert_eq!(rt; Rtp::read(octets).err(), Some(bad));
+    for (octets, bad) in &REFUSED {
+        assert_eq!(rt; Rtp::read(octets).err(), Some(*bad));
     }
 }
 
