@@ -1,6 +1,6 @@
 -- A loop over the packets that are put back.
 use Rattle.std.proofs.Common.{◌≡◌, ℕ, zero, suc, ◌+◌, ◌*◌, ◌≤◌, Bool, true, false, cond, List, [], ◌∷◌, ◌++◌, length, take, drop, set, refl, sym, ap, subst, ◌∙◌, append_assoc, arith}
-use Rattle.std.specs.Prelude.{◌==◌, replicate, Result, Ok, Err}
+use Rattle.std.specs.Prelude.{◌==◌, if◌then◌else◌, is_ok, replicate, Result, Ok, Err}
 use Rattle.std.specs.Int.{bit_at}
 use Rattle.std.proofs.lemmas.List.{append-nil, length-drop}
 use Rattle.ts_nulls.specs.Packets.{packet_len, null_packet}
@@ -141,3 +141,15 @@ restoring-good units bits size kept long octets made s k e m =
     let test : (length octets == packet_len long * kept_count (null_flags 7 units bits)) ≡ true = eq-eqb _ _ (e ∙ (λ i. s i * k i)) in
     let bad : Result (List ℕ) NullBad = Err BadShape in
     λ i. cond (sym test i) (Ok (m i)) bad
+
+-- the test says whether there is a whole payload
+pub Ok-if : (test : Bool) (whole : List ℕ) (bad : NullBad) → test ≡ is_ok (if test then Ok whole else Err bad)
+Ok-if true whole bad = refl
+Ok-if false whole bad = refl
+
+pub restoring-test : (units bits size kept : ℕ) (long : Bool) (octets : List ℕ) → size ≡ packet_len long → kept ≡ kept_count (null_flags 7 units bits)
+    → (length octets == size * kept) ≡ is_ok (restoring_of (record { units = units; long = long; nulls = bits }) octets)
+unfolding restoring_of
+restoring-test units bits size kept long octets s k =
+    (λ i. length octets == s i * k i)
+    ∙ Ok-if (length octets == packet_len long * kept_count (null_flags 7 units bits)) (restored long (null_flags 7 units bits) octets) BadShape

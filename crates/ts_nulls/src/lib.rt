@@ -9,7 +9,7 @@ mod restoring;
 mod stripping;
 
 pub use nulls::{NullBad, Strip};
-pub use restoring::restore;
+pub use restoring::{can_restore, restore};
 pub use stripping::strip;
 
 #[cfg(test)]

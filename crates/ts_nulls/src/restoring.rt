@@ -1,4 +1,4 @@
-ghost use Rattle.std.specs.Prelude.{◌≡◌, ◌+◌, ◌-◌, ◌*◌, ◌<◌, ◌≤◌, ◌++◌, ◌==◌, if◌then◌else◌, false, IfOk, length, take, drop};
+ghost use Rattle.std.specs.Prelude.{◌≡◌, ◌+◌, ◌-◌, ◌*◌, ◌<◌, ◌≤◌, ◌++◌, ◌==◌, if◌then◌else◌, false, IfOk, is_ok, length, take, drop};
 ghost use Rattle.std.specs.Int.{bit_at};
 ghost use Rattle.ts_nulls.specs.Nulls.{null_flags, kept_count, restored, restoring_of, written};
 ghost use Rattle.ts_nulls.specs.Packets.{packet_len, null_packet};
@@ -95,6 +95,13 @@ fn put_back(octets: &[u8], units: u8, long: bool, nulls: u8, out: &mut [u8; 1500
         rest = after;
     }
     at
+}
+
+/// Whether null packets can be put back into a payload: it is as long as the packets that weren't null.
+pub fn can_restore(strip: &Strip, payload: &[u8]) -> bool
+    ensures value { result ≡ is_ok (restoring_of strip.now payload.now) }
+{
+    payload.len() == packet_len(strip.long) * kept_count(strip.units, strip.nulls)
 }
 
 /// Copies a payload with its null packets put back to the front of `out`, and says how many octets it has.
