@@ -32,9 +32,9 @@ fn key_from(octets: [u8; 32], bits: u16) -> Key
     Key::Short(front)
 }
 
-// The key of a nonce.
+/// The key of a nonce, derived anew: 1,024 rounds.
 #[tactic(auto, unfolding(crate::specs::Keys::key_of))]
-fn derived(pass: &[u8], bits: u16, nonce: [u8; 4]) -> Key
+pub fn derived_key(pass: &[u8], bits: u16, nonce: [u8; 4]) -> Key
     requires bits { IsKeyLength bits }
     ensures key { key_octets result ≡ key_of pass.now bits nonce }
 {
@@ -87,7 +87,7 @@ impl Keys {
             self.derived.promote(&number);
             return key;
         }
-        let key = derived(self.phrase.octets(), self.bits, nonce);
+        let key = derived_key(self.phrase.octets(), self.bits, nonce);
         let _ = self.derived.put(number, key);
         key
     }

@@ -9,6 +9,6 @@ mod phrase;
 mod tests;
 
 pub use derivation::pbkdf2;
-pub use keys::Keys;
+pub use keys::{Keys, derived_key};
 pub use mac::hmac;
 pub use phrase::{MAX_PHRASE_LEN, Phrase};

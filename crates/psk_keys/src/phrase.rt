@@ -43,6 +43,8 @@ impl Phrase {
     /// The octets of the passphrase.
     pub fn octets(&self) -> &[u8]
         ensures octets { result.now ≡ self.now }
+        ensures least { 1 ≤ length result.now }
+        ensures most { length result.now ≤ MAX_PHRASE_LEN }
     {
         &self.octets[..self.count]
     }

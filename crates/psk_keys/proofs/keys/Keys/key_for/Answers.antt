@@ -21,6 +21,6 @@ returns-in-Some-clause-value c =
 pub invariant_of-self-2 : goal.invariant_of-self-2
 invariant_of-self-2 c =
     let i = c.self.inside in
-    let both = put_or_refused c.put.result i.phrase i.bits c.number_of-number.result i.derived c.put.new.self c.derived-key.result c.put.ensures.entries c.put.ensures.err c.self.invariant.0
-    (c.derived-key.ensures.key ∙ ap (λ pass. key_of pass i.bits c.args.nonce) c.octets.ensures.octets ∙ ap (key_of i.phrase i.bits) (sym c.number_of-number.ensures.spelled)) in
+    let both = put_or_refused c.put.result i.phrase i.bits c.number_of-number.result i.derived c.put.new.self c.derived_key-key.result c.put.ensures.entries c.put.ensures.err c.self.invariant.0
+    (c.derived_key-key.ensures.key ∙ ap (λ pass. key_of pass i.bits c.args.nonce) c.octets.ensures.octets ∙ ap (key_of i.phrase i.bits) (sym c.number_of-number.ensures.spelled)) in
     (both.0, both.1 ∙ c.self.invariant.1, c.self.invariant.2)
