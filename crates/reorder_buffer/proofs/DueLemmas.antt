@@ -1,17 +1,18 @@
 -- The deadlines kept beside the packets set the floor that the packets set.
-use Rattle.std.proofs.Common.{◌≡◌, ℕ, ℤ, ◌+◌, ◌≤◌, max, Bool, true, false, cond, List, [], ◌∷◌, Some, None, refl, sym, ◌∙◌, ap, subst, arith}
+use Rattle.std.proofs.Common.{◌≡◌, ℕ, ℤ, pos, ◌+◌, ◌≤◌, max, Bool, true, false, cond, List, [], ◌∷◌, Some, None, refl, sym, ◌∙◌, ap, subst, arith}
 use Rattle.std.proofs.lemmas.Int.{ints}
 use Rattle.std.specs.List.{filter, All}
 use Rattle.std.specs.Map.{lookup, remove_entry, keys_of}
 use Rattle.std.specs.BTreeMap.{is_at, insert_entry}
-use Rattle.std.specs.BTreeMap.Range.{IsLeBy}
+use Rattle.std.specs.BTreeMap.Range.{IsLeBy, entries_between}
+use Rattle.std.specs.declared.ops.Bound.TheVariants.{Included, Unbounded}
 use Rattle.std.specs.Ordering.{int_cmp, is_eq, match_ordering}
 use Rattle.std.specs.declared.cmp.Ordering.TheVariants.{Less, Equal, Greater}
 use Rattle.std.proofs.lemmas.Map.Lookups.{exact_signed}
 use Rattle.std.proofs.lemmas.List.Elements.{All-head, All-tail}
 use Rattle.receiver_rules.specs.Packets.{Packet, Moment, At, Ever, is_due_by, playout_floor, insert_by_number, is_from}
 use Rattle.receiver_rules.proofs.PacketLemmas.{floor-insert, floor-filter}
-use Rattle.reorder_buffer.specs.Due.{due_floor, higher_floor, SameFloors, TellsFloors}
+use Rattle.reorder_buffer.specs.Due.{due_floor, greatest_floor, higher_floor, SameFloors, TellsFloors}
 
 -- a deadline that is there sets at least its floor
 known_low : (m : Moment) (d : ℤ) (k : ℕ) (es : List (ℤ × ℕ)) → is_due_by m d ≡ true → lookup (is_at (int_cmp d)) es ≡ Some k → k ≤ due_floor es m
@@ -87,3 +88,10 @@ tells_raised floor later due due' due'' held le one two tells = λ m.
     two m ∙ one m
     ∙ later_floor floor later (due_floor due m) (playout_floor held m) le (tells m)
     ∙ sym (floor-filter later m held)
+
+-- ---- at one tick
+
+-- the highest floor of the deadlines up to a tick is the floor that is due then
+pub greatest_due : (t : ℕ) (es : List (ℤ × ℕ)) → greatest_floor (entries_between int_cmp Unbounded (Included (pos t)) es) ≡ due_floor es (At t)
+greatest_due t [] = refl
+greatest_due t (e ∷ es) = grind (arith, ints, greatest_due t es)

@@ -1,22 +1,23 @@
 -- Tests on a map's keys, as tests on the packets that it shows.
-use Rattle.std.proofs.Common.{◌≡◌, ℕ, zero, suc, ◌+◌, ◌-◌, ◌^◌, ◌<◌, ◌≤◌, ℤ, Some, Bool, true, false, cond, ◌||◌, List, [], ◌∷◌, refl, sym, ◌∙◌, ap, subst, arith}
+use Rattle.std.proofs.Common.{◌≡◌, ℕ, zero, suc, ◌+◌, ◌-◌, ◌^◌, ◌<◌, ◌≤◌, ℤ, Some, Bool, true, false, cond, ◌||◌, ◌&&◌, List, [], ◌∷◌, refl, sym, ◌∙◌, ap, subst, arith}
 use Rattle.std.specs.Prelude.{nat_lt, nat_le, ◌==◌, is_some, Option, None}
 use Rattle.std.specs.Option.{ForSome}
 use Rattle.std.proofs.lemmas.Bool.{ltb-true, leb-false, or_parts}
-use Rattle.std.specs.List.{list_any, All, slice_get}
+use Rattle.std.specs.List.{list_any, filter, All, slice_get}
 use Rattle.std.specs.Map.{lookup, keys_of, remove_entry}
 use Rattle.std.specs.BTreeMap.{BTreeMap, is_at, insert_entry}
 use Rattle.std.specs.Ordering.{nat_cmp, is_gt, is_lt}
-use Rattle.std.specs.BTreeMap.Range.{IsLeBy}
+use Rattle.std.specs.BTreeMap.Range.{IsLeBy, entries_between}
+use Rattle.std.specs.declared.ops.Bound.TheVariants.{Included, Unbounded}
 use Rattle.std.proofs.lemmas.List.Elements.{All-head, All-tail}
 use Rattle.receiver_rules.specs.declared.anchor.Highest.{Highest}
-use Rattle.receiver_rules.specs.Packets.{Packet, distance, higher, insert_by_number}
-use Rattle.receiver_rules.proofs.PacketLemmas.{rising-insert}
+use Rattle.receiver_rules.specs.Packets.{Packet, distance, higher, insert_by_number, is_from, IsRising}
+use Rattle.receiver_rules.proofs.PacketLemmas.{rising-insert, rising-filter, any-filter, any_same}
 use Rattle.reorder_buffer.specs.State.{State}
 use Rattle.reorder_buffer.specs.Sound.{AllBelow, IsWithin, IsSound}
 use Rattle.receiver_rules.specs.Bounds.{IsMidHighest, IsMid}
 use Rattle.reorder_buffer.specs.Changes.{holding}
-use Rattle.reorder_buffer.specs.Shown.{packet_of, packets_of, state_of}
+use Rattle.reorder_buffer.specs.Shown.{packet_of, packets_of, first_number, state_of}
 use Rattle.reorder_buffer.specs.declared.buffer.Buffer.TheInside.{Inside}
 use Rattle.reorder_buffer.specs.declared.packets.Held.{Held}
 
@@ -129,3 +130,79 @@ far_keys capacity n i es first last f l low high =
 
     to_cmp : (a b : ℕ) → is_lt (nat_cmp a b) ≡ false → b ≤ a
     to_cmp a b h = grind arith
+
+-- ---- from a floor on
+
+-- the packets whose numbers the floor leaves, as the map's range has them
+pub from_range : (floor : ℕ) (es : List (ℕ × Held)) → packets_of (entries_between nat_cmp (Included floor) Unbounded es) ≡ filter (is_from floor) (packets_of es)
+from_range floor [] = refl
+from_range floor (e ∷ es) = grind (arith, from_range floor es)
+
+-- each number lies between two
+abbrev IsBetween : ℕ → ℕ → List Packet → Type 0
+IsBetween first last [] = Unit {0}
+IsBetween first last (p ∷ ps) = (first ≤ p.number) × (p.number ≤ last) × IsBetween first last ps
+
+between : (first last low : ℕ) (ps : List Packet) → first ≤ low → IsRising low ps → AllBelow (last + 1) ps → IsBetween first last ps
+between first last low [] h r b = tt
+between first last low (p ∷ ps) h r b = (omega (arith, r.0), omega (arith, b.0), between first last (p.number + 1) ps (omega (arith, r.0)) r.1 b.1)
+
+near_between : (capacity n first last : ℕ) (ps : List Packet) → IsBetween first last ps → nat_le capacity (distance first n) ≡ false → nat_le capacity (distance last n) ≡ false → list_any (λ p. nat_le capacity (distance p.number n)) ps ≡ false
+near_between capacity n first last [] b f l = refl
+near_between capacity n first last (p ∷ ps) b f l = grind (arith, b.0, b.1, near_between capacity n first last ps b.2 f l)
+
+far_member : (capacity n k : ℕ) (ps : List Packet) → list_any (λ p. p.number == k) ps ≡ true → nat_le capacity (distance k n) ≡ true → list_any (λ p. nat_le capacity (distance p.number n)) ps ≡ true
+far_member capacity n k [] f h = cc
+far_member capacity n k (p ∷ ps) f h = grind (arith, far_member capacity n k ps)
+
+ends_decide : (capacity n first last : ℕ) (ps : List Packet) → IsBetween first last ps → list_any (λ p. p.number == first) ps ≡ true → list_any (λ p. p.number == last) ps ≡ true
+    → list_any (λ p. nat_le capacity (distance p.number n)) ps ≡ (nat_le capacity (distance first n) || nat_le capacity (distance last n))
+ends_decide capacity n first last ps b f l = grind (arith, near_between capacity n first last ps b, far_member capacity n first ps f, far_member capacity n last ps l)
+
+first_in : (first : ℕ) (ps : List Packet) → first_number ps ≡ Some first → list_any (λ p. p.number == first) ps ≡ true
+first_in first [] e = cc
+first_in first (p ∷ ps) e = let same : p.number ≡ first = cc in grind (arith, same)
+
+from_first : (first last low : ℕ) (ps : List Packet) → first_number ps ≡ Some first → IsRising low ps → AllBelow (last + 1) ps → IsBetween first last ps
+from_first first last low [] e r b = tt
+from_first first last low (p ∷ ps) e r b = let same : p.number ≡ first = cc in (omega (arith, same), omega (arith, b.0), between first last (p.number + 1) ps (omega (arith, same)) r.1 b.1)
+
+first_from_floor : (floor first : ℕ) (ps : List Packet) → first_number (filter (is_from floor) ps) ≡ Some first → floor ≤ first
+first_from_floor floor first [] e = cc
+first_from_floor floor first (p ∷ ps) e = grind (arith, first_from_floor floor first ps)
+
+first_bound : (first last : ℕ) (ps : List Packet) → first_number ps ≡ Some first → AllBelow (last + 1) ps → first ≤ last
+first_bound first last [] e b = cc
+first_bound first last (p ∷ ps) e b = let same : p.number ≡ first = cc in omega (arith, same, b.0)
+
+below_filter : (f : Packet → Bool) (bound : ℕ) (ps : List Packet) → AllBelow bound ps → AllBelow bound (filter f ps)
+below_filter f bound [] h = tt
+below_filter f bound (p ∷ ps) h =
+    elim (f p) as (λ b. AllBelow bound (cond b (p ∷ filter f ps) (filter f ps))) [ true ↦ (h.0, below_filter f bound ps h.1) | false ↦ below_filter f bound ps h.1 ]
+
+-- a number from the floor on is there where it is among those from the floor on
+pub member_from : (floor n : ℕ) (ps : List Packet) → floor ≤ n → list_any (λ p. p.number == n) (filter (is_from floor) ps) ≡ list_any (λ p. p.number == n) ps
+member_from floor n ps low =
+    any-filter (λ p. p.number == n) (is_from floor) ps
+    ∙ any_same (λ q. is_from floor q && (q.number == n)) (λ q. q.number == n) (λ q. grind arith) ps
+
+up_to : (last : ℕ) (es : List (ℕ × Held)) → All (λ k. is_lt (nat_cmp last k) ≡ false) (keys_of es) → AllBelow (last + 1) (packets_of es)
+up_to last [] a = tt
+up_to last (e ∷ es) a = (low last e.0 (All-head (λ k. is_lt (nat_cmp last k) ≡ false) e.0 (keys_of es) a), up_to last es (All-tail (λ k. is_lt (nat_cmp last k) ≡ false) e.0 (keys_of es) a))
+  where
+    low : (a b : ℕ) → is_lt (nat_cmp a b) ≡ false → b < a + 1
+    low a b h = grind arith
+
+-- of the numbers from the floor on the first and the last decide
+pub far_from : (capacity n floor i first : ℕ) (es : List (ℕ × Held)) (last : ℕ × Held) → IsRising 0 (packets_of es) → first_number (filter (is_from floor) (packets_of es)) ≡ Some first
+    → slice_get es i ≡ Some last → All (λ k. is_lt (nat_cmp last.0 k) ≡ false) (keys_of es)
+    → list_any (λ p. nat_le capacity (distance p.number n)) (filter (is_from floor) (packets_of es)) ≡ (nat_le capacity (distance first n) || nat_le capacity (distance last.0 n))
+far_from capacity n floor i first es last rising f l all =
+    let ps : List Packet = packets_of es in
+    let low : floor ≤ first = first_from_floor floor first ps f in
+    let bound : AllBelow (last.0 + 1) (filter (is_from floor) ps) = below_filter (is_from floor) (last.0 + 1) ps (up_to last.0 es all) in
+    let above : first ≤ last.0 = first_bound first last.0 (filter (is_from floor) ps) f bound in
+    ends_decide capacity n first last.0 (filter (is_from floor) ps)
+    (from_first first last.0 0 (filter (is_from floor) ps) f (rising-filter (is_from floor) 0 ps rising) bound)
+    (first_in first (filter (is_from floor) ps) f)
+    (member_from floor last.0 ps (omega arith) ∙ (sym (any_key (λ k. k == last.0) es) ∙ key_at i es last l))

@@ -6,7 +6,9 @@ use Rattle.receiver_rules.specs.Packets.{Packet, insert_by_number, is_from, high
 use Rattle.std.specs.Prelude.{if◌then◌else◌}
 use Rattle.std.specs.List.{filter}
 use Rattle.receiver_rules.specs.Steps.{Arrival}
-use Rattle.receiver_rules.specs.Packets.{is_kept}
+use Rattle.receiver_rules.specs.Packets.{At, is_kept}
+use Rattle.receiver_rules.specs.declared.verdict.Verdict.{Verdict}
+use Rattle.reorder_buffer.specs.Release.{floor_then}
 use Rattle.reorder_buffer.specs.Tests.{anchor_at, placed_at, judged}
 use Rattle.reorder_buffer.specs.State.{State}
 
@@ -34,3 +36,7 @@ taken b t arrival = moved (if is_kept (judged b t arrival) then holding b (place
 -- the packets below the floor have gone out
 abbrev pub raised : State → ℕ → State
 raised b floor = record { limits = b.limits; phase = b.phase; time = b.time; anchor = b.anchor; highest = b.highest; floor = floor; held = filter (is_from floor) b.held }
+
+-- what is due at a tick has gone out, and a packet waits where its verdict says so
+abbrev pub settled : State → ℕ → Verdict → Packet → State
+settled b at verdict p = if is_kept verdict then holding (raised b (floor_then b (At at))) p else raised b (floor_then b (At at))

@@ -1,6 +1,7 @@
 pub mod State
 pub mod Shown
 pub mod Due
+pub mod Causes
 pub mod Sound
 pub mod StateAfter
 pub mod Tests

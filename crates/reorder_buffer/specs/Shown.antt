@@ -11,6 +11,11 @@ packet_of entry = record { number = entry.0; timestamp = entry.1.timestamp; dead
 abbrev pub packets_of : List (ℕ × Held) → List Packet
 packets_of entries = map packet_of entries
 
+-- the number of the first packet
+abbrev pub first_number : List Packet → Option ℕ
+first_number [] = None
+first_number (p ∷ ps) = Some p.number
+
 abbrev pub state_of : Inside → State
 state_of b =
     record {

@@ -4,7 +4,7 @@ use Rattle.std.specs.Option.{ForSome}
 use Rattle.receiver_rules.specs.Bounds.{AreInRange, IsEarlyAnchor, IsMidHighest}
 use Rattle.receiver_rules.specs.Packets.{Packet, IsRising}
 use Rattle.reorder_buffer.specs.State.{State}
-use Rattle.reorder_buffer.specs.Due.{TellsFloors}
+use Rattle.reorder_buffer.specs.Due.{TellsFloors, AreSetBy}
 use Rattle.reorder_buffer.specs.Shown.{packets_of, state_of}
 use Rattle.reorder_buffer.specs.declared.buffer.Buffer.TheInside.{Inside}
 
@@ -31,3 +31,4 @@ pub record IsSound (b : State) : Type 0 where
 pub record IsSoundInside (fields : Inside) : Type 0 where
   pub state : IsSound (state_of fields)
   pub due : TellsFloors fields.floor fields.due.entries (packets_of fields.held.entries)
+  pub set : AreSetBy fields.due.entries (packets_of fields.held.entries)

@@ -1,5 +1,5 @@
 -- The verdict as the buffer's own state shows it.
-use Rattle.std.specs.Prelude.{ℕ, ℤ, pos, int_le, int_lt, ◌+◌, ◌*◌, ◌^◌, not, nat_le, nat_lt, ◌==◌, if◌then◌else◌}
+use Rattle.std.specs.Prelude.{◌≡◌, ◌<◌, ◌≤◌, false, ℕ, ℤ, pos, int_le, int_lt, ◌+◌, ◌*◌, ◌^◌, not, nat_le, nat_lt, ◌==◌, if◌then◌else◌}
 use Rattle.std.specs.List.{list_any}
 use Rattle.receiver_rules.specs.declared.verdict.Verdict.{Verdict}
 use Rattle.receiver_rules.specs.declared.verdict.Verdict.TheVariants.{Kept, Stranger, Exhausted, Late, Behind, Early, Twice, Span}
@@ -8,6 +8,7 @@ use Rattle.std.specs.Prelude.{unwrap_or}
 use Rattle.receiver_rules.specs.Steps.{Arrival}
 use Rattle.receiver_rules.specs.History.{new_anchor}
 use Rattle.receiver_rules.specs.Packets.{Packet, distance, placed_packet}
+use Rattle.receiver_rules.specs.Bounds.{IsMid}
 use Rattle.reorder_buffer.specs.State.{State}
 
 abbrev pub verdict_here : State → Anchor → ℕ → ℕ → ℕ → ℤ → Verdict
@@ -32,3 +33,12 @@ abbrev pub judged : State → ℕ → Arrival → Verdict
 judged b t arrival =
     let p = placed_at b t arrival in
     verdict_here b (anchor_at b t arrival) t arrival.flow p.number p.deadline
+
+-- a packet that is kept at this tick
+pub record IsAdmissible (b : State) (at : ℕ) (p : Packet) : Type 0 where
+  pub low : b.floor ≤ p.number
+  pub high : p.number < 2 ^ 62
+  pub mid : IsMid b.highest p
+  pub later : int_le p.deadline (pos at) ≡ false
+  pub new : list_any (λ q. q.number == p.number) b.held ≡ false
+  pub near : list_any (λ q. nat_le b.limits.capacity (distance q.number p.number)) b.held ≡ false

@@ -1,8 +1,10 @@
 ghost use Rattle.std.specs.Prelude.{◌≡◌, ◌<◌, ◌≤◌, ◌^◌};
 
-use crate::due::pop_floor;
-use crate::packets::{Held, holds, insert_both, is_any_far, put_below};
-use crate::phase::{Phase, WriteFault};
+use crate::due::{floor_at, pop_floor};
+use crate::packets::{
+    Held, admit, drop_all, holds, insert_both, is_any_far, is_any_far_from, put_below,
+};
+use crate::phase::{Phase, ReceiveBad, WriteFault};
 use outside_io::{NoMemory, Sink};
 use receiver_rules::place::{Place, highest_after, new_anchor, place_of};
 use receiver_rules::{Anchor, Arrival, Highest, Limits, Verdict};
@@ -39,22 +41,24 @@ impl Model for Buffer {
 }
 
 impl Buffer {
-    ghost use Rattle.std.specs.Prelude.{◌≡◌, ◌≢◌, ◌↔◌, ◌≤◌, ◌<◌, ◌+◌, ◌*◌, ◌^◌, List, [], ◌∷◌, length, IsTrue, ◌==◌, nat_le, false, IfOk, IsOk, OnOk, OnErr, IsSome};
+    ghost use Rattle.std.specs.Prelude.{◌≡◌, ◌≢◌, ◌↔◌, ◌≤◌, ◌<◌, ◌+◌, ◌*◌, ◌^◌, List, [], ◌∷◌, length, IsTrue, ◌==◌, nat_le, true, false, IfOk, IsOk, OnOk, OnErr, IsErrOf, IsSome};
     ghost use Rattle.std.specs.List.{list_any, filter};
     ghost use Rattle.std.specs.Option.{option_map, ForSome};
     ghost use Rattle.outside_io.specs.Causes.{HasCause};
     ghost use Rattle.outside_io.specs.Told.{Appends, AppendsPart};
     ghost use Rattle.seq_unwrap.specs.Nearest.{cycle_of};
     ghost use Rattle.receiver_rules.specs.Steps.{Step, media_step, time_step, end_step};
-    ghost use Rattle.receiver_rules.specs.Packets.{distance, is_below, placed_packet};
+    ghost use Rattle.receiver_rules.specs.Packets.{At, is_kept, distance, is_below, placed_packet};
     ghost use Rattle.receiver_rules.specs.History.{verdict, accepted_packets, released_payloads, released_bytes};
     ghost use Rattle.receiver_rules.specs.Seen.{seen, moment_of, packet_at, IsPlaceOf};
     ghost use Rattle.receiver_rules.specs.Bounds.{AreInRange, IsEarlyAnchor, IsMid};
     ghost use Rattle.reorder_buffer.specs.Release.{octets_below, floor_then, Writes, WritesPart};
     ghost use Rattle.reorder_buffer.specs.Shown.{number_below};
-    ghost use Rattle.reorder_buffer.specs.Changes.{holding, moved, taken, raised};
+    ghost use Rattle.reorder_buffer.specs.Changes.{holding, moved, taken, raised, settled};
+    ghost use Rattle.reorder_buffer.specs.Causes.{HasReceiveCause};
+    ghost use Rattle.reorder_buffer.specs.declared.phase.ReceiveBad.TheVariants.{WriteFault as ReceiveFault, NoMemory as ReceiveNoMemory};
     ghost use Rattle.reorder_buffer.specs.StateAfter.{IsStateAfter};
-    ghost use Rattle.reorder_buffer.specs.Tests.{verdict_here, judged, anchor_at};
+    ghost use Rattle.reorder_buffer.specs.Tests.{verdict_here, judged, anchor_at, IsAdmissible};
 
     /// A buffer of `span` packets (1 to 16,384) that plays each out `delay_ms` milliseconds (1 to 30,000) after its
     /// time. This body takes no memory until something is kept.
@@ -102,6 +106,44 @@ impl Buffer {
     {
         let verdict = self.take(alloc, at, arrival)?;
         Ok(verdict)
+    }
+
+    /// Writes what is due at a tick and then decides on an arrival, as one step. Memory is got before the first lasting
+    /// change, so where it is refused nothing was written and nothing changed.
+    pub fn receive<K: Sink>(
+        &mut self,
+        alloc: Global,
+        at: u64,
+        arrival: &Arrival<'_>,
+        sink: &mut K,
+    ) -> Result<Verdict, ReceiveBad>
+        requires running { self.old.phase ≡ Phase.Open }
+        requires tick { at < 2 ^ 61 }
+        requires clock { self.old.time ≤ at }
+        requires word { arrival.now.word < cycle_of arrival.now.width }
+
+        ensures verdict { IfOk result (λ v. (history : List Step) → IsStateAfter self.old history → v ≡ verdict self.old.limits history at (seen arrival.now)) }
+        ensures state { OnOk result ((history : List Step) → IsStateAfter self.old history → IsStateAfter self.new (media_step at (seen arrival.now) ∷ history)) }
+        ensures sink { OnOk result ((history : List Step) → IsStateAfter self.old history → Writes (K.contents sink.old) (K.contents sink.new) (released_bytes self.old.limits history) (released_bytes self.old.limits (media_step at (seen arrival.now) ∷ history))) }
+        ensures time { OnOk result ((self.new.time ≡ at) × (self.new.phase ≡ Phase.Open)) }
+        ensures limits { self.new.limits ≡ self.old.limits }
+
+        ensures failed { IsErrOf result ReceiveFault → self.new.phase ≡ Phase.Failed }
+        ensures part { IsErrOf result ReceiveFault → (history : List Step) → IsStateAfter self.old history → WritesPart (K.contents sink.old) (K.contents sink.new) (released_bytes self.old.limits history) (released_bytes self.old.limits (media_step at (seen arrival.now) ∷ history)) }
+        ensures same { IsErrOf result ReceiveNoMemory → (self.new ≡ self.old) × (sink.new ≡ sink.old) }
+        ensures cause { HasReceiveCause (K.faults sink.old) (K.faults sink.new) result }
+    {
+        let anchor = self.anchor_for(at, arrival);
+        let place = self.place(&anchor, arrival);
+        let floor = floor_at(&self.due, self.floor, at);
+        let verdict = self.verdict_then(floor, &anchor, at, arrival.flow, &place);
+        match self.settle(alloc, at, verdict, &place, arrival.payload, sink) {
+            Ok(()) => {
+                self.move_to(at, anchor);
+                Ok(verdict)
+            }
+            Err(bad) => Err(bad),
+        }
     }
 
     /// Writes what is due at a tick, by rising number, and says how many packets were played out.
@@ -267,6 +309,121 @@ impl Buffer {
         }
     }
 
+    /// The first test that fits once what is due below this floor is out.
+    fn verdict_then(
+        &self,
+        floor: u64,
+        anchor: &Anchor,
+        at: u64,
+        flow: u32,
+        place: &Place,
+    ) -> Verdict
+        requires tick { at < 2 ^ 61 }
+        requires floor { self.now.floor ≤ floor }
+        ensures { result ≡ verdict_here (raised self.now floor) anchor.now at flow place.now.number place.now.deadline }
+    {
+        if flow != anchor.flow {
+            Verdict::Stranger
+        } else if place.number >= 1 << 62 {
+            Verdict::Exhausted
+        } else if place.deadline <= at as i64 {
+            Verdict::Late
+        } else if place.number < floor {
+            Verdict::Behind
+        } else if place.deadline > (at + 2 * self.limits.playout_delay) as i64 {
+            Verdict::Early
+        } else if holds(&self.held, place.number) {
+            Verdict::Twice
+        } else if is_any_far_from(&self.held, floor, self.limits.capacity, place.number) {
+            Verdict::Span
+        } else {
+            Verdict::Kept
+        }
+    }
+
+    /// Keeps a packet where its verdict says so, and lets out what is due.
+    fn settle<K: Sink>(
+        &mut self,
+        alloc: Global,
+        at: u64,
+        verdict: Verdict,
+        place: &Place,
+        payload: &[u8],
+        sink: &mut K,
+    ) -> Result<(), ReceiveBad>
+        requires tick { at < 2 ^ 61 }
+        requires fits { is_kept verdict ≡ true → IsAdmissible (raised self.old (floor_then self.old (At at))) at (packet_at place.now payload.now) }
+        ensures ok { OnOk result (self.new ≡ settled self.old at verdict (packet_at place.now payload.now)) }
+        ensures sink { OnOk result (Appends (K.contents sink.old) (K.contents sink.new) (octets_below (floor_then self.old (At at)) self.old.held)) }
+        ensures failed { IsErrOf result ReceiveFault → self.new.phase ≡ Phase.Failed }
+        ensures limits { self.new.limits ≡ self.old.limits }
+        ensures part { IsErrOf result ReceiveFault → AppendsPart (K.contents sink.old) (K.contents sink.new) (octets_below (floor_then self.old (At at)) self.old.held) }
+        ensures same { IsErrOf result ReceiveNoMemory → (self.new ≡ self.old) × (sink.new ≡ sink.old) }
+        ensures cause { HasReceiveCause (K.faults sink.old) (K.faults sink.new) result }
+    {
+        if verdict.is_kept() {
+            return self.admit(alloc, at, place, payload, sink);
+        }
+        match self.let_out(Some(at), sink) {
+            Ok(_) => Ok(()),
+            Err(_) => Err(ReceiveBad::WriteFault),
+        }
+    }
+
+    /// Puts a packet among those that wait, and then lets out what is due.
+    fn admit<K: Sink>(
+        &mut self,
+        alloc: Global,
+        at: u64,
+        place: &Place,
+        payload: &[u8],
+        sink: &mut K,
+    ) -> Result<(), ReceiveBad>
+        requires tick { at < 2 ^ 61 }
+        requires fits { IsAdmissible (raised self.old (floor_then self.old (At at))) at (packet_at place.now payload.now) }
+        ensures ok { OnOk result (self.new ≡ holding (raised self.old (floor_then self.old (At at))) (packet_at place.now payload.now)) }
+        ensures sink { OnOk result (Appends (K.contents sink.old) (K.contents sink.new) (octets_below (floor_then self.old (At at)) self.old.held)) }
+        ensures failed { IsErrOf result ReceiveFault → self.new.phase ≡ Phase.Failed }
+        ensures limits { self.new.limits ≡ self.old.limits }
+        ensures part { IsErrOf result ReceiveFault → AppendsPart (K.contents sink.old) (K.contents sink.new) (octets_below (floor_then self.old (At at)) self.old.held) }
+        ensures same { IsErrOf result ReceiveNoMemory → (self.new ≡ self.old) × (sink.new ≡ sink.old) }
+        ensures cause { HasReceiveCause (K.faults sink.old) (K.faults sink.new) result }
+    {
+        let Place {
+            number,
+            timestamp,
+            deadline,
+        } = *place;
+        let Ok(payload) = Vec::from_slice(alloc, payload) else {
+            return Err(ReceiveBad::NoMemory);
+        };
+        let packet = Held {
+            timestamp,
+            deadline,
+            payload,
+        };
+        match admit(
+            &mut self.held,
+            &mut self.due,
+            self.floor,
+            at,
+            number,
+            packet,
+            sink,
+        ) {
+            Ok(floor) => {
+                self.floor = floor;
+                self.highest = Some(highest_after(self.highest, place.number, place.timestamp));
+                Ok(())
+            }
+            Err(ReceiveBad::NoMemory) => Err(ReceiveBad::NoMemory),
+            Err(ReceiveBad::WriteFault) => {
+                self.phase = drop_all(&mut self.held, &mut self.due);
+                Err(ReceiveBad::WriteFault)
+            }
+        }
+    }
+
     /// Puts a packet among those that wait. Each growth of memory comes before the first lasting change.
     fn hold(&mut self, alloc: Global, place: &Place, payload: &[u8]) -> Result<(), AllocError>
         requires low { self.old.floor ≤ place.now.number }
@@ -321,9 +478,7 @@ impl Buffer {
                 Ok(count)
             }
             Err(_) => {
-                self.held.clear();
-                self.due.clear();
-                self.phase = Phase::Failed;
+                self.phase = drop_all(&mut self.held, &mut self.due);
                 Err(WriteFault)
             }
         }

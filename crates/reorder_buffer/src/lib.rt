@@ -10,5 +10,5 @@ mod phase;
 mod tests;
 
 pub use buffer::Buffer;
-pub use phase::{Phase, WriteFault};
+pub use phase::{Phase, ReceiveBad, WriteFault};
 pub use receiver_rules::{Arrival, Verdict};

@@ -12,3 +12,12 @@ pub enum Phase {
 /// A write to the sink failed, and the buffer has ended.
 #[derive(Clone, Copy, Debug, PartialEq, Eq)]
 pub struct WriteFault;
+
+/// Why a media packet was not received.
+#[derive(Clone, Copy, Debug, PartialEq, Eq)]
+pub enum ReceiveBad {
+    /// A write to the sink failed, and the buffer has ended.
+    WriteFault,
+    /// Memory was refused, and nothing changed.
+    NoMemory,
+}

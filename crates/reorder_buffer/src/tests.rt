@@ -1,9 +1,10 @@
-//! The worked runs on the buffer, and generated ones beside the plain programs of the rules.
+//! The worked runs on the buffer, and generated ones beside the plain programs of the rules. Each run is made with releases
+//! and arrivals apart, and with both as one step.
 ghost use Rattle.std.specs.Prelude.{◌≡◌, ◌<◌, ◌^◌, IfOk};
 ghost use Rattle.std.specs.List.{All};
 ghost use Rattle.receiver_rules.specs.Plain.{IsFit};
 
-use crate::{Arrival, Buffer, Phase, Verdict};
+use crate::{Arrival, Buffer, Phase, ReceiveBad, Verdict};
 use outside_io::Store8;
 use receiver_rules::Limits;
 use receiver_rules::plain::{Event, Step, released, verdicts};
@@ -55,6 +56,41 @@ fn play(alloc: Global, steps: &[Step<'_>], sink: Store8) -> Result<Played, Fail>
     Ok(played)
 }
 
+/// Plays the same steps with each arrival and what is due before it as one step.
+fn play_as_one(alloc: Global, steps: &[Step<'_>], sink: Store8) -> Result<Played, Fail>
+    requires { All IsFit steps.now }
+{
+    let mut buffer = Buffer::with_limits(alloc, SPAN, DELAY_MS)?;
+    let mut played = Played {
+        verdicts: Vec::new(alloc),
+        sink,
+        failed: false,
+    };
+    let mut at = 0;
+    for step in steps {
+        at = at.max(step.tick);
+        if let Event::Media(arrival) = &step.event {
+            match buffer.receive(alloc, at, arrival, &mut played.sink) {
+                Ok(verdict) => played.verdicts.push(verdict)?,
+                Err(bad) => {
+                    played.failed = bad == ReceiveBad::WriteFault && buffer.ended();
+                    return Ok(played);
+                }
+            }
+            continue;
+        }
+        if buffer.release(at, &mut played.sink).is_err() {
+            played.failed = buffer.ended();
+            return Ok(played);
+        }
+        if matches!(step.event, Event::End) {
+            played.failed = buffer.flush(&mut played.sink).is_err() && buffer.ended();
+            return Ok(played);
+        }
+    }
+    Ok(played)
+}
+
 /// Whether the buffer and the plain programs give these verdicts, and these payloads one after another.
 fn answers(
     alloc: Global,
@@ -69,7 +105,12 @@ fn answers(
     Ok(played.verdicts.as_slice() == want && bytes == written && agrees(alloc, steps)?)
 }
 
-/// Whether the buffer answers what the plain programs do.
+/// Whether a run gave these verdicts and octets.
+fn gave(played: &Played, verdicts: &[Verdict], octets: &[u8]) -> bool {
+    played.verdicts.as_slice() == verdicts && played.sink.octets() == octets
+}
+
+/// Whether the buffer answers what the plain programs do, either way.
 fn agrees(alloc: Global, steps: &[Step<'_>]) -> Result<bool, Fail>
     requires { All IsFit steps.now }
 {
@@ -77,14 +118,15 @@ fn agrees(alloc: Global, steps: &[Step<'_>]) -> Result<bool, Fail>
         playout_delay: 90 * DELAY_MS,
         capacity: SPAN,
     };
-    let played = play(alloc, steps, Store8::with(alloc, 64, &[])?)?;
+    let apart = play(alloc, steps, Store8::with(alloc, 64, &[])?)?;
+    let as_one = play_as_one(alloc, steps, Store8::with(alloc, 64, &[])?)?;
     let want = verdicts(alloc, &limits, steps)?;
     let payloads = released(alloc, &limits, steps)?;
     let mut bytes = Vec::new(alloc);
     for payload in payloads.as_slice() {
         bytes.extend_from_slice(payload)?;
     }
-    Ok(played.verdicts.as_slice() == want.as_slice() && played.sink.octets() == bytes.as_slice())
+    Ok(gave(&apart, &want, &bytes) && gave(&as_one, &want, &bytes))
 }
 
 fn media(flow: u32, tick: u64, word: u32, stamp: u32, payload: &[u8]) -> Step<'_>
@@ -202,6 +244,11 @@ fn a_failed_write_leaves_a_front_part_and_ends_the_buffer(rt: HostRuntime) -> Re
     let played = play(alloc, &steps, Store8::with(alloc, 64, &[1])?)?;
     assert!(rt; played.failed);
     assert_eq!(rt; played.sink.octets(), b"A".as_slice());
+    // The second of two that are due fails in the step of a third.
+    let steps = [steps[0], steps[1], brings(90_900, 12, 1800, b"C")];
+    let as_one = play_as_one(alloc, &steps, Store8::with(alloc, 64, &[1])?)?;
+    assert!(rt; as_one.failed);
+    assert!(rt; gave(&as_one, &[Verdict::Kept, Verdict::Kept], b"A"));
     let mut buffer = Buffer::with_limits(alloc, SPAN, DELAY_MS)?;
     assert!(rt; buffer.flow().is_none() && buffer.first().is_none() && !buffer.ended());
     let arrival = Arrival {

@@ -4,8 +4,8 @@ use Rattle.reorder_buffer.specs.Due.{due_floor}
 use Rattle.reorder_buffer.proofs.DueLemmas.{due-remove}
 use Rattle.reorder_buffer.proofs.due.forget_due.Goals as goal
 
-pub returns-in-Some : goal.returns-in-Some
-returns-in-Some c =
+pub returns-in-Some-clause-same : goal.returns-in-Some-clause-same
+returns-in-Some-clause-same c =
     let fits : FitsSigned w64 c.args.deadline = search rules in
     let entries = simp to_z-of_z at c.remove.ensures.entries in
     let value = simp to_z-of_z at c.in-Some.ensures.value in

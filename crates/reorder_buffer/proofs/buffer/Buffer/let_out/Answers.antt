@@ -6,11 +6,12 @@ use Rattle.receiver_rules.specs.Seen.{moment_of}
 use Rattle.reorder_buffer.specs.State.{State}
 use Rattle.reorder_buffer.specs.Shown.{packets_of, state_of}
 use Rattle.reorder_buffer.specs.Release.{floor_then}
-use Rattle.reorder_buffer.specs.Due.{TellsFloors}
+use Rattle.reorder_buffer.specs.Due.{TellsFloors, AreSetBy}
 use Rattle.reorder_buffer.specs.Sound.{IsSound}
 use Rattle.reorder_buffer.proofs.WriteLemmas.{length_packets}
 use Rattle.reorder_buffer.proofs.ReleaseLemmas.{few_held, sound-raised}
 use Rattle.reorder_buffer.proofs.DueLemmas.{tells_raised}
+use Rattle.reorder_buffer.proofs.SetLemmas.{set_raised}
 use Rattle.reorder_buffer.proofs.buffer.Buffer.let_out.Goals as goal
 
 pub put_below-requires-clause-few : goal.put_below-requires-clause-few
@@ -29,6 +30,10 @@ invariant_of-self g c =
       due = subst (λ packets. TellsFloors c.pop_floor-floor.result c.put_below.new.due.entries packets)
           (sym c.in-Ok.ensures.rest)
           (tells_raised c.self.inside.floor c.pop_floor-floor.result c.self.inside.due.entries c.pop_floor-floor.new.due.entries c.put_below.new.due.entries (packets_of c.self.inside.held.entries) (omega (arith, c.pop_floor-floor.ensures.value)) c.pop_floor-floor.ensures.rest c.in-Ok.ensures.due c.self.invariant.due);
+      set = subst (λ packets. AreSetBy c.put_below.new.due.entries packets)
+          (sym c.in-Ok.ensures.rest)
+          (set_raised c.pop_floor-floor.result c.self.inside.due.entries c.pop_floor-floor.new.due.entries c.put_below.new.due.entries (packets_of c.self.inside.held.entries)
+          c.pop_floor-floor.ensures.fewer c.in-Ok.ensures.fewer c.in-Ok.ensures.above c.self.invariant.set);
     }
 
 pub returns-in-Ok-clause-count : goal.returns-in-Ok-clause-count

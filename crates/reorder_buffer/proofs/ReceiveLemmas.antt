@@ -1,0 +1,120 @@
+-- What is due goes out and then an arrival is judged: as one step of the history.
+use Rattle.std.proofs.Common.{◌≡◌, ◌≢◌, ℕ, ℤ, ◌≤◌, max, Bool, true, false, cond, List, ◌∷◌, Option, unwrap_or, refl, ◌∙◌, ap, map, arith}
+use Rattle.std.specs.Prelude.{Result, Err, IsErrOf}
+use Rattle.std.specs.List.{concat}
+use Rattle.outside_io.specs.Told.{Appends, AppendsPart}
+use Rattle.receiver_rules.specs.declared.verdict.Verdict.{Verdict}
+use Rattle.receiver_rules.specs.declared.limits.Limits.{Limits}
+use Rattle.receiver_rules.specs.Steps.{Arrival, Step, effective_time, media_step, time_step}
+use Rattle.receiver_rules.specs.Packets.{Packet, At, is_kept, verdict_of, placed_packet}
+use Rattle.receiver_rules.specs.Seen.{packet_at, IsPlaceOf}
+use Rattle.receiver_rules.specs.declared.place.Place.{Place}
+use Rattle.receiver_rules.specs.declared.anchor.Anchor.{Anchor}
+use Rattle.receiver_rules.specs.History.{new_anchor, anchor_of, accepted_packets, verdict, released_bytes}
+use Rattle.receiver_rules.proofs.HistoryLemmas.{played_out_arrival}
+use Rattle.reorder_buffer.specs.State.{State}
+use Rattle.reorder_buffer.specs.StateAfter.{Shows, IsStateAfter}
+use Rattle.reorder_buffer.specs.Tests.{judged, verdict_here, anchor_at, placed_at}
+use Rattle.reorder_buffer.specs.Changes.{holding, moved, taken, raised, settled}
+use Rattle.reorder_buffer.specs.Release.{floor_then, octets_below, Writes, WritesPart}
+use Rattle.reorder_buffer.specs.declared.phase.Phase.{Phase}
+use Rattle.reorder_buffer.specs.declared.phase.Phase.TheVariants.{Open, Failed}
+use Rattle.reorder_buffer.proofs.StateAfterLemmas.{Arrives, verdict_after_steps, state_after_arrival, shows_arrival, still_open}
+use Rattle.reorder_buffer.proofs.ReleaseLemmas.{timed, pass_follows, shows_pass, written_then, part_then}
+
+not_failed : (phase : Phase) → phase ≡ Open → phase ≢ Failed
+not_failed phase e f = cc
+
+-- the state at a tick, after what was due has gone out
+abbrev pub then_state : State → ℕ → State
+then_state b at = timed (raised b (floor_then b (At at))) at
+
+-- what an arrival finds
+pub record Finds (b : State) (history : List Step) (at : ℕ) : Type 0 where
+  pub state : IsStateAfter b history
+  pub running : b.phase ≡ Open
+  pub clock : b.time ≤ at
+
+arrives_then : (b : State) (history : List Step) (at : ℕ) → Finds b history at → Arrives (then_state b at) (time_step at ∷ history) at
+arrives_then b history at f = record {
+  shows = shows_pass b history at (floor_then b (At at)) f.state f.running f.clock refl;
+  live = f.running;
+  later = omega arith;
+  released = λ some. refl;
+}
+
+same_time : (at t : ℕ) → max at (max at t) ≡ max at t
+same_time at t = omega arith
+
+same_verdict : (limits : Limits) (history : List Step) (at : ℕ) (arrival : Arrival) → verdict limits (time_step at ∷ history) at arrival ≡ verdict limits history at arrival
+same_verdict limits history at arrival =
+    ap (λ t. verdict_of limits (unwrap_or (anchor_of history) (new_anchor t arrival)) (accepted_packets limits history) t arrival) (same_time at (effective_time history))
+
+pub judged_then : (b : State) (history : List Step) (at : ℕ) (arrival : Arrival) → Finds b history at → judged (then_state b at) at arrival ≡ verdict b.limits history at arrival
+judged_then b history at arrival f =
+    verdict_after_steps (then_state b at) (time_step at ∷ history) at arrival (arrives_then b history at f) ∙ same_verdict b.limits history at arrival
+
+at_now : (b : State) (history : List Step) (at : ℕ) → Finds b history at → at ≡ max at (effective_time history)
+at_now b history at f =
+    let s : Shows b history = f.state (not_failed b.phase f.running) in
+    let time = s.time in
+    let clock = f.clock in
+    omega arith
+
+pub shows_taken : (b : State) (history : List Step) (at : ℕ) (arrival : Arrival) → Finds b history at → Shows (taken (then_state b at) at arrival) (media_step at arrival ∷ history)
+shows_taken b history at arrival f =
+    shows_arrival (taken (then_state b at) at arrival) history at at arrival (at_now b history at f) (state_after_arrival (then_state b at) (time_step at ∷ history) at arrival (arrives_then b history at f))
+
+-- what is left after the packet was settled, and the time moved
+pub settled_taken : (b : State) (at : ℕ) (arrival : Arrival) (p : Packet) (v : Verdict) → v ≡ judged (then_state b at) at arrival → p ≡ placed_at b at arrival
+    → moved (settled b at v p) at (anchor_at b at arrival) ≡ taken (then_state b at) at arrival
+settled_taken b at arrival p v e same =
+    ap (λ q. moved (settled b at v q) at (anchor_at b at arrival)) same
+    ∙ by_verdict (is_kept v)
+    ∙ ap (λ w. moved (cond (is_kept w) (holding (then_state b at) (placed_at b at arrival)) (then_state b at)) at (anchor_at b at arrival)) e
+  where
+    by_verdict : (c : Bool) → moved (cond c (holding (raised b (floor_then b (At at))) (placed_at b at arrival)) (raised b (floor_then b (At at)))) at (anchor_at b at arrival)
+        ≡ moved (cond c (holding (then_state b at) (placed_at b at arrival)) (then_state b at)) at (anchor_at b at arrival)
+    by_verdict true = refl
+    by_verdict false = refl
+
+-- an arrival lets out what the tick lets out
+same_bytes : (b : State) (history : List Step) (at : ℕ) (arrival : Arrival) → Finds b history at → released_bytes b.limits (media_step at arrival ∷ history) ≡ released_bytes b.limits (time_step at ∷ history)
+same_bytes b history at arrival f =
+    ap (λ ps. concat (map (λ (p : Packet). p.payload) ps))
+    (played_out_arrival b.limits history at at arrival (still_open b history (f.state (not_failed b.phase f.running)) f.running) (at_now b history at f))
+
+pub received : (b : State) (history : List Step) (at : ℕ) (arrival : Arrival) (old new : Option (List ℕ)) → Finds b history at → Appends old new (octets_below (floor_then b (At at)) b.held)
+    → Writes old new (released_bytes b.limits history) (released_bytes b.limits (media_step at arrival ∷ history))
+received b history at arrival old new f put =
+    let w = written_then b history (time_step at) (At at) old new (pass_follows b history at f.state f.running f.clock) put in
+    (w.0, w.1, same_bytes b history at arrival f ∙ w.2)
+
+pub received_part : (b : State) (history : List Step) (at : ℕ) (arrival : Arrival) (old new : Option (List ℕ)) → Finds b history at → AppendsPart old new (octets_below (floor_then b (At at)) b.held)
+    → WritesPart old new (released_bytes b.limits history) (released_bytes b.limits (media_step at arrival ∷ history))
+received_part b history at arrival old new f put =
+    let w = part_then b history (time_step at) (At at) old new (pass_follows b history at f.state f.running f.clock) put in
+    (w.0, w.1, (w.2.0, same_bytes b history at arrival f ∙ w.2.1))
+
+-- the verdict by the parts that the code has
+pub same_judged : (b : State) (at : ℕ) (arrival : Arrival) (floor : ℕ) (a : Anchor) (number : ℕ) (deadline : ℤ) → floor ≡ floor_then b (At at) → a ≡ anchor_at b at arrival
+    → number ≡ (placed_packet b.limits a b.highest arrival).number → deadline ≡ (placed_packet b.limits a b.highest arrival).deadline
+    → verdict_here (raised b floor) a at arrival.flow number deadline ≡ judged (then_state b at) at arrival
+same_judged b at arrival floor a number deadline f is n d =
+    ap (λ k. verdict_here (raised b k) a at arrival.flow number deadline) f
+    ∙ ap (λ k. verdict_here (raised b (floor_then b (At at))) a at arrival.flow k deadline) n
+    ∙ ap (λ k. verdict_here (raised b (floor_then b (At at))) a at arrival.flow (placed_packet b.limits a b.highest arrival).number k) d
+    ∙ ap (λ k. verdict_here (raised b (floor_then b (At at))) k at arrival.flow (placed_packet b.limits k b.highest arrival).number (placed_packet b.limits k b.highest arrival).deadline) is
+
+-- the packet at a place
+pub same_packet : (b : State) (at : ℕ) (arrival : Arrival) (a : Anchor) (place : Place) → a ≡ anchor_at b at arrival → IsPlaceOf place (placed_packet b.limits a b.highest arrival) → packet_at place arrival.payload ≡ placed_at b at arrival
+same_packet b at arrival a place is p =
+    (λ i. record { number = p.number i; timestamp = p.timestamp i; deadline = p.deadline i; payload = arrival.payload })
+    ∙ ap (λ k. placed_packet b.limits k b.highest arrival) is
+
+-- an error at one type of answers is the same error at another
+pub same_err : {T U E : Type 0} (bad e : E) → IsErrOf {T = T} (Err bad) e → IsErrOf {T = U} (Err bad) e
+same_err {T = T} {E = E} bad e is = ap Err (inside is)
+  where
+    inside : ◌≡◌ {A = Result T E} (Err bad) (Err e) → bad ≡ e
+    inside p = cc
