@@ -1,0 +1,4 @@
+pub mod GoingLemmas
+pub mod EndingLemmas
+pub mod CompleteLemmas
+pub mod CopyLemmas

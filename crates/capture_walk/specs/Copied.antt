@@ -1,0 +1,6 @@
+-- What a visitor writes that copies the octets of each record.
+use Rattle.std.specs.Prelude.{ℕ, List, flat_map}
+use Rattle.capture_file.specs.Capture.{Record}
+
+abbrev pub copied : List Record → List ℕ
+copied rs = flat_map (λ (r : Record). r.octets) rs

@@ -1,0 +1,6 @@
+pub mod Writes
+pub mod Causes
+pub mod Leaves
+pub mod Turns
+pub mod Sofar
+pub mod Copied

@@ -1,0 +1,14 @@
+//! A walk over the records of a capture: each is brought to a visitor, and then the end. A contract sees what the visitor
+//! writes of the whole records that were read.
+#![tactic(auto)]
+
+pub mod laws;
+#[cfg(test)]
+mod tests;
+mod visitor;
+mod walk_bad;
+mod walking;
+
+pub use visitor::{VisitBad, Visitor};
+pub use walk_bad::WalkBad;
+pub use walking::walk;

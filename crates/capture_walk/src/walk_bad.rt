@@ -1,0 +1,32 @@
+use capture_file::{CapBad, CapKind};
+use std::fmt::{self, Display, Formatter, Write};
+
+/// Why a walk did not end after whole records.
+#[derive(Clone, Copy, Debug, PartialEq, Eq)]
+pub enum WalkBad {
+    /// Memory was refused.
+    Memory,
+    /// A read of the source failed.
+    ReadFault,
+    /// A write to the sink failed.
+    WriteFault,
+    /// No record stands at this offset, for this kind.
+    BadCapture(CapKind, u64),
+    /// A record ends past 2^40 octets.
+    TooLong,
+}
+
+impl From<CapBad> for WalkBad {
+    ghost use Rattle.std.specs.Prelude.{◌≡◌};
+    ghost use Rattle.capture_walk.specs.Leaves.{walk_bad_of};
+
+    ghost from_gives = { λ bad e. e ≡ walk_bad_of bad };
+
+    fn from(bad: CapBad) -> Self {
+        match bad {
+            CapBad::Bad(CapKind::TooLong, _) => WalkBad::TooLong,
+            CapBad::Bad(kind, at) => WalkBad::BadCapture(kind, at),
+            CapBad::ReadFault => WalkBad::ReadFault,
+        }
+    }
+}
