@@ -1,0 +1,5 @@
+pub mod PartLemmas
+pub mod SealLemmas
+pub mod CipherLemmas
+pub mod BackLemmas
+pub mod MediaLemmas

@@ -1,0 +1,114 @@
+ghost use Rattle.std.specs.Prelude.{◌≡◌, ◌≤◌, length, IfOk};
+ghost use Rattle.rist_wire.specs.Session.{IsSession};
+ghost use Rattle.rist_wire.specs.Cipher.{secret_of, secret_with};
+ghost use Rattle.rist_wire.specs.Item.{message_of, plain_of, message_at, item_of};
+
+use crate::bad::WireBad;
+use crate::item::{Item, Kind, Part};
+use crate::reading::item_in;
+use crate::session::Session;
+use crate::tunnel::tunnel_part;
+use outside_io::{Channel, NoMemory, Profile};
+use psk_keys::{Keys, Phrase};
+use std::alloc::Global;
+use std::marker::Model;
+
+/// What takes a session's datagrams: an item of each, or why it is none. A contract sees the session.
+#[derive(Drop)]
+pub struct Opener {
+    session: Session,
+    keys: Option<Keys>,
+}
+
+impl Model for Opener {
+    ghost use Rattle.std.specs.Prelude.{◌≡◌};
+    ghost use Rattle.rist_wire.specs.declared.session.Session.{Session};
+    ghost use Rattle.rist_wire.specs.Session.{IsSession};
+    ghost use Rattle.rist_wire.specs.Cipher.{secret_of, secret_with};
+
+    ghost Value = { Session };
+
+    ghost view = { λ o. o.session };
+
+    ghost invariant = { λ o. IsSession o.session × (secret_of o.keys ≡ secret_with o.session.pass o.session.bits) };
+}
+
+// Where the message of a datagram lies, which is deciphered in place where its header says so.
+#[tactic(auto, unfolding(crate::specs::Item::message_of, crate::specs::Item::plain_of))]
+fn message_part(
+    session: &Session,
+    keys: &mut Option<Keys>,
+    channel: Channel,
+    octets: &mut [u8],
+) -> Result<Part, WireBad>
+    requires session { IsSession session.now }
+    requires keys { secret_of keys.old ≡ secret_with session.now.pass session.now.bits }
+    ensures keys { secret_of keys.new ≡ secret_of keys.old }
+    ensures message { message_at octets.new result ≡ message_of session.now channel octets.old }
+    ensures within { IfOk result (λ part. part.from ≤ length octets.new) }
+    ensures octets { octets.new ≡ plain_of session.now channel octets.old }
+{
+    match (session.profile, channel) {
+        (Profile::Simple, Channel::Media) => Ok(Part {
+            kind: Kind::Media,
+            from: 0,
+        }),
+        (Profile::Simple, Channel::Control) => Ok(Part {
+            kind: Kind::Control,
+            from: 0,
+        }),
+        (Profile::Main, Channel::Tunnel) => tunnel_part(session, keys, octets),
+        (Profile::Simple, Channel::Tunnel) => Err(WireBad::Channel),
+        (Profile::Main, Channel::Media) => Err(WireBad::Channel),
+        (Profile::Main, Channel::Control) => Err(WireBad::Channel),
+    }
+}
+
+// The keys of a session with a passphrase.
+fn keys_of(alloc: Global, session: &Session) -> Result<Option<Keys>, NoMemory>
+    requires session { IsSession session.now }
+    ensures keys { IfOk result (λ keys. secret_of keys ≡ secret_with session.now.pass session.now.bits) }
+{
+    match &session.pass {
+        Some(pass) => Ok(Some(Keys::with(alloc, Phrase::of(pass.octets()), session.bits)?)),
+        None => Ok(None),
+    }
+}
+
+impl Opener {
+    /// An opener of the session's datagrams.
+    pub fn with(alloc: Global, session: &Session) -> Result<Opener, NoMemory>
+        requires session { IsSession session.now }
+        ensures ok { IfOk result (λ opener. opener ≡ session.now) }
+    {
+        let keys = keys_of(alloc, session)?;
+        Ok(Opener {
+            session: session.copied(),
+            keys,
+        })
+    }
+
+    // Deciphers a datagram in place, exactly where its header is read with a key in a session with a
+    // passphrase, and says where its message lies.
+    fn open(&mut self, channel: Channel, octets: &mut [u8]) -> Result<Part, WireBad>
+        ensures message { message_at octets.new result ≡ message_of self.old channel octets.old }
+        ensures within { IfOk result (λ part. part.from ≤ length octets.new) }
+        ensures octets { octets.new ≡ plain_of self.old channel octets.old }
+        ensures same { self.new ≡ self.old }
+    {
+        message_part(&self.session, &mut self.keys, channel, octets)
+    }
+
+    /// Takes a datagram: its item, or the first test that fails. It is deciphered in place exactly where its
+    /// GRE header is read with a key in a session with a passphrase, also if a later test fails.
+    #[tactic(auto, unfolding(crate::specs::Item::item_of))]
+    pub fn take<'a>(&mut self, channel: Channel, octets: &'a mut [u8]) -> Result<Item<'a>, WireBad>
+        ensures value { result ≡ item_of self.old channel octets.entry.now }
+        ensures same { self.new ≡ self.old }
+    {
+        match self.open(channel, octets) {
+            Ok(part) => item_in(part.kind, &octets[part.from..]),
+            Err(bad) => Err(bad),
+        }
+    }
+}

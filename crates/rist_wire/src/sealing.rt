@@ -1,0 +1,202 @@
+// The Main Profile's tunnel: datagrams around messages.
+ghost use Rattle.std.specs.Prelude.{◌≡◌, ◌+◌, ◌≤◌, ◌⊎◌, ◌++◌, ◌&&◌, ◌==◌, ◌^◌, ◌<◌, length, take, drop, is_some, IfSome};
+ghost use Rattle.std.specs.Int.{w16, to_be_bytes};
+ghost use Rattle.outside_io.specs.declared.profile.Profile.TheVariants.{Simple, Main};
+ghost use Rattle.rist_wire.specs.declared.item.Kind.TheVariants.{Keepalive as KeepaliveKind};
+ghost use Rattle.rist_wire.specs.Session.{IsSession};
+ghost use Rattle.rist_wire.specs.Cipher.{key_by};
+ghost use Rattle.rist_wire.specs.Writing.{IsPair, IsDatagram, nonce_of, sequence_of, protocol_for, is_long, header_for, header_octets, ports_octets, text_for, sealed_text, tunnel_octets, channel_on, channel_of, datagram_of};
+
+use crate::cipher::cipher_under;
+use crate::item::Kind;
+use crate::session::Session;
+use aes_block::Aes;
+use gre_tunnel::{DATAGRAM, KEEPALIVE};
+use outside_io::{Channel, Profile};
+use psk_seal::Pair;
+
+/// The key field of the header of a datagram under this pair.
+pub(crate) fn nonce_of(pair: Option<Pair>) -> Option<u32>
+    ensures value { result ≡ nonce_of pair }
+    ensures fits { IfSome result (λ n. n < 2 ^ 32) }
+{
+    match pair {
+        Some(pair) => Some(pair.nonce),
+        None => None,
+    }
+}
+
+fn sequence_of(pair: Option<Pair>) -> Option<u32>
+    ensures value { result ≡ sequence_of pair }
+    ensures fits { IfSome result (λ n. n < 2 ^ 32) }
+{
+    match pair {
+        Some(pair) => Some(pair.sequence),
+        None => None,
+    }
+}
+
+fn protocol_for(kind: Kind) -> u16
+    ensures value { result ≡ protocol_for kind }
+{
+    match kind {
+        Kind::Media => DATAGRAM,
+        Kind::Control => DATAGRAM,
+        Kind::Keepalive => KEEPALIVE,
+    }
+}
+
+// Copies a part to its place, and says where it ends.
+fn put(out: &mut [u8], at: usize, part: &[u8]) -> usize
+    requires room { at + length part.now ≤ length out.old }
+    ensures end { result ≡ at + length part.now }
+    ensures octets { take result out.new ≡ take at out.old ++ part.now }
+{
+    let end = at + part.len();
+    out[at..end].copy_from_slice(part);
+    end
+}
+
+// Writes the header of a datagram at the front, and says where it ends.
+fn put_header(bits: u16, pair: Option<Pair>, kind: Kind, out: &mut [u8; 2048]) -> usize
+    ensures fits { IsPair pair }
+    ensures octets { take result out.new ≡ header_octets bits pair kind }
+    ensures within { result ≤ 12 }
+{
+    let mut header = [0; 12];
+    let nonce = nonce_of(pair);
+    let sequence = sequence_of(pair);
+    let end = gre_tunnel::write(
+        nonce,
+        sequence,
+        pair.is_some() && bits == 256,
+        protocol_for(kind),
+        &mut header,
+    );
+    put(out, 0, &header[..end])
+}
+
+fn put_ports(out: &mut [u8; 2048], at: usize, port: u16) -> usize
+    requires room { at + 4 ≤ 2048 }
+    ensures end { result ≡ at + 4 }
+    ensures octets { take result out.new ≡ take at out.old ++ ports_octets port }
+{
+    let at = put(out, at, &port.to_be_bytes());
+    put(out, at, &port.to_be_bytes())
+}
+
+// Writes a text behind what is there, and says where it ends.
+fn put_text(out: &mut [u8; 2048], at: usize, port: u16, kind: Kind, message: &[u8]) -> usize
+    requires room { at + 4 + length message.now ≤ 2048 }
+    requires port { port ≤ 65534 }
+    ensures within { result ≤ at + 4 + length message.now }
+    ensures after { at ≤ result }
+    ensures octets { take result out.new ≡ take at out.old ++ text_for port kind message.now }
+{
+    let at = match kind {
+        Kind::Media => put_ports(out, at, port),
+        Kind::Control => put_ports(out, at, port + 1),
+        Kind::Keepalive => at,
+    };
+    put(out, at, message)
+}
+
+// Enciphers what stands between two places.
+fn seal(
+    session: &Session,
+    key: &Option<Aes>,
+    pair: Option<Pair>,
+    out: &mut [u8; 2048],
+    from: usize,
+    end: usize,
+)
+    requires derived { key.now ≡ key_by session.now.pass session.now.bits (nonce_of pair) }
+    requires order { from ≤ end }
+    requires within { end ≤ 2048 }
+    ensures octets { take end out.new
+        ≡ take from out.old ++ sealed_text session.now pair (drop from (take end out.old)) }
+{
+    cipher_under(key, sequence_of(pair), &mut out[from..end]);
+}
+
+// Writes the datagram of a message in the tunnel at the front of a block, and says how many octets it has.
+fn put_tunnel(
+    session: &Session,
+    key: &Option<Aes>,
+    pair: Option<Pair>,
+    kind: Kind,
+    message: &[u8],
+    out: &mut [u8; 2048],
+) -> usize
+    requires session { IsSession session.now }
+    requires derived { key.now ≡ key_by session.now.pass session.now.bits (nonce_of pair) }
+    requires room { length message.now ≤ 2032 }
+    ensures fits { IsPair pair }
+    ensures octets { take result out.new ≡ tunnel_octets session.now pair kind message.now }
+    ensures within { result ≤ length message.now + 16 }
+{
+    let from = put_header(session.bits, pair, kind, out);
+    let end = put_text(out, from, session.port, kind, message);
+    seal(session, key, pair, out, from, end);
+    end
+}
+
+fn put_simple(kind: Kind, message: &[u8], out: &mut [u8; 2048]) -> (Channel, usize)
+    requires room { length message.now ≤ 2032 }
+    ensures channel { result.0 ≡ channel_on Simple kind }
+    ensures octets { take result.1 out.new ≡ message.now }
+    ensures within { result.1 ≤ length message.now + 16 }
+{
+    let channel = match kind {
+        Kind::Media => Channel::Media,
+        Kind::Control => Channel::Control,
+        Kind::Keepalive => Channel::Tunnel,
+    };
+    (channel, put(out, 0, message))
+}
+
+fn put_on(
+    session: &Session,
+    key: &Option<Aes>,
+    pair: Option<Pair>,
+    kind: Kind,
+    message: &[u8],
+    out: &mut [u8; 2048],
+) -> (Channel, usize)
+    requires session { IsSession session.now }
+    requires derived { key.now ≡ key_by session.now.pass session.now.bits (nonce_of pair) }
+    requires room { length message.now ≤ 2032 }
+    ensures channel { result.0 ≡ channel_of session.now kind }
+    ensures octets { take result.1 out.new ≡ datagram_of session.now pair kind message.now }
+    ensures fits { session.now.profile ≡ Main → IsPair pair }
+    ensures within { result.1 ≤ length message.now + 16 }
+{
+    match session.profile {
+        Profile::Simple => put_simple(kind, message, out),
+        Profile::Main => (
+            Channel::Tunnel,
+            put_tunnel(session, key, pair, kind, message, out),
+        ),
+    }
+}
+
+/// Writes the datagram of a message at the front of a block, and says on which channel it goes and how many
+/// octets it has.
+pub(crate) fn put_datagram(
+    session: &Session,
+    key: &Option<Aes>,
+    pair: Option<Pair>,
+    kind: Kind,
+    message: &[u8],
+    out: &mut [u8; 2048],
+) -> (Channel, usize)
+    requires session { IsSession session.now }
+    requires derived { key.now ≡ key_by session.now.pass session.now.bits (nonce_of pair) }
+    requires paired { session.now.profile ≡ Main → is_some pair ≡ is_some session.now.pass }
+    requires tunnel { kind ≡ KeepaliveKind → session.now.profile ≡ Main }
+    requires room { length message.now ≤ 2032 }
+    ensures datagram { IsDatagram session.now pair kind message.now result.0 (take result.1 out.new) }
+    ensures within { result.1 ≤ length message.now + 16 }
+{
+    put_on(session, key, pair, kind, message, out)
+}

@@ -1,0 +1,39 @@
+use outside_io::Profile;
+use psk_keys::Phrase;
+use seq_unwrap::Width;
+
+/// What both ends of a session know of its datagrams.
+#[derive(Drop)]
+pub struct Session {
+    pub profile: Profile,
+    /// The virtual port of media in the tunnel: even, 2 to 65,534. The next one is control's.
+    pub port: u16,
+    /// The passphrase, where datagrams are enciphered.
+    pub pass: Option<Phrase>,
+    /// The bits of a key: 128 or 256.
+    pub bits: u16,
+    /// Whether null packets are deleted where datagrams are written.
+    pub nulls: bool,
+    /// How many bits of a number are written.
+    pub width: Width,
+}
+
+impl Session {
+    ghost use Rattle.std.specs.Prelude.{◌≡◌};
+
+    pub(crate) fn copied(&self) -> Session
+        ensures value { result ≡ self.now }
+    {
+        Session {
+            profile: self.profile,
+            port: self.port,
+            pass: match &self.pass {
+                Some(pass) => Some(Phrase::of(pass.octets())),
+                None => None,
+            },
+            bits: self.bits,
+            nulls: self.nulls,
+            width: self.width,
+        }
+    }
+}

@@ -1,0 +1,112 @@
+// The Main Profile's tunnel: where the message of a datagram lies, and its text as plain text.
+ghost use Rattle.std.specs.Prelude.{◌≡◌, ◌⊎◌, ◌+◌, ◌≤◌, ◌<◌, length, take, drop, is_some, IfOk, OnOk};
+ghost use Rattle.std.specs.Int.{w16, from_be_bytes};
+ghost use Rattle.gre_tunnel.specs.Reading.{reading_of as gre_reading_of};
+ghost use Rattle.rist_wire.specs.Session.{IsSession};
+ghost use Rattle.rist_wire.specs.Cipher.{secret_of, secret_with};
+ghost use Rattle.rist_wire.specs.Item.{text_in, destination_of, datagram_kind, datagram_message, text_message, cipher_fault, tunnel_message, plain_datagram, message_at, refused_or};
+
+use crate::bad::WireBad;
+use crate::cipher::{cipher_under, key_under};
+use crate::item::{Kind, Part};
+use crate::session::Session;
+use gre_tunnel::{Gre, KEEPALIVE};
+use psk_keys::Keys;
+
+// Whether the header may stand in a datagram of the session.
+fn cipher_fault(session: &Session, gre: &Gre) -> Option<WireBad>
+    ensures value { result ≡ cipher_fault session.now gre.now }
+{
+    let sealed = gre.key.is_some();
+    let passes = session.pass.is_some();
+    if sealed && !passes {
+        return Some(WireBad::Sealed);
+    }
+    if gre.protocol != KEEPALIVE && !sealed && passes {
+        return Some(WireBad::Clear);
+    }
+    None
+}
+
+// The destination of a text, behind the source port.
+fn destination_of(text: &[u8]) -> u16
+    requires { 4 ≤ length text.now }
+    ensures { result ≡ destination_of text.now }
+{
+    u16::from_be_bytes([text[2], text[3]])
+}
+
+// What the destination of a text says that it is.
+fn datagram_kind(port: u16, text: &[u8]) -> Result<Kind, WireBad>
+    requires port { port ≤ 65534 }
+    ensures value { result ≡ datagram_kind port text.now }
+    ensures long { OnOk result (4 ≤ length text.now) }
+{
+    if text.len() < 4 {
+        return Err(WireBad::Stub);
+    }
+    let destination = destination_of(text);
+    if destination == port {
+        return Ok(Kind::Media);
+    }
+    if destination == port + 1 {
+        return Ok(Kind::Control);
+    }
+    Err(WireBad::Port)
+}
+
+// The message of a text that begins at a place of the datagram.
+fn datagram_part(port: u16, from: usize, octets: &[u8]) -> Result<Part, WireBad>
+    requires port { port ≤ 65534 }
+    requires within { from ≤ length octets.now }
+    ensures message { message_at octets.now result ≡ datagram_message port (drop from octets.now) }
+    ensures within { IfOk result (λ part. part.from ≤ length octets.now) }
+{
+    match datagram_kind(port, &octets[from..]) {
+        Ok(kind) => Ok(Part {
+            kind,
+            from: from + 4,
+        }),
+        Err(bad) => Err(bad),
+    }
+}
+
+fn text_part(port: u16, gre: &Gre, octets: &[u8]) -> Result<Part, WireBad>
+    requires port { port ≤ 65534 }
+    requires within { gre.now.rest ≤ length octets.now }
+    ensures message { message_at octets.now result ≡ text_message port gre.now.protocol (drop gre.now.rest octets.now) }
+    ensures within { IfOk result (λ part. part.from ≤ length octets.now) }
+{
+    if gre.protocol == KEEPALIVE {
+        return Ok(Part {
+            kind: Kind::Keepalive,
+            from: gre.rest,
+        });
+    }
+    datagram_part(port, gre.rest, octets)
+}
+
+/// Deciphers a datagram of the tunnel in place where its header says so, and says where its message lies.
+pub(crate) fn tunnel_part(
+    session: &Session,
+    keys: &mut Option<Keys>,
+    octets: &mut [u8],
+) -> Result<Part, WireBad>
+    requires session { IsSession session.now }
+    requires keys { secret_of keys.old ≡ secret_with session.now.pass session.now.bits }
+    ensures keys { secret_of keys.new ≡ secret_of keys.old }
+    ensures message { message_at octets.new result ≡ tunnel_message session.now octets.old (gre_reading_of octets.old) }
+    ensures within { IfOk result (λ part. part.from ≤ length octets.new) }
+    ensures octets { octets.new ≡ plain_datagram session.now octets.old (gre_reading_of octets.old) }
+{
+    let gre = match Gre::read(octets) {
+        Ok(gre) => gre,
+        Err(bad) => return Err(WireBad::Gre(bad)),
+    };
+    let key = key_under(keys, gre.key);
+    cipher_under(&key, gre.sequence, &mut octets[gre.rest..]);
+    match cipher_fault(session, &gre) {
+        Some(bad) => Err(bad),
+        None => text_part(session.port, &gre, octets),
+    }
+}
