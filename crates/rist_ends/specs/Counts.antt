@@ -1,0 +1,94 @@
+-- How many arrivals of a history had each verdict.
+use Rattle.std.specs.Prelude.{◌≡◌, ℕ, ◌+◌, ◌-◌, ◌^◌, min, List, [], ◌∷◌, ◌==◌, if◌then◌else◌, Option, None, Some}
+use Rattle.receiver_rules.specs.declared.verdict.Verdict.{Verdict}
+use Rattle.receiver_rules.specs.declared.verdict.Verdict.TheVariants as verdicts
+use Rattle.receiver_rules.specs.declared.limits.Limits.{Limits}
+use Rattle.receiver_rules.specs.History.{verdict}
+use Rattle.receiver_rules.specs.ReceiverSteps.{Input, Media, Control, Keepalive, Refused, Tick, End, ReceiverStep, buffer_history}
+use Rattle.rist_ends.specs.declared.counts.Counts.{Counts}
+use Rattle.rist_ends.specs.declared.told.What.{What}
+use Rattle.rist_ends.specs.Told.{input_of}
+
+-- the number of a verdict: 0 for a packet that is kept, else the place of its test
+abbrev pub verdict_number : Verdict → ℕ
+verdict_number verdicts.Kept = 0
+verdict_number verdicts.Stranger = 1
+verdict_number verdicts.Exhausted = 2
+verdict_number verdicts.Late = 3
+verdict_number verdicts.Behind = 4
+verdict_number verdicts.Early = 5
+verdict_number verdicts.Twice = 6
+verdict_number verdicts.Span = 7
+
+-- one where a verdict has this number
+abbrev pub is_of : ℕ → Verdict → ℕ
+is_of number v = if verdict_number v == number then 1 else 0
+
+-- one where a step brings a media packet with this verdict
+abbrev pub counted_verdict : ℕ → Limits → List ReceiverStep → ℕ → Input → ℕ
+counted_verdict number limits before tick (Media arrival) = is_of number (verdict limits (buffer_history before) tick arrival)
+counted_verdict number limits before tick Control = 0
+counted_verdict number limits before tick Keepalive = 0
+counted_verdict number limits before tick Refused = 0
+counted_verdict number limits before tick Tick = 0
+counted_verdict number limits before tick End = 0
+
+-- how many media packets of a history had the verdict of this number
+abbrev pub verdict_count : ℕ → Limits → List ReceiverStep → ℕ
+verdict_count number limits [] = 0
+verdict_count number limits (step ∷ before) = verdict_count number limits before + counted_verdict number limits before step.tick step.input
+
+-- one where a step is of an item that was refused
+abbrev pub counted_refusal : Input → ℕ
+counted_refusal (Media arrival) = 0
+counted_refusal Control = 0
+counted_refusal Keepalive = 0
+counted_refusal Refused = 1
+counted_refusal Tick = 0
+counted_refusal End = 0
+
+-- how many items of a history were refused
+abbrev pub refused_count : List ReceiverStep → ℕ
+refused_count [] = 0
+refused_count (step ∷ before) = refused_count before + counted_refusal step.input
+
+-- a count stays at its greatest value
+abbrev pub capped : ℕ → ℕ
+capped n = min n (2 ^ 64 - 1)
+
+-- the counts are those of a history
+pub record AreCountsOf (c : Counts) (limits : Limits) (history : List ReceiverStep) : Type 0 where
+  pub kept : c.kept ≡ capped (verdict_count 0 limits history)
+  pub stranger : c.stranger ≡ capped (verdict_count 1 limits history)
+  pub exhausted : c.exhausted ≡ capped (verdict_count 2 limits history)
+  pub late : c.late ≡ capped (verdict_count 3 limits history)
+  pub behind : c.behind ≡ capped (verdict_count 4 limits history)
+  pub early : c.early ≡ capped (verdict_count 5 limits history)
+  pub twice : c.twice ≡ capped (verdict_count 6 limits history)
+  pub span : c.span ≡ capped (verdict_count 7 limits history)
+  pub refused : c.refused ≡ capped (refused_count history)
+
+-- ---- one more
+
+abbrev pub no_counts : Counts
+no_counts = record { kept = 0; stranger = 0; exhausted = 0; late = 0; behind = 0; early = 0; twice = 0; span = 0; refused = 0 }
+
+-- the counts after one more verdict
+abbrev pub one_more : Verdict → Counts → Counts
+one_more verdicts.Kept c = record c { kept = capped (c.kept + 1) }
+one_more verdicts.Stranger c = record c { stranger = capped (c.stranger + 1) }
+one_more verdicts.Exhausted c = record c { exhausted = capped (c.exhausted + 1) }
+one_more verdicts.Late c = record c { late = capped (c.late + 1) }
+one_more verdicts.Behind c = record c { behind = capped (c.behind + 1) }
+one_more verdicts.Early c = record c { early = capped (c.early + 1) }
+one_more verdicts.Twice c = record c { twice = capped (c.twice + 1) }
+one_more verdicts.Span c = record c { span = capped (c.span + 1) }
+
+-- the counts after one more refusal
+abbrev pub one_refused : Counts → Counts
+one_refused c = record c { refused = capped (c.refused + 1) }
+
+-- the counts after one more step
+abbrev pub counts_with : Option Verdict → What → Counts → Counts
+counts_with (Some v) what c = one_more v c
+counts_with None what c = record c { refused = capped (c.refused + counted_refusal (input_of what)) }

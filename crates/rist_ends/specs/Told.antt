@@ -1,0 +1,54 @@
+-- What a receiver is told, as a step of its history.
+use Rattle.std.specs.Prelude.{ℕ, ◌<◌}
+use Rattle.seq_unwrap.specs.Nearest.{cycle_of}
+use Rattle.receiver_rules.specs.Steps.{Step, tick_of}
+use Rattle.receiver_rules.specs.Steps as buffer
+use Rattle.receiver_rules.specs.Seen.{seen}
+use Rattle.receiver_rules.specs.ReceiverSteps.{Input, ReceiverStep}
+use Rattle.receiver_rules.specs.ReceiverSteps as inputs
+use Rattle.reorder_buffer.specs.declared.phase.Phase.{Phase}
+use Rattle.reorder_buffer.specs.declared.phase.Phase.TheVariants.{Open, Ended}
+use Rattle.rist_ends.specs.declared.told.Told.{Told}
+use Rattle.rist_ends.specs.declared.told.What.{What}
+use Rattle.rist_ends.specs.declared.told.What.TheVariants.{Media, Control, Keepalive, Refused, Tick, End}
+
+abbrev pub input_of : What → Input
+input_of (Media arrival) = inputs.Media (seen arrival)
+input_of Control = inputs.Control
+input_of Keepalive = inputs.Keepalive
+input_of Refused = inputs.Refused
+input_of Tick = inputs.Tick
+input_of End = inputs.End
+
+abbrev pub step_of : Told → ReceiverStep
+step_of told = record { link = told.link; tick = tick_of told.us; input = input_of told.what }
+
+-- a word is one of its width
+abbrev pub IsFitWhat : What → Type 0
+IsFitWhat (Media arrival) = arrival.word < cycle_of arrival.width
+IsFitWhat Control = Unit {0}
+IsFitWhat Keepalive = Unit {0}
+IsFitWhat Refused = Unit {0}
+IsFitWhat Tick = Unit {0}
+IsFitWhat End = Unit {0}
+
+-- there are at most sixteen links
+pub record IsFit (told : Told) : Type 0 where
+  pub link : told.link < 16
+  pub word : IsFitWhat told.what
+
+-- an end ends the receiver, and nothing else does
+abbrev pub phase_after : What → Phase
+phase_after (Media arrival) = Open
+phase_after Control = Open
+phase_after Keepalive = Open
+phase_after Refused = Open
+phase_after Tick = Open
+phase_after End = Ended
+
+abbrev pub ended_at : Told → Phase
+ended_at told = phase_after told.what
+
+-- the end of the stream, as the buffer sees it
+abbrev pub end_at : ℕ → Step
+end_at tick = record { tick = tick; event = buffer.End }

@@ -1,0 +1,70 @@
+ghost use Rattle.std.specs.Prelude.{◌≡◌, ◌+◌};
+ghost use Rattle.rist_ends.specs.Counts.{capped};
+
+use receiver_rules::Verdict;
+
+/// How many media packets had each verdict, and how many items were refused. Each count stays at its greatest value.
+#[derive(Clone, Copy, Debug, Default, PartialEq, Eq)]
+pub struct Counts {
+    pub kept: u64,
+    pub stranger: u64,
+    pub exhausted: u64,
+    pub late: u64,
+    pub behind: u64,
+    pub early: u64,
+    pub twice: u64,
+    pub span: u64,
+    /// Items that were refused.
+    pub refused: u64,
+}
+
+impl Counts {
+    ghost use Rattle.std.specs.Prelude.{◌≡◌};
+    ghost use Rattle.rist_ends.specs.Counts.{no_counts, one_more, one_refused};
+
+    pub(crate) fn none() -> Counts
+        ensures value { result ≡ no_counts }
+    {
+        Counts {
+            kept: 0,
+            stranger: 0,
+            exhausted: 0,
+            late: 0,
+            behind: 0,
+            early: 0,
+            twice: 0,
+            span: 0,
+            refused: 0,
+        }
+    }
+
+    /// Counts a verdict.
+    pub(crate) fn add(&mut self, verdict: Verdict)
+        ensures value { self.new ≡ one_more verdict self.old }
+    {
+        match verdict {
+            Verdict::Kept => raise(&mut self.kept),
+            Verdict::Stranger => raise(&mut self.stranger),
+            Verdict::Exhausted => raise(&mut self.exhausted),
+            Verdict::Late => raise(&mut self.late),
+            Verdict::Behind => raise(&mut self.behind),
+            Verdict::Early => raise(&mut self.early),
+            Verdict::Twice => raise(&mut self.twice),
+            Verdict::Span => raise(&mut self.span),
+        }
+    }
+
+    /// Counts an item that was refused.
+    pub(crate) fn refuse(&mut self)
+        ensures value { self.new ≡ one_refused self.old }
+    {
+        raise(&mut self.refused);
+    }
+}
+
+/// One more, up to the greatest value.
+fn raise(count: &mut u64)
+    ensures value { count.new ≡ capped (count.old + 1) }
+{
+    *count = count.saturating_add(1);
+}

@@ -1,0 +1,18 @@
+//! The two ends of a flow, as pure steps. A receiver is told the items of datagrams, ticks of its clock and the end, each
+//! on a link and at a moment, and writes what is played out. A contract sees the history of its steps.
+#![tactic(auto)]
+
+mod counts;
+mod outcome;
+mod receiver;
+mod settings;
+mod stepping;
+#[cfg(test)]
+mod tests;
+mod told;
+
+pub use counts::Counts;
+pub use outcome::Outcome;
+pub use receiver::Receiver;
+pub use settings::Settings;
+pub use told::{Told, What};

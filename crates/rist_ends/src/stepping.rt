@@ -1,0 +1,161 @@
+//! A receiver's steps on its buffer: at each first what is due is written, and then comes the event.
+ghost use Rattle.std.specs.Prelude.{◌≡◌, ◌<◌, ◌^◌, ◌∷◌, List, Some, None, IfOk, OnOk, IsErrOf};
+ghost use Rattle.seq_unwrap.specs.Nearest.{cycle_of};
+ghost use Rattle.receiver_rules.specs.Steps.{Step, media_step, time_step, tick_of};
+ghost use Rattle.receiver_rules.specs.History.{verdict, released_bytes};
+ghost use Rattle.receiver_rules.specs.ReceiverSteps.{buffer_step};
+ghost use Rattle.receiver_rules.specs.Seen.{seen};
+ghost use Rattle.reorder_buffer.specs.StateAfter.{IsStateAfter};
+ghost use Rattle.reorder_buffer.specs.Release.{Writes, WritesPart};
+ghost use Rattle.reorder_buffer.specs.declared.phase.Phase.TheVariants.{Open, Ended, Failed};
+ghost use Rattle.rist_ends.specs.Told.{IsFit, input_of, step_of, ended_at, end_at};
+ghost use Rattle.rist_ends.specs.Outcome.{IsSilent};
+ghost use Rattle.rist_ends.specs.Stepping.{HasStepCause, IsMoved, SaysVerdict};
+ghost use Rattle.rist_ends.specs.declared.stepping.StepBad.TheVariants.{WriteFault, Memory};
+
+use crate::told::{Told, What};
+use outside_io::Sink;
+use receiver_rules::{Arrival, Verdict, tick_of};
+use reorder_buffer::{Buffer, ReceiveBad};
+use std::alloc::Global;
+
+/// Why a step was not made.
+#[derive(Clone, Copy, Debug, PartialEq, Eq)]
+pub enum StepBad {
+    /// A write failed, and the buffer has ended.
+    WriteFault,
+    /// Memory was refused, and nothing changed.
+    Memory,
+}
+
+/// A step that was made: the effective time then, and the verdict on a media packet.
+#[derive(Clone, Copy)]
+pub struct Stepped {
+    pub at: u64,
+    pub verdict: Option<Verdict>,
+}
+
+/// Makes the step of what is told.
+pub fn step_buffer<K: Sink>(
+    alloc: Global,
+    buffer: &mut Buffer,
+    now: u64,
+    told: &Told<'_>,
+    sink: &mut K,
+) -> Result<Stepped, StepBad>
+    requires running { buffer.old.phase ≡ Open }
+    requires clock { buffer.old.time ≡ now }
+    requires tick { now < 2 ^ 61 }
+    requires fits { IsFit told.now }
+    ensures moved { IfOk result (λ s. IsMoved buffer.old buffer.new s.at (ended_at told.now)) }
+    ensures verdict { IfOk result (λ s. (history : List Step) → IsStateAfter buffer.old history → SaysVerdict s.verdict buffer.old.limits history (step_of told.now)) }
+    ensures state { OnOk result ((history : List Step) → IsStateAfter buffer.old history → IsStateAfter buffer.new (buffer_step (step_of told.now) ∷ history)) }
+    ensures sink { OnOk result ((history : List Step) → IsStateAfter buffer.old history → Writes (K.contents sink.old) (K.contents sink.new) (released_bytes buffer.old.limits history) (released_bytes buffer.old.limits (buffer_step (step_of told.now) ∷ history))) }
+    ensures limits { buffer.new.limits ≡ buffer.old.limits }
+    ensures failed { IsErrOf result WriteFault → buffer.new.phase ≡ Failed }
+    ensures part { IsErrOf result WriteFault → (history : List Step) → IsStateAfter buffer.old history → WritesPart (K.contents sink.old) (K.contents sink.new) (released_bytes buffer.old.limits history) (released_bytes buffer.old.limits (buffer_step (step_of told.now) ∷ history)) }
+    ensures same { IsErrOf result Memory → (buffer.new ≡ buffer.old) × (sink.new ≡ sink.old) }
+    ensures memory { IsErrOf result Memory → IsSilent (input_of told.now.what) → ⊥ }
+    ensures cause { HasStepCause (K.faults sink.old) (K.faults sink.new) result }
+{
+    let tick = tick_of(told.us);
+    match &told.what {
+        What::Media(arrival) => step_media(alloc, buffer, now, tick, arrival, sink),
+        What::End => step_end(buffer, now, tick, sink),
+        What::Control | What::Keepalive | What::Refused | What::Tick => {
+            step_time(buffer, now, tick, sink)
+        }
+    }
+}
+
+/// A step with a media packet.
+fn step_media<K: Sink>(
+    alloc: Global,
+    buffer: &mut Buffer,
+    now: u64,
+    tick: u64,
+    arrival: &Arrival<'_>,
+    sink: &mut K,
+) -> Result<Stepped, StepBad>
+    requires running { buffer.old.phase ≡ Open }
+    requires clock { buffer.old.time ≡ now }
+    requires tick { (now < 2 ^ 61) × (tick < 2 ^ 61) }
+    requires word { arrival.now.word < cycle_of arrival.now.width }
+    ensures moved { IfOk result (λ s. IsMoved buffer.old buffer.new s.at Open) }
+    ensures verdict { IfOk result (λ s. (history : List Step) → IsStateAfter buffer.old history → s.verdict ≡ Some (verdict buffer.old.limits history tick (seen arrival.now))) }
+    ensures state { OnOk result ((history : List Step) → IsStateAfter buffer.old history → IsStateAfter buffer.new (media_step tick (seen arrival.now) ∷ history)) }
+    ensures sink { OnOk result ((history : List Step) → IsStateAfter buffer.old history → Writes (K.contents sink.old) (K.contents sink.new) (released_bytes buffer.old.limits history) (released_bytes buffer.old.limits (media_step tick (seen arrival.now) ∷ history))) }
+    ensures limits { buffer.new.limits ≡ buffer.old.limits }
+    ensures failed { IsErrOf result WriteFault → buffer.new.phase ≡ Failed }
+    ensures part { IsErrOf result WriteFault → (history : List Step) → IsStateAfter buffer.old history → WritesPart (K.contents sink.old) (K.contents sink.new) (released_bytes buffer.old.limits history) (released_bytes buffer.old.limits (media_step tick (seen arrival.now) ∷ history)) }
+    ensures same { IsErrOf result Memory → (buffer.new ≡ buffer.old) × (sink.new ≡ sink.old) }
+    ensures cause { HasStepCause (K.faults sink.old) (K.faults sink.new) result }
+{
+    let at = now.max(tick);
+    match buffer.receive(alloc, at, arrival, sink) {
+        Ok(verdict) => Ok(Stepped {
+            at,
+            verdict: Some(verdict),
+        }),
+        Err(ReceiveBad::WriteFault) => Err(StepBad::WriteFault),
+        Err(ReceiveBad::NoMemory) => Err(StepBad::Memory),
+    }
+}
+
+/// A step with which only time passes.
+fn step_time<K: Sink>(
+    buffer: &mut Buffer,
+    now: u64,
+    tick: u64,
+    sink: &mut K,
+) -> Result<Stepped, StepBad>
+    requires running { buffer.old.phase ≡ Open }
+    requires clock { buffer.old.time ≡ now }
+    requires tick { (now < 2 ^ 61) × (tick < 2 ^ 61) }
+    ensures moved { IfOk result (λ s. IsMoved buffer.old buffer.new s.at Open) }
+    ensures silent { IfOk result (λ s. s.verdict ≡ None) }
+    ensures state { OnOk result ((history : List Step) → IsStateAfter buffer.old history → IsStateAfter buffer.new (time_step tick ∷ history)) }
+    ensures sink { OnOk result ((history : List Step) → IsStateAfter buffer.old history → Writes (K.contents sink.old) (K.contents sink.new) (released_bytes buffer.old.limits history) (released_bytes buffer.old.limits (time_step tick ∷ history))) }
+    ensures limits { buffer.new.limits ≡ buffer.old.limits }
+    ensures failed { IsErrOf result WriteFault → buffer.new.phase ≡ Failed }
+    ensures part { IsErrOf result WriteFault → (history : List Step) → IsStateAfter buffer.old history → WritesPart (K.contents sink.old) (K.contents sink.new) (released_bytes buffer.old.limits history) (released_bytes buffer.old.limits (time_step tick ∷ history)) }
+    ensures some { IsErrOf result Memory → ⊥ }
+    ensures cause { HasStepCause (K.faults sink.old) (K.faults sink.new) result }
+{
+    let at = now.max(tick);
+    match buffer.release(at, sink) {
+        Ok(_) => Ok(Stepped { at, verdict: None }),
+        Err(_) => Err(StepBad::WriteFault),
+    }
+}
+
+/// A step that ends the stream: what is due at its moment goes out, and then all that waits.
+fn step_end<K: Sink>(
+    buffer: &mut Buffer,
+    now: u64,
+    tick: u64,
+    sink: &mut K,
+) -> Result<Stepped, StepBad>
+    requires running { buffer.old.phase ≡ Open }
+    requires clock { buffer.old.time ≡ now }
+    requires tick { (now < 2 ^ 61) × (tick < 2 ^ 61) }
+    ensures moved { IfOk result (λ s. IsMoved buffer.old buffer.new s.at Ended) }
+    ensures silent { IfOk result (λ s. s.verdict ≡ None) }
+    ensures state { OnOk result ((history : List Step) → IsStateAfter buffer.old history → IsStateAfter buffer.new (end_at tick ∷ history)) }
+    ensures sink { OnOk result ((history : List Step) → IsStateAfter buffer.old history → Writes (K.contents sink.old) (K.contents sink.new) (released_bytes buffer.old.limits history) (released_bytes buffer.old.limits (end_at tick ∷ history))) }
+    ensures limits { buffer.new.limits ≡ buffer.old.limits }
+    ensures failed { IsErrOf result WriteFault → buffer.new.phase ≡ Failed }
+    ensures part { IsErrOf result WriteFault → (history : List Step) → IsStateAfter buffer.old history → WritesPart (K.contents sink.old) (K.contents sink.new) (released_bytes buffer.old.limits history) (released_bytes buffer.old.limits (end_at tick ∷ history)) }
+    ensures some { IsErrOf result Memory → ⊥ }
+    ensures cause { HasStepCause (K.faults sink.old) (K.faults sink.new) result }
+{
+    let at = now.max(tick);
+    match buffer.release(at, sink) {
+        Ok(_) => {}
+        Err(_) => return Err(StepBad::WriteFault),
+    }
+    match buffer.flush(sink) {
+        Ok(_) => Ok(Stepped { at, verdict: None }),
+        Err(_) => Err(StepBad::WriteFault),
+    }
+}
