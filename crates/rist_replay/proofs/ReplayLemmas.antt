@@ -1,0 +1,97 @@
+-- A record is one more step of the receiver.
+use Rattle.std.proofs.Common.{◌≡◌, ℕ, List, [], ◌∷◌, ◌++◌, map, reverse, Option, Bool, true, false, ◌||◌, refl, sym, ap, ◌∙◌, append-nil}
+use mathlib.Core.List.{reverse-cons}
+use Rattle.std.specs.Prelude.{OnOk, OnErr, Result, Ok, Err}
+use Rattle.std.specs.List.{concat}
+use Rattle.std.proofs.lemmas.List.{map_push, reverse-append}
+use Rattle.outside_io.specs.Told.{IsPrefix}
+use Rattle.outside_io.specs.ToldLaws.{appends_none}
+use Rattle.capture_walk.specs.Writes.{WritesPart}
+use Rattle.capture_file.specs.Capture.{Record}
+use Rattle.receiver_rules.specs.declared.limits.Limits.{Limits}
+use Rattle.receiver_rules.specs.Steps.{Step, end_step, is_end, has_ended}
+use Rattle.receiver_rules.specs.ReceiverSteps.{ReceiverStep, buffer_history, buffer_step, buffer_event}
+use Rattle.receiver_rules.specs.Packets.{Packet}
+use Rattle.receiver_rules.specs.History.{played_out_packets, released_bytes}
+use Rattle.receiver_rules.proofs.HistoryLemmas.{played_out_grows}
+use Rattle.rist_wire.specs.declared.session.Session.{Session}
+use Rattle.rist_ends.specs.declared.outcome.Outcome.{Outcome}
+use Rattle.rist_ends.specs.declared.outcome.Outcome.TheVariants as outcomes
+use Rattle.rist_ends.specs.Outcome.{IfStepped}
+use Rattle.rist_ends.proofs.SteppingLemmas.{concat-map-append}
+use Rattle.rist_replay.specs.Steps.{step_of, input_read, receiver_history, history_of}
+use Rattle.rist_wire.specs.Item.{item_of}
+use Rattle.rist_wire.specs.declared.bad.WireBad.{WireBad}
+use Rattle.rist_wire.specs.declared.item.Item.{Item}
+use Rattle.rist_wire.specs.declared.item.Item.TheVariants as items
+use Rattle.rist_replay.specs.Replay.{released_so_far, replayed}
+use Rattle.rist_replay.specs.Visiting.{answer_of}
+
+-- one more record is one more step
+pub history_push : (session : Session) (rs : List Record) (r : Record) → receiver_history session (rs ++ r ∷ []) ≡ step_of session r ∷ receiver_history session rs
+history_push session rs r = ap reverse (map_push (step_of session) rs r) ∙ reverse-append (map (step_of session) rs) (step_of session r ∷ [])
+
+ended_both : (xs ys : List ReceiverStep) → has_ended (buffer_history (xs ++ ys)) ≡ (has_ended (buffer_history xs) || has_ended (buffer_history ys))
+ended_both [] ys = refl
+ended_both (x ∷ xs) ys = ap (λ b. is_end (buffer_step x).event || b) (ended_both xs ys) ∙ or_both (is_end (buffer_step x).event) (has_ended (buffer_history xs)) (has_ended (buffer_history ys))
+  where
+    or_both : (a b c : Bool) → (a || (b || c)) ≡ ((a || b) || c)
+    or_both true b c = refl
+    or_both false b c = refl
+
+no_end : (session : Session) (r : Record) → is_end (buffer_step (step_of session r)).event ≡ false
+no_end session r = by_item (item_of session r.channel r.octets)
+  where
+    by_item : (item : Result Item WireBad) → is_end (buffer_event (input_read item)) ≡ false
+    by_item (Ok (items.Media media)) = refl
+    by_item (Ok (items.Control compound)) = refl
+    by_item (Ok (items.Keepalive keepalive)) = refl
+    by_item (Err bad) = refl
+
+-- no record is an end
+pub going : (session : Session) (rs : List Record) → has_ended (history_of session rs) ≡ false
+going session [] = refl
+going session (r ∷ rs) =
+    ap (λ h. has_ended (buffer_history h)) (reverse-cons (step_of session r) (map (step_of session) rs))
+    ∙ ended_both (reverse (map (step_of session) rs)) (step_of session r ∷ [])
+    ∙ ap (λ b. b || (is_end (buffer_step (step_of session r)).event || false)) (going session rs)
+    ∙ ap (λ b. b || false) (no_end session r)
+
+-- an end only adds behind what is out
+pub front_of_whole : (session : Session) (limits : Limits) (rs : List Record) → IsPrefix (released_so_far session limits rs) (replayed session limits rs)
+front_of_whole session limits rs =
+    let grows = played_out_grows limits end_step (history_of session rs) (going session rs) in (
+      concat (map (λ (p : Packet). p.payload) grows.0),
+      ap (λ ps. concat (map (λ (p : Packet). p.payload) ps)) grows.1 ∙ concat-map-append (played_out_packets limits (history_of session rs)) grows.0,
+    )
+
+-- where a step was made
+pub on_made : (o : Outcome) (P Q : Type 0) → IfStepped o Q → (Q → P) → (o ≡ outcomes.Stopped → P) → OnOk (answer_of o) P
+on_made outcomes.Stopped P Q made to stopped = stopped refl
+on_made outcomes.WriteFault P Q made to stopped = tt
+on_made (outcomes.Verdict v) P Q made to stopped = to made
+on_made outcomes.Nothing P Q made to stopped = to made
+on_made outcomes.Memory P Q made to stopped = tt
+
+-- where none was made
+pub on_refused : (o : Outcome) (P : Type 0) → (o ≡ outcomes.WriteFault → P) → (o ≡ outcomes.Memory → P) → OnErr (answer_of o) P
+on_refused outcomes.Stopped P fault memory = tt
+on_refused outcomes.WriteFault P fault memory = fault refl
+on_refused (outcomes.Verdict v) P fault memory = tt
+on_refused outcomes.Nothing P fault memory = tt
+on_refused outcomes.Memory P fault memory = memory refl
+
+-- a step with this record's item is the record's step
+pub pushed : (session : Session) (done : List Record) (r : Record) (step : ReceiverStep) → step ≡ step_of session r → buffer_history (step ∷ receiver_history session done) ≡ history_of session (done ++ r ∷ [])
+pushed session done r step is = ap (λ s. buffer_history (s ∷ receiver_history session done)) is ∙ ap buffer_history (sym (history_push session done r))
+
+-- nothing written is a front of what was to be written
+pub wrote_nothing : (limits : Limits) (session : Session) (done : List Record) (r : Record) (told : Option (List ℕ)) → WritesPart told told (released_so_far session limits done) (released_so_far session limits (done ++ r ∷ []))
+wrote_nothing limits session done r told =
+    let step : Step = buffer_step (step_of session r) in
+    let grows = played_out_grows limits step (history_of session done) (going session done) in
+    let more : List ℕ = concat (map (λ (p : Packet). p.payload) grows.0) in
+    let whole : released_so_far session limits (done ++ r ∷ []) ≡ released_so_far session limits done ++ more =
+    ap (released_bytes limits) (sym (pushed session done r (step_of session r) refl))
+    ∙ ap (λ ps. concat (map (λ (p : Packet). p.payload) ps)) grows.1 ∙ concat-map-append (played_out_packets limits (history_of session done)) grows.0 in
+    ([], appends_none told, (more, whole ∙ ap (λ l. l ++ more) (sym (append-nil (released_so_far session limits done)))))

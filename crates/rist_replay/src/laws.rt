@@ -1,0 +1,22 @@
+//! Laws of a replay.
+ghost use Rattle.std.specs.Prelude.{◌≡◌, ◌≤◌, List};
+ghost use Rattle.std.specs.List.{concat};
+ghost use Rattle.outside_io.specs.Told.{IsPrefix};
+ghost use Rattle.capture_file.specs.Capture.{Record};
+ghost use Rattle.receiver_rules.specs.declared.limits.Limits.{Limits};
+ghost use Rattle.receiver_rules.specs.Sent.{SentStream, Delivery, HasSteadyTimestamps, AreDeliveriesOf};
+ghost use Rattle.rist_wire.specs.declared.session.Session.{Session};
+ghost use Rattle.rist_replay.specs.Replay.{released_so_far, replayed};
+ghost use Rattle.rist_replay.specs.Exact.{IsCaptureOf, reached_payloads};
+
+/// What is released while records come is a front of what they release in all.
+pub fn what_is_released_stays()
+    ensures { (session : Session) (limits : Limits) (rs : List Record) → IsPrefix (released_so_far session limits rs) (replayed session limits rs) }
+{}
+
+/// The records of a run of copies of what one sender sent release the payloads of the numbers reached, by rising sent
+/// number, each once.
+pub fn what_was_reached_is_released()
+    ensures { (session : Session) (limits : Limits) (p : SentStream) (run : List Delivery) (rs : List Record) → 1 ≤ limits.playout_delay → IsCaptureOf session p run rs → HasSteadyTimestamps p → AreDeliveriesOf limits p run
+        → replayed session limits rs ≡ concat (reached_payloads limits p run) }
+{}

@@ -1,0 +1,118 @@
+// A receiver as a visitor of a capture's records.
+ghost use Rattle.std.specs.Prelude.{◌≡◌, ◌<◌, length};
+ghost use Rattle.receiver_rules.specs.Seen.{seen};
+ghost use Rattle.seq_unwrap.specs.Nearest.{cycle_of};
+ghost use Rattle.rist_wire.specs.Media.{content_of};
+ghost use Rattle.rist_wire.specs.Item.{item_of};
+ghost use Rattle.rist_ends.specs.Told.{IsFitWhat, input_of};
+ghost use Rattle.rist_replay.specs.Steps.{arrival_of, input_read};
+ghost use Rattle.rist_replay.specs.Visiting.{answer_of};
+
+use capture_file::Head;
+use capture_walk::{VisitBad, Visitor};
+use outside_io::{Failed, Sink};
+use receiver_rules::Arrival;
+use rist_ends::{Outcome, Receiver, Told, What};
+use rist_wire::{Item, Media, Opener, WireBad};
+use std::alloc::Global;
+
+/// Opens a session's datagrams, and steps their items on a receiver.
+#[derive(Drop)]
+pub struct Replayer {
+    pub alloc: Global,
+    pub opener: Opener,
+    pub receiver: Receiver,
+    /// Where a payload is put whose null packets were deleted.
+    pub block: [u8; 1500],
+}
+
+// The payload with its null packets in their places: a view of the datagram, or of the block where some were deleted.
+fn content_in<'a>(media: &Media<'a>, block: &'a mut [u8; 1500]) -> &'a [u8]
+    ensures value { result.now ≡ content_of media.now }
+{
+    if media.is_whole() {
+        return media.payload();
+    }
+    let len = media.content(block);
+    &block[..len]
+}
+
+fn arrival_in<'a>(media: &Media<'a>, block: &'a mut [u8; 1500]) -> Arrival<'a>
+    ensures value { seen result ≡ arrival_of media.now }
+    ensures fits { result.word < cycle_of result.width }
+{
+    let _ = media.payload();
+    Arrival {
+        flow: media.flow,
+        width: media.width,
+        word: media.word,
+        stamp: media.stamp,
+        payload: content_in(media, block),
+    }
+}
+
+// What a receiver is told of a datagram.
+fn what_of<'a>(item: &Result<Item<'a>, WireBad>, block: &'a mut [u8; 1500]) -> What<'a>
+    ensures value { input_of result ≡ input_read item.now }
+    ensures fits { IsFitWhat result }
+{
+    match item {
+        Ok(Item::Media(media)) => What::Media(arrival_in(media, block)),
+        Ok(Item::Control(_)) => What::Control,
+        Ok(Item::Keepalive(_)) => What::Keepalive,
+        Err(_) => What::Refused,
+    }
+}
+
+// Whether a step was made. A receiver that has ended makes none, and none ends before the walk does.
+fn answer_of(outcome: Outcome) -> Result<(), VisitBad>
+    ensures value { result ≡ answer_of outcome }
+{
+    match outcome {
+        Outcome::WriteFault => Err(VisitBad::WriteFault),
+        Outcome::Memory => Err(VisitBad::Memory),
+        Outcome::Stopped | Outcome::Verdict(_) | Outcome::Nothing => Ok(()),
+    }
+}
+
+impl Visitor for Replayer {
+    ghost use Rattle.std.specs.Prelude.{◌≡◌};
+    ghost use Rattle.reorder_buffer.specs.declared.phase.Phase.TheVariants.{Open};
+    ghost use Rattle.rist_ends.specs.Receiver.{IsReceiverAfter};
+    ghost use Rattle.rist_replay.specs.Steps.{receiver_history};
+    ghost use Rattle.rist_replay.specs.Replay.{released_so_far, replayed};
+    ghost use Rattle.rist_replay.specs.Visiting.{HasReplayed};
+
+    ghost so_far = { λ r. released_so_far r.opener r.receiver.buffer.limits };
+
+    ghost whole = { λ r. replayed r.opener r.receiver.buffer.limits };
+
+    ghost has_seen = { λ r rs. HasReplayed r.opener r.receiver rs };
+
+    fn record<K: Sink>(
+        &mut self,
+        head: &Head,
+        octets: &mut [u8],
+        sink: &mut K,
+    ) -> Result<(), VisitBad> {
+        let item = self.opener.take(head.channel, octets);
+        let told = Told {
+            link: head.link,
+            us: head.us,
+            what: what_of(&item, &mut self.block),
+        };
+        answer_of(self.receiver.step(self.alloc, &told, sink))
+    }
+
+    fn finish<K: Sink>(&mut self, sink: &mut K) -> Result<(), Failed> {
+        let told = Told {
+            link: 0,
+            us: 0,
+            what: What::End,
+        };
+        match answer_of(self.receiver.step(self.alloc, &told, sink)) {
+            Ok(()) => Ok(()),
+            Err(_) => Err(Failed),
+        }
+    }
+}

@@ -1,0 +1,50 @@
+ghost use Rattle.std.specs.Prelude.{◌≡◌, ◌≤◌, ℕ, List, [], false, Option, IsErrOf};
+ghost use Rattle.outside_io.specs.Causes.{Rose};
+ghost use Rattle.capture_walk.specs.Leaves.{Leaves};
+ghost use Rattle.capture_walk.specs.declared.walk_bad.WalkBad.TheVariants.{ReadFault, WriteFault};
+ghost use Rattle.rist_wire.specs.Session.{IsSession};
+ghost use Rattle.rist_ends.specs.Receiver.{limits_of};
+ghost use Rattle.rist_replay.specs.Replay.{released_so_far, replayed, AreSettings};
+
+use crate::replayer::Replayer;
+use capture_file::Reader;
+use capture_walk::{WalkBad, walk};
+use outside_io::{Sink, Source};
+use rist_ends::{Receiver, Settings};
+use rist_wire::{Opener, Session};
+use std::alloc::Global;
+
+/// Steps each record of a capture in a session, and then an end, on a receiver with these settings.
+pub fn replay<S: Source, K: Sink>(
+    alloc: Global,
+    session: &Session,
+    settings: &Settings,
+    reader: &mut Reader<S>,
+    sink: &mut K,
+) -> Result<(), WalkBad>
+    requires session { IsSession session.now }
+    requires settings { AreSettings settings.now }
+    requires start { reader.old.at ≡ 0 }
+    requires running { reader.old.spent ≡ false }
+    ensures work { (first : Option (List ℕ)) → first ≡ reader.old.remaining → Leaves (released_so_far session.now (limits_of settings.now)) (replayed session.now (limits_of settings.now)) first reader.new.remaining (K.contents sink.old) (K.contents sink.new) result }
+    ensures ahead { IsErrOf result ReadFault → reader.new.ahead ≡ [] }
+    ensures read { IsErrOf result ReadFault → Rose reader.old.faults reader.new.faults }
+    ensures write { IsErrOf result WriteFault → Rose (K.faults sink.old) (K.faults sink.new) }
+    ensures later { (reader.old.faults ≤ reader.new.faults) × (K.faults sink.old ≤ K.faults sink.new) }
+{
+    let opener = match Opener::with(alloc, session) {
+        Ok(opener) => opener,
+        Err(_) => return Err(WalkBad::Memory),
+    };
+    let receiver = match Receiver::with(alloc, settings) {
+        Ok(receiver) => receiver,
+        Err(_) => return Err(WalkBad::Memory),
+    };
+    let mut replayer = Replayer {
+        alloc,
+        opener,
+        receiver,
+        block: [0; 1500],
+    };
+    walk(reader, &mut replayer, sink)
+}
