@@ -1,0 +1,6 @@
+pub mod PieceLemmas
+pub mod CaptureLemmas
+pub mod DatagramLemmas
+pub mod StepLemmas
+pub mod PackLemmas
+pub mod LawLemmas

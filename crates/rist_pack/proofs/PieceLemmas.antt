@@ -1,0 +1,81 @@
+-- Pieces of octets that are cut at a whole piece.
+use Rattle.std.proofs.Common.{◌≡◌, ℕ, zero, suc, ◌+◌, ◌*◌, ◌/◌, ◌<◌, ◌≤◌, List, [], ◌∷◌, ◌++◌, length, take, drop, refl, sym, ap, ◌∙◌, arith, length-append, append_assoc, append-nil, length-drop}
+use Rattle.std.specs.Fork.{slice_chunk}
+use Rattle.std.proofs.lemmas.List.FromFn.{map-range_with_len_more, length-map-range_with_len}
+use Rattle.std.proofs.lemmas.List.{take-append-le, take_all, drop-append-le}
+use Rattle.std.proofs.Math.Seq.{drop-append-add}
+use Rattle.rist_pack.specs.Pieces.{first_pieces, pieces_of, whole_pieces_of}
+
+pub more : (m n : ℕ) (b : List ℕ) → m + 1 ≡ n → first_pieces n b ≡ first_pieces m b ++ slice_chunk b 1316 m ∷ []
+more m n b e = ap (λ i. first_pieces i b) (sym e) ∙ map-range_with_len_more (slice_chunk b 1316) 0 m m (omega arith)
+
+-- a piece of the front, and one of what follows whole pieces
+piece_in_front : (m : ℕ) (a b : List ℕ) → (m + 1) * 1316 ≤ length a → slice_chunk (a ++ b) 1316 m ≡ slice_chunk a 1316 m
+piece_in_front m a b fits =
+    ap (take 1316) (drop-append-le (m * 1316) a b (omega arith))
+    ∙ take-append-le 1316 (drop (m * 1316) a) b (omega (arith, length-drop (m * 1316) a))
+
+piece_behind : (m n : ℕ) (a b : List ℕ) → length a ≡ 1316 * m → slice_chunk (a ++ b) 1316 (m + n) ≡ slice_chunk b 1316 n
+piece_behind m n a b size =
+    let place : (m + n) * 1316 ≡ length a + n * 1316 = omega arith in
+    ap (λ i. take 1316 (drop i (a ++ b))) place ∙ ap (take 1316) (drop-append-add a b (n * 1316))
+
+front_pieces : (m : ℕ) (a b : List ℕ) → m * 1316 ≤ length a → first_pieces m (a ++ b) ≡ first_pieces m a
+front_pieces zero a b fits = refl
+front_pieces (suc m) a b fits =
+    more m (suc m) (a ++ b) (omega arith)
+    ∙ ap (λ ps. ps ++ slice_chunk (a ++ b) 1316 m ∷ []) (front_pieces m a b (omega arith))
+    ∙ ap (λ p. first_pieces m a ++ p ∷ []) (piece_in_front m a b (omega arith))
+    ∙ sym (more m (suc m) a (omega arith))
+
+both_pieces : (m n : ℕ) (a b : List ℕ) → length a ≡ 1316 * m → first_pieces (m + n) (a ++ b) ≡ first_pieces m a ++ first_pieces n b
+both_pieces m zero a b size =
+    ap (λ i. first_pieces i (a ++ b)) (omega arith) ∙ front_pieces m a b (omega arith) ∙ sym (append-nil (first_pieces m a))
+both_pieces m (suc n) a b size =
+    more (m + n) (m + suc n) (a ++ b) (omega arith)
+    ∙ ap (λ ps. ps ++ slice_chunk (a ++ b) 1316 (m + n) ∷ []) (both_pieces m n a b size)
+    ∙ ap (λ p. (first_pieces m a ++ first_pieces n b) ++ p ∷ []) (piece_behind m n a b size)
+    ∙ append_assoc (first_pieces m a) (first_pieces n b) (slice_chunk b 1316 n ∷ [])
+    ∙ ap (λ ps. first_pieces m a ++ ps) (sym (more n (suc n) b (omega arith)))
+
+-- whole pieces and what follows them
+pub pieces_behind : (m : ℕ) (a b : List ℕ) → length a ≡ 1316 * m → pieces_of (a ++ b) ≡ pieces_of a ++ pieces_of b
+unfolding pieces_of
+pieces_behind m a b size =
+    let all : (length (a ++ b) + 1315) / 1316 ≡ m + (length b + 1315) / 1316 = omega (arith, length-append a b) in
+    let front : (length a + 1315) / 1316 ≡ m = omega arith in
+    ap (λ i. first_pieces i (a ++ b)) all ∙ both_pieces m ((length b + 1315) / 1316) a b size
+    ∙ ap (λ i. first_pieces i a ++ pieces_of b) (sym front)
+
+pub whole_pieces_behind : (m : ℕ) (a b : List ℕ) → length a ≡ 1316 * m → whole_pieces_of (a ++ b) ≡ whole_pieces_of a ++ whole_pieces_of b
+unfolding whole_pieces_of
+whole_pieces_behind m a b size =
+    let all : length (a ++ b) / 1316 ≡ m + length b / 1316 = omega (arith, length-append a b) in
+    let front : length a / 1316 ≡ m = omega arith in
+    ap (λ i. first_pieces i (a ++ b)) all ∙ both_pieces m (length b / 1316) a b size
+    ∙ ap (λ i. first_pieces i a ++ whole_pieces_of b) (sym front)
+
+-- the pieces of few octets
+pub no_piece : (b : List ℕ) → length b ≡ 0 → pieces_of b ≡ []
+unfolding pieces_of
+no_piece b size = let none : (length b + 1315) / 1316 ≡ 0 = omega arith in ap (λ i. first_pieces i b) none
+
+pub one_piece : (b : List ℕ) → 0 < length b → length b ≤ 1316 → pieces_of b ≡ b ∷ []
+unfolding pieces_of
+one_piece b some few =
+    let one : (length b + 1315) / 1316 ≡ 1 = omega arith in
+    ap (λ i. first_pieces i b) one ∙ ap (λ p. p ∷ []) (take_all 1316 b few)
+
+pub no_whole_piece : (b : List ℕ) → length b < 1316 → whole_pieces_of b ≡ []
+unfolding whole_pieces_of
+no_whole_piece b few = let none : length b / 1316 ≡ 0 = omega arith in ap (λ i. first_pieces i b) none
+
+pub all_whole : (m : ℕ) (b : List ℕ) → length b ≡ 1316 * m → whole_pieces_of b ≡ pieces_of b
+unfolding pieces_of whole_pieces_of
+all_whole m b size = let same : length b / 1316 ≡ (length b + 1315) / 1316 = omega arith in ap (λ i. first_pieces i b) same
+
+pub length-pieces : (m : ℕ) (b : List ℕ) → length b ≡ 1316 * m → length (pieces_of b) ≡ m
+unfolding pieces_of
+length-pieces m b size =
+    let all : (length b + 1315) / 1316 ≡ m = omega arith in
+    length-map-range_with_len (slice_chunk b 1316) 0 ((length b + 1315) / 1316) ∙ all

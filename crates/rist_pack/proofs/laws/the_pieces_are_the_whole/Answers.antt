@@ -1,0 +1,8 @@
+use Rattle.rist_pack.proofs.LawLemmas.{pieces_joined, piece_sized}
+use Rattle.rist_pack.proofs.laws.the_pieces_are_the_whole.Goals as goal
+
+pub returns-clause-whole : goal.returns-clause-whole
+returns-clause-whole c = pieces_joined
+
+pub returns-clause-each : goal.returns-clause-each
+returns-clause-each c = piece_sized

@@ -1,0 +1,5 @@
+pub mod Text
+pub mod Pieces
+pub mod Capture
+pub mod Packing
+pub mod Steps

@@ -1,0 +1,43 @@
+-- What the steps of a packing answer, by the octets that a source had and has left, and those that a capture held and
+-- holds, where these are told.
+use Rattle.std.specs.Prelude.{◌≡◌, ℕ, ◌+◌, ◌*◌, ◌^◌, ◌<◌, ◌≤◌, List, [], length, take, flat_map, Result, Ok, Err}
+use Rattle.std.specs.Prelude.{Option}
+use Rattle.outside_io.specs.Told.{Takes, IsEmpty, Appends, AppendsPart}
+use Rattle.capture_file.specs.Capture.{Record, spelling}
+use Rattle.rist_pack.specs.Pieces.{pieces_of}
+use Rattle.rist_pack.specs.Capture.{records_of, capture_of}
+use Rattle.rist_pack.specs.Packing.{Reads}
+use Rattle.rist_pack.specs.declared.packing.Turn.{Turn}
+use Rattle.rist_pack.specs.declared.packing.Turn.TheVariants.{On, Over}
+use Rattle.rist_pack.specs.declared.bad.PackBad.{PackBad}
+use Rattle.rist_pack.specs.declared.bad.PackBad.TheVariants.{ReadFault, WriteFault, TooLong}
+
+-- fewer octets than a whole piece has were read, and this holds of their number
+abbrev pub ReadsPart : Option (List ℕ) → Option (List ℕ) → (ℕ → Type 0) → Type 0
+ReadsPart had left P = Reads had left (λ b. (length b < 1316) × P (length b))
+
+-- what the reading of piece k answers: how many octets of it stand at the front of a block, or why it is not read
+abbrev pub ReadsPiece : ℕ → Option (List ℕ) → Option (List ℕ) → List ℕ → Result ℕ PackBad → Type 0
+ReadsPiece k had left block (Ok n) = (n ≤ 1316) × (1316 * k + n ≤ 2 ^ 40) × Takes had left (take n block) × (n < 1316 → IsEmpty left)
+ReadsPiece k had left block (Err ReadFault) = ReadsPart had left (λ n. 1316 * k + n ≤ 2 ^ 40)
+ReadsPiece k had left block (Err TooLong) = ReadsPart had left (λ n. 2 ^ 40 < 1316 * k + n)
+ReadsPiece k had left block (Err WriteFault) = ⊥
+
+-- the octets of the records of pieces of which the first is piece k
+abbrev pub spelled_from : (ℕ → List ℕ → Record) → ℕ → List (List ℕ) → List ℕ
+spelled_from record_of k pieces = flat_map spelling (records_of record_of k pieces)
+
+-- what the packing of piece k answers: a whole piece was packed, the source ended in it, or why it is not packed
+abbrev pub PacksPiece : (ℕ → List ℕ → Record) → ℕ → Option (List ℕ) → Option (List ℕ) → Option (List ℕ) → Option (List ℕ) → Result Turn PackBad → Type 0
+PacksPiece record_of k had left old new (Ok On) = Reads had left (λ b. (length b ≡ 1316) × (1316 * k + length b ≤ 2 ^ 40) × Appends old new (spelled_from record_of k (pieces_of b)))
+PacksPiece record_of k had left old new (Ok Over) = Reads had left (λ b. IsEmpty left × (1316 * k + length b ≤ 2 ^ 40) × Appends old new (spelled_from record_of k (pieces_of b)))
+PacksPiece record_of k had left old new (Err ReadFault) = ReadsPart had left (λ n. 1316 * k + n ≤ 2 ^ 40) × Appends old new []
+PacksPiece record_of k had left old new (Err TooLong) = ReadsPart had left (λ n. 2 ^ 40 < 1316 * k + n) × Appends old new []
+PacksPiece record_of k had left old new (Err WriteFault) = Reads had left (λ b. (1316 * k + length b ≤ 2 ^ 40) × AppendsPart old new (spelled_from record_of k (pieces_of b)))
+
+-- k whole pieces were packed
+pub record Sofar (record_of : ℕ → List ℕ → Record) (k : ℕ) (had left old new : Option (List ℕ)) : Type 0 where
+  pub read : List ℕ
+  pub taken : Takes had left read
+  pub size : length read ≡ 1316 * k
+  pub written : Appends old new (capture_of record_of (pieces_of read))
