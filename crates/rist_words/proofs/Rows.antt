@@ -1,0 +1,66 @@
+-- Worked command lines.
+use Rattle.std.proofs.Common.{◌≡◌, [], ◌∷◌, Some, None, codes, false, refl, true}
+use Rattle.clap.proofs.OnLiterals.{clap_on_literals}
+use Rattle.outside_io.specs.declared.profile.Profile.TheVariants.{Main, Simple}
+use Rattle.rist_words.specs.Commands.{command_in, faults_of}
+use Rattle.rist_words.specs.CommandLine.{Pack, Replay, Session, Show, line_of}
+
+-- a session without options
+abbrev plain : Session
+plain = record { profile = Simple; port = 1968; pass = None; bits = 128 }
+
+defaults : line_of (codes "rist" ∷ codes "replay" ∷ codes "a" ∷ codes "-" ∷ [])
+    ≡ Some (Replay (record { capture = codes "a"; out = codes "-"; session = plain; delay = 1000; span = 2048 }))
+unfolding clap_on_literals faults_of command_in
+defaults = refl
+
+between : line_of (codes "rist" ∷ codes "replay" ∷ codes "a" ∷ codes "--span=07" ∷ codes "b" ∷ codes "--delay" ∷ codes "5" ∷ [])
+    ≡ Some (Replay (record { capture = codes "a"; out = codes "b"; session = plain; delay = 5; span = 7 }))
+unfolding clap_on_literals faults_of command_in
+between = refl
+
+after_dashes : line_of (codes "rist" ∷ codes "show" ∷ codes "--" ∷ codes "-a" ∷ []) ≡ Some (Show (record { capture = codes "-a"; session = plain }))
+unfolding clap_on_literals faults_of command_in
+after_dashes = refl
+
+name_alone : line_of (codes "rist" ∷ []) ≡ None
+unfolding clap_on_literals faults_of command_in
+name_alone = refl
+
+no_words : line_of [] ≡ None
+unfolding clap_on_literals faults_of command_in
+no_words = refl
+
+empty_name : line_of (codes "rist" ∷ codes "show" ∷ [] ∷ []) ≡ None
+unfolding clap_on_literals faults_of command_in
+empty_name = refl
+
+signed : line_of (codes "rist" ∷ codes "replay" ∷ codes "a" ∷ codes "b" ∷ codes "--delay" ∷ codes "+5" ∷ []) ≡ None
+unfolding clap_on_literals faults_of command_in
+signed = refl
+
+twice : line_of (codes "rist" ∷ codes "replay" ∷ codes "a" ∷ codes "b" ∷ codes "--span" ∷ codes "5" ∷ codes "--span" ∷ codes "5" ∷ []) ≡ None
+unfolding clap_on_literals faults_of command_in
+twice = refl
+
+help : line_of (codes "rist" ∷ codes "replay" ∷ codes "--help" ∷ []) ≡ None
+unfolding clap_on_literals faults_of command_in
+help = refl
+
+sealed : line_of (codes "rist" ∷ codes "show" ∷ codes "a" ∷ codes "--pass=-x" ∷ codes "--profile" ∷ codes "main" ∷ codes "--bits" ∷ codes "256" ∷ codes "--port=2" ∷ [])
+    ≡ Some (Show (record { capture = codes "a"; session = record { profile = Main; port = 2; pass = Some (codes "-x"); bits = 256 } }))
+unfolding clap_on_literals faults_of command_in
+sealed = refl
+
+sealed_in_simple : line_of (codes "rist" ∷ codes "show" ∷ codes "a" ∷ codes "--pass=x" ∷ []) ≡ None
+unfolding clap_on_literals faults_of command_in
+sealed_in_simple = refl
+
+wide : line_of (codes "rist" ∷ codes "pack" ∷ codes "--profile=main" ∷ codes "--wide" ∷ codes "a" ∷ codes "b" ∷ codes "--first=65536" ∷ [])
+    ≡ Some (Pack (record { source = codes "a"; capture = codes "b"; session = record plain { profile = Main }; nulls = false; wide = true; flow = 270544960; first = 65536; gap = 1000 }))
+unfolding clap_on_literals faults_of command_in
+wide = refl
+
+not_wide : line_of (codes "rist" ∷ codes "pack" ∷ codes "--profile=main" ∷ codes "a" ∷ codes "b" ∷ codes "--first=65536" ∷ []) ≡ None
+unfolding clap_on_literals faults_of command_in
+not_wide = refl

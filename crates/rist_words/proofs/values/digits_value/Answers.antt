@@ -1,0 +1,8 @@
+use Rattle.rist_words.proofs.ParseLemmas.{none_value, some_value}
+use Rattle.rist_words.proofs.values.digits_value.Goals as goal
+
+pub returns : goal.returns
+returns c = record {
+  some = rw c.ok.ensures.value (some_value c.args.text.now c.parse.result c.parse.ensures.value.0 c.requires.digits);
+  none = rw c.ok.ensures.value (none_value c.args.text.now c.parse.result c.parse.ensures.value.0 c.requires.digits);
+}

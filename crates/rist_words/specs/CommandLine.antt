@@ -1,0 +1,133 @@
+-- What a command line is: the command with all its values, where the words are taken and each value reads (this profile).
+use Rattle.std.specs.Prelude.{Bool, ℕ, List, [], ◌∷◌, Option, Some, None, option_and_then, option_map, if◌then◌else◌, codes}
+use Rattle.std.specs.Str.{bytes_eq}
+use Rattle.clap.specs.Words.{Kinds, Row, Text, first_of}
+use Rattle.outside_io.specs.declared.profile.Profile.{Profile}
+use Rattle.rist_words.specs.declared.values.Numbers.{Numbers}
+use Rattle.rist_words.specs.Commands.{faults_of, command_in}
+use Rattle.rist_words.specs.Values.{flag_of, name_of, number_of, phrase_of, profile_of}
+
+-- how the datagrams of a session are made: the UDP port of media, the passphrase if there is one, and the bits of its key
+pub record Session : Type 0 where
+  pub profile : Profile
+  pub port : ℕ
+  pub pass : Option Text
+  pub bits : ℕ
+
+-- a replay of a capture, with the playout delay in milliseconds and the buffer's capacity in packets
+pub record ReplayCommand : Type 0 where
+  pub capture : Text
+  pub out : Text
+  pub session : Session
+  pub delay : ℕ
+  pub span : ℕ
+
+-- a capture's records as text
+pub record ShowCommand : Type 0 where
+  pub capture : Text
+  pub session : Session
+
+-- a capture of a stream's datagrams: whether null packets are deleted and sequence numbers have 32 bits, the SSRC, the first
+-- sequence number, the time between two datagrams in microseconds
+pub record PackCommand : Type 0 where
+  pub source : Text
+  pub capture : Text
+  pub session : Session
+  pub nulls : Bool
+  pub wide : Bool
+  pub flow : ℕ
+  pub first : ℕ
+  pub gap : ℕ
+
+-- what the program is told to do
+pub data CommandLine : Type 0 where
+  Replay : ReplayCommand → CommandLine
+  Show : ShowCommand → CommandLine
+  Pack : PackCommand → CommandLine
+
+-- the numbers of the options: those of `--port`
+abbrev pub ports : Numbers
+ports = record { default = 1968; least = 2; most = 65534; multiple_of = 2 }
+
+-- `--bits`: 128 or 256
+abbrev pub key_bits : Numbers
+key_bits = record { default = 128; least = 128; most = 256; multiple_of = 128 }
+
+-- `--delay`, in milliseconds
+abbrev pub delays : Numbers
+delays = record { default = 1000; least = 1; most = 30000; multiple_of = 1 }
+
+-- `--span`, in packets
+abbrev pub spans : Numbers
+spans = record { default = 2048; least = 1; most = 16384; multiple_of = 1 }
+
+-- `--flow`: an SSRC with its lowest bit clear, which an original has (VSF TR-06-1)
+abbrev pub flows : Numbers
+flows = record { default = 270544960; least = 0; most = 4294967295; multiple_of = 2 }
+
+-- `--first`: a sequence number of 16 bits, or of 32 where they are wide
+abbrev pub firsts : Bool → Numbers
+firsts wide = record { default = 0; least = 0; most = if wide then 4294967295 else 65535; multiple_of = 1 }
+
+-- `--gap`, in microseconds
+abbrev pub gaps : Numbers
+gaps = record { default = 1000; least = 1; most = 1000000; multiple_of = 1 }
+
+-- one reading after another: where one fails, all do
+infixl 10 ◌>>=◌
+abbrev pub ◌>>=◌ : {A B : Type 0} → Option A → (A → Option B) → Option B
+None >>= f = None
+(Some x) >>= f = f x
+
+-- the session that a command's values give
+abbrev pub session_of : List Row → Option Session
+session_of rows = do
+  profile ← profile_of (first_of (codes "profile") rows)
+  port ← number_of ports (first_of (codes "port") rows)
+  pass ← phrase_of profile (first_of (codes "pass") rows)
+  bits ← number_of key_bits (first_of (codes "bits") rows)
+  Some (record { profile = profile; port = port; pass = pass; bits = bits })
+
+-- the values of each command
+abbrev pub replay_of : List Row → Option ReplayCommand
+replay_of rows = do
+  capture ← name_of (first_of (codes "capture") rows)
+  out ← name_of (first_of (codes "out") rows)
+  session ← session_of rows
+  delay ← number_of delays (first_of (codes "delay") rows)
+  span ← number_of spans (first_of (codes "span") rows)
+  Some (record { capture = capture; out = out; session = session; delay = delay; span = span })
+
+abbrev pub show_of : List Row → Option ShowCommand
+show_of rows = do
+  capture ← name_of (first_of (codes "capture") rows)
+  session ← session_of rows
+  Some (record { capture = capture; session = session })
+
+abbrev pub pack_of : List Row → Option PackCommand
+pack_of rows = do
+  source ← name_of (first_of (codes "source") rows)
+  capture ← name_of (first_of (codes "capture") rows)
+  session ← session_of rows
+  nulls ← flag_of session.profile (first_of (codes "nulls") rows)
+  wide ← flag_of session.profile (first_of (codes "wide") rows)
+  flow ← number_of flows (first_of (codes "flow") rows)
+  first ← number_of (firsts wide) (first_of (codes "first") rows)
+  gap ← number_of gaps (first_of (codes "gap") rows)
+  Some (record { source = source; capture = capture; session = session; nulls = nulls; wide = wide; flow = flow; first = first; gap = gap })
+
+-- the line of a command with what is given to it
+abbrev pub command_line : Text → List Row → Option CommandLine
+command_line name rows =
+    if bytes_eq name (codes "replay") then option_map Replay (replay_of rows)
+    else (if bytes_eq name (codes "show") then option_map Show (show_of rows)
+    else (if bytes_eq name (codes "pack") then option_map Pack (pack_of rows) else None))
+
+-- with nothing against the words, the line of the command that they name
+abbrev pub taken_line : Kinds → Option (Text × List Row) → Option CommandLine
+taken_line [] named = option_and_then (λ c. command_line c.0 c.1) named
+taken_line (k ∷ ks) named = None
+
+-- the line that the words are, the program's name first
+abbrev pub line_of : List Text → Option CommandLine
+line_of words = taken_line (faults_of words) (command_in words)

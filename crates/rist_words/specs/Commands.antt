@@ -1,0 +1,48 @@
+-- The commands of the program with their options and positions (this profile), as the command line parser takes them.
+use Rattle.std.specs.Prelude.{true, List, [], ◌∷◌, Option, Some, fold, codes}
+use Rattle.clap.specs.Words.{App, Kinds, Row, Rule, Text, fault_of, new_app, new_rule, subcommand_of, with_rule, with_subcommand}
+use Rattle.clap.specs.declared.builder.ArgAction.TheVariants.{Set, SetTrue}
+use Rattle.rist_words.specs.declared.command.Kind.{Kind}
+use Rattle.rist_words.specs.declared.command.Kind.TheVariants.{Flag, Position, Valued}
+
+-- an argument that is given by its place, and has to be; one that is given as `--name value` or `--name=value`, and need not;
+-- and a flag, given as `--name`
+abbrev pub rule_for : Kind → Text → Rule
+rule_for Position name = record (new_rule name) { required = true; action = Some Set }
+rule_for Valued name = record (new_rule name) { long = Some name; action = Some Set }
+rule_for Flag name = record (new_rule name) { long = Some name; action = Some SetTrue }
+
+-- the command with arguments of these names
+abbrev pub with_rules : Kind → App → List Text → App
+with_rules kind app names = fold (λ a name. with_rule a (rule_for kind name)) app names
+
+-- a command that speaks of a session
+abbrev pub session_app : Text → App
+session_app name = with_rules Valued (new_app name) (codes "profile" ∷ codes "port" ∷ codes "pass" ∷ codes "bits" ∷ [])
+
+-- the command with these options, flags and positions
+abbrev pub with_arguments : App → List Text → List Text → List Text → App
+with_arguments app options flags positions = with_rules Position (with_rules Flag (with_rules Valued app options) flags) positions
+
+-- the commands: their options, their flags and their positions
+abbrev pub replay_app : App
+replay_app = with_arguments (session_app (codes "replay")) (codes "delay" ∷ codes "span" ∷ []) [] (codes "capture" ∷ codes "out" ∷ [])
+
+abbrev pub show_app : App
+show_app = with_arguments (session_app (codes "show")) [] [] (codes "capture" ∷ [])
+
+abbrev pub pack_app : App
+pack_app = with_arguments (session_app (codes "pack")) (codes "flow" ∷ codes "first" ∷ codes "gap" ∷ []) (codes "nulls" ∷ codes "wide" ∷ [])
+    (codes "source" ∷ codes "capture" ∷ [])
+
+-- the program
+abbrev pub rist_app : App
+rist_app = with_subcommand (with_subcommand (with_subcommand (new_app (codes "rist")) replay_app.top) show_app.top) pack_app.top
+
+-- what stands against taking the words, the program's name first; where nothing does, they are taken
+unfoldable pub faults_of : List Text → Kinds
+faults_of words = fault_of rist_app words
+
+-- the command that the words name, with what is given to it
+unfoldable pub command_in : List Text → Option (Text × List Row)
+command_in words = subcommand_of rist_app words

@@ -1,0 +1,5 @@
+pub mod Commands
+pub mod Values
+pub mod CommandLine
+pub mod Ranges
+pub mod Shown

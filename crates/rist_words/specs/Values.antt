@@ -1,0 +1,54 @@
+-- How the values of a command line read (this profile).
+use Rattle.std.specs.Prelude.{ℕ, ◌%◌, ◌==◌, ◌&&◌, Bool, false, not, nat_lt, length, Option, Some, None, if◌then◌else◌, codes}
+use Rattle.std.specs.Char.{is_ascii_digit}
+use Rattle.std.specs.List.{list_all}
+use Rattle.std.specs.Str.{bytes_eq}
+use Rattle.std.specs.Str.Parse.{digits_value}
+use Rattle.clap.specs.Words.{Text}
+use Rattle.rist_words.specs.declared.values.Numbers.{Numbers}
+use Rattle.outside_io.specs.declared.profile.Profile.{Profile}
+use Rattle.outside_io.specs.declared.profile.Profile.TheVariants.{Simple, Main}
+
+-- a number is 1 to 20 decimal digits, leading zeros among them, with no sign
+abbrev pub is_numeral : Text → Bool
+is_numeral text = nat_lt 0 (length text) && (nat_lt (length text) 21 && list_all is_ascii_digit text)
+
+-- the option takes this number
+abbrev pub is_among : Numbers → ℕ → Bool
+is_among numbers n = not (nat_lt n numbers.least) && (not (nat_lt numbers.most n) && n % numbers.multiple_of == 0)
+
+-- the number that a text is, if the option takes it
+abbrev pub number_in : Numbers → Text → Option ℕ
+number_in numbers text =
+    if is_numeral text && is_among numbers (digits_value 10 text) then Some (digits_value 10 text) else None
+
+-- an option's number, and its default where the option isn't given
+abbrev pub number_of : Numbers → Option Text → Option ℕ
+number_of numbers None = Some numbers.default
+number_of numbers (Some text) = number_in numbers text
+
+-- a name isn't empty
+abbrev pub name_of : Option Text → Option Text
+name_of None = None
+name_of (Some text) = if nat_lt 0 (length text) then Some text else None
+
+-- a profile is one of two words
+abbrev pub profile_of : Option Text → Option Profile
+profile_of None = Some Simple
+profile_of (Some text) = if bytes_eq text (codes "simple") then Some Simple else (if bytes_eq text (codes "main") then Some Main else None)
+
+-- a passphrase of 1 to 128 octets, in the Main Profile; or none
+abbrev pub phrase_of : Profile → Option Text → Option (Option Text)
+phrase_of profile None = Some None
+phrase_of Simple (Some text) = None
+phrase_of Main (Some text) = if nat_lt 0 (length text) && nat_lt (length text) 129 then Some (Some text) else None
+
+-- a flag that is given has the value `true`
+abbrev pub is_set : Option Text → Bool
+is_set None = false
+is_set (Some text) = bytes_eq text (codes "true")
+
+-- whether a flag is given that only the Main Profile has
+abbrev pub flag_of : Profile → Option Text → Option Bool
+flag_of Main value = Some (is_set value)
+flag_of Simple value = if is_set value then None else Some false

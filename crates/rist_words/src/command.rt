@@ -1,0 +1,118 @@
+// The program's commands, as `clap` parses them.
+ghost use Rattle.std.specs.Prelude.{◌≡◌, IfOk, false, map};
+ghost use Rattle.clap.specs.Words.{app_of, rule_of, with_rule, with_subcommand};
+ghost use Rattle.clap.specs.declared.Command.TheViews.{out-Command as fields_of};
+ghost use Rattle.rist_words.specs.Commands.{rule_for, with_rules, session_app, with_arguments, rist_app};
+
+use clap::{Arg, ArgAction, Command};
+use std::alloc::{AllocError, Global};
+
+/// The options of each command that speaks of a session.
+static SESSION: [&str; 4] = ["profile", "port", "pass", "bits"];
+
+static REPLAY: [&str; 2] = ["capture", "out"];
+
+static REPLAY_OPTIONS: [&str; 2] = ["delay", "span"];
+
+static SHOW: [&str; 1] = ["capture"];
+
+static PACK: [&str; 2] = ["source", "capture"];
+
+static PACK_OPTIONS: [&str; 3] = ["flow", "first", "gap"];
+
+static PACK_FLAGS: [&str; 2] = ["nulls", "wide"];
+
+/// How an argument is given.
+#[derive(Clone, Copy)]
+pub enum Kind {
+    /// By its place. It has to be given.
+    Position,
+    /// As `--name value` or `--name=value`.
+    Valued,
+    /// As `--name`.
+    Flag,
+}
+
+/// The program with its commands.
+pub fn program<'a>(alloc: Global) -> Result<Command<'a>, AllocError>
+    ensures app { IfOk result (λ r. app_of r ≡ rist_app) }
+{
+    let program = Command::new(alloc, "rist");
+    let replay = session(alloc, "replay")?;
+    let replay = with_arguments(alloc, replay, &REPLAY_OPTIONS, &[], &REPLAY)?;
+    let program = below(program, replay)?;
+    let show = session(alloc, "show")?;
+    let show = with_arguments(alloc, show, &[], &[], &SHOW)?;
+    let program = below(program, show)?;
+    let pack = session(alloc, "pack")?;
+    let pack = with_arguments(alloc, pack, &PACK_OPTIONS, &PACK_FLAGS, &PACK)?;
+    Ok(below(program, pack)?)
+}
+
+/// A command that speaks of a session.
+fn session<'a>(alloc: Global, name: &'a str) -> Result<Command<'a>, AllocError>
+    ensures app { IfOk result (λ r. app_of r ≡ session_app name.entry.now) }
+    ensures local { IfOk result (λ r. (fields_of r).has_globals ≡ false) }
+{
+    Ok(with_all(alloc, Command::new(alloc, name), Kind::Valued, &SESSION)?)
+}
+
+/// The command with these options, flags and positions.
+fn with_arguments<'a>(
+    alloc: Global,
+    command: Command<'a>,
+    options: &[&'a str],
+    flags: &[&'a str],
+    positions: &[&'a str],
+) -> Result<Command<'a>, AllocError>
+    ensures app { IfOk result (λ r. app_of r ≡ with_arguments (app_of command.entry) (map (λ s. s.now) options.now) (map (λ s. s.now) flags.now) (map (λ s. s.now) positions.now)) }
+    ensures local { IfOk result (λ r. (fields_of command.entry).has_globals ≡ false → (fields_of r).has_globals ≡ false) }
+{
+    let command = with_all(alloc, command, Kind::Valued, options)?;
+    let command = with_all(alloc, command, Kind::Flag, flags)?;
+    Ok(with_all(alloc, command, Kind::Position, positions)?)
+}
+
+/// The program with one more command.
+fn below<'a>(program: Command<'a>, command: Command<'a>) -> Result<Command<'a>, AllocError>
+    requires local { (fields_of command).has_globals ≡ false }
+    ensures app { IfOk result (λ r. app_of r ≡ with_subcommand (app_of program.entry) (app_of command.entry).top) }
+{
+    program.subcommand(command)
+}
+
+/// The command with arguments of these names.
+fn with_all<'a>(
+    alloc: Global,
+    mut command: Command<'a>,
+    kind: Kind,
+    names: &[&'a str],
+) -> Result<Command<'a>, AllocError>
+    ensures app { IfOk result (λ r. app_of r ≡ with_rules kind (app_of command.entry) (map (λ s. s.now) names.now)) }
+    ensures local { IfOk result (λ r. (fields_of command.entry).has_globals ≡ false → (fields_of r).has_globals ≡ false) }
+{
+    for name in names {
+        command = with(command, argument(alloc, kind, name))?;
+    }
+    Ok(command)
+}
+
+fn with<'a>(command: Command<'a>, arg: Arg<'a>) -> Result<Command<'a>, AllocError>
+    requires local { arg.global ≡ false }
+    ensures app { IfOk result (λ r. app_of r ≡ with_rule (app_of command.entry) (rule_of arg.entry)) }
+    ensures local { IfOk result (λ r. (fields_of command.entry).has_globals ≡ false → (fields_of r).has_globals ≡ false) }
+{
+    command.arg(arg)
+}
+
+fn argument<'a>(alloc: Global, kind: Kind, name: &'a str) -> Arg<'a>
+    ensures rule { rule_of result ≡ rule_for kind name.entry.now }
+    ensures local { result.global ≡ false }
+{
+    let argument = Arg::new(alloc, name).action(ArgAction::Set);
+    match kind {
+        Kind::Position => argument.required(true),
+        Kind::Valued => argument.long(name),
+        Kind::Flag => argument.long(name).action(ArgAction::SetTrue),
+    }
+}

@@ -1,0 +1,28 @@
+/// What the program takes, for the error output where words are no line.
+pub const USAGE: &str = "\
+usage: rist COMMAND [OPTION..] ARGUMENT..
+
+  rist replay CAPTURE OUT     write the payloads of a capture as a receiver plays them out
+      --delay MS              playout delay, 1 to 30000 (default 1000)
+      --span PACKETS          capacity of the buffer, 1 to 16384 (default 2048)
+
+  rist show CAPTURE           write the records of a capture to -, each as a line of JSON
+
+  rist pack SOURCE CAPTURE    write a capture of the media datagrams that carry a stream
+      --flow SSRC             an even number below 2^32 (default 270544960)
+      --first NUMBER          first sequence number, 0 to 65535, and with --wide any below 2^32
+                              (default 0)
+      --gap US                time between two datagrams, 1 to 1000000 (default 1000)
+      --nulls                 delete null packets (main profile)
+      --wide                  sequence numbers of 32 bits (main profile)
+
+  each command
+      --profile PROFILE       simple or main (default simple)
+      --port PORT             UDP port of media, even, 2 to 65534 (default 1968)
+      --pass PASSPHRASE       encrypt by a passphrase of 1 to 128 octets (main profile)
+      --bits BITS             key length, 128 or 256 (default 128)
+
+The name - is the standard input or output. A number is 1 to 20 decimal digits. An option is
+given at most once, as --name VALUE or --name=VALUE, before, between or after the arguments; a
+VALUE that begins with - needs the second form. After -- each word is an argument.
+";

@@ -1,0 +1,18 @@
+//! The words of a command line: what the program is to do, and with which values. A contract sees a line as its command,
+//! the defaults filled in. Which words are taken is `clap`'s; the forms and ranges of values are this crate's own.
+#![tactic(auto)]
+
+mod command;
+mod help;
+pub mod laws;
+mod lines;
+mod matching;
+mod reading;
+mod session;
+#[cfg(test)]
+mod tests;
+mod values;
+
+pub use help::USAGE;
+pub use lines::{Line, PackLine, Refused, ReplayLine, SessionWords, ShowLine};
+pub use reading::line;

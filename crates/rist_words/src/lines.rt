@@ -1,0 +1,76 @@
+// The lines of the program.
+use outside_io::Profile;
+
+/// What the words of a command line tell the program to do.
+#[derive(Clone, Copy, Debug, PartialEq, Eq)]
+pub enum Line<'a> {
+    /// `replay CAPTURE OUT`
+    Replay(ReplayLine<'a>),
+    /// `show CAPTURE`
+    Show(ShowLine<'a>),
+    /// `pack SOURCE CAPTURE`
+    Pack(PackLine<'a>),
+}
+
+/// How the datagrams of a session are made.
+#[derive(Clone, Copy, Debug, PartialEq, Eq)]
+pub struct SessionWords<'a> {
+    pub profile: Profile,
+    /// The UDP port of media, an even number from 2 to 65,534; RTCP has the next one.
+    pub port: u16,
+    /// The pre-shared passphrase, of 1 to 128 octets. It is given in the Main Profile only.
+    pub pass: Option<&'a str>,
+    /// The key's bits, 128 or 256.
+    pub bits: u16,
+}
+
+/// Write the payloads of a capture as a receiver plays them out.
+#[derive(Clone, Copy, Debug, PartialEq, Eq)]
+pub struct ReplayLine<'a> {
+    /// The capture's name.
+    pub capture: &'a str,
+    /// The name of what is written.
+    pub out: &'a str,
+    pub session: SessionWords<'a>,
+    /// The playout delay in milliseconds, 1 to 30,000.
+    pub delay: u64,
+    /// The buffer's capacity in packets, 1 to 16,384.
+    pub span: u64,
+}
+
+/// Write a capture's records as text.
+#[derive(Clone, Copy, Debug, PartialEq, Eq)]
+pub struct ShowLine<'a> {
+    /// The capture's name.
+    pub capture: &'a str,
+    pub session: SessionWords<'a>,
+}
+
+/// Write a capture of the media datagrams that carry a stream.
+#[derive(Clone, Copy, Debug, PartialEq, Eq)]
+pub struct PackLine<'a> {
+    /// The stream's name.
+    pub source: &'a str,
+    /// The capture's name.
+    pub capture: &'a str,
+    pub session: SessionWords<'a>,
+    /// Null packets are deleted. In the Main Profile only.
+    pub nulls: bool,
+    /// Sequence numbers have 32 bits. In the Main Profile only.
+    pub wide: bool,
+    /// The SSRC, an even number.
+    pub flow: u32,
+    /// The first sequence number, below 65,536 unless they are wide.
+    pub first: u32,
+    /// The time between two datagrams in microseconds, 1 to 1,000,000.
+    pub gap: u64,
+}
+
+/// Why there is no line.
+#[derive(Clone, Copy, Debug, PartialEq, Eq)]
+pub enum Refused {
+    /// Memory was refused.
+    Memory,
+    /// The words are no line of the program.
+    Usage,
+}

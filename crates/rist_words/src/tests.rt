@@ -1,0 +1,195 @@
+//! Command lines that are taken and refused.
+use crate::{Line, PackLine, Refused, ReplayLine, SessionWords, ShowLine, line};
+use outside_io::Profile;
+use std::alloc::Global;
+use std::test::Fail;
+
+const PLAIN: SessionWords<'static> = SessionWords {
+    profile: Profile::Simple,
+    port: 1968,
+    pass: None,
+    bits: 128,
+};
+
+/// Whether the words between blanks are this line, or are refused.
+fn reads(
+    alloc: Global,
+    text: &str,
+    line_or_refused: Result<Line<'_>, Refused>,
+) -> Result<bool, Fail> {
+    let mut words = Vec::new(alloc);
+    for word in text.split(' ') {
+        words.push(String::from_str(alloc, word)?)?;
+    }
+    Ok(line(alloc, words.as_slice()) == line_or_refused)
+}
+
+/// Lines with the names, the delay and the span that they give.
+static REPLAYS: [(&str, &str, &str, u64, u64); 14] = [
+    ("rist replay - -", "-", "-", 1000, 2048),
+    ("rist replay a b", "a", "b", 1000, 2048),
+    ("rist replay --delay 5 a b", "a", "b", 5, 2048),
+    ("rist replay a --span=7 b", "a", "b", 1000, 7),
+    (
+        "rist replay a b --delay 30000 --span 16384",
+        "a",
+        "b",
+        30_000,
+        16_384,
+    ),
+    ("rist replay a b --span 1 --delay=1", "a", "b", 1, 1),
+    ("rist replay a b --delay 0100", "a", "b", 100, 2048),
+    (
+        "rist replay a b --delay 00000000000000000009",
+        "a",
+        "b",
+        9,
+        2048,
+    ),
+    ("rist replay -- -a --delay", "-a", "--delay", 1000, 2048),
+    ("rist replay --span 9 -- -a -b", "-a", "-b", 1000, 9),
+    ("rist replay 3:1 a=b", "3:1", "a=b", 1000, 2048),
+    ("rist replay replay show", "replay", "show", 1000, 2048),
+    ("other replay a help", "a", "help", 1000, 2048),
+    (" replay a b", "a", "b", 1000, 2048),
+];
+
+static REFUSED: [&str; 49] = [
+    "",
+    "rist",
+    "rist play a b",
+    "rist replay",
+    "rist replay a",
+    "rist replay a b c",
+    "rist replay a ",
+    "rist replay  b",
+    "rist replay a b --span 0",
+    "rist replay a b --span 16385",
+    "rist replay a b --delay 0",
+    "rist replay a b --delay 30001",
+    "rist replay a b --delay +5",
+    "rist replay a b --delay -5",
+    "rist replay a b --delay=-5",
+    "rist replay a b --delay 000000000000000000009",
+    "rist replay a b --delay 99999999999999999999",
+    "rist replay a b --delay=",
+    "rist replay a b --delay 5x",
+    "rist replay a b --delay",
+    "rist replay a b --delay --span 5",
+    "rist replay a b --delay 5 --delay 5",
+    "rist replay a b --del 5",
+    "rist replay a -b",
+    "rist replay a b --flow 2",
+    "rist --delay 5 replay a b",
+    "rist show",
+    "rist show a b",
+    "rist show a --delay 5",
+    "rist pack a b --flow 3",
+    "rist pack a b --flow 4294967296",
+    "rist pack a b --first 65536",
+    "rist pack a b --profile main --wide --first 4294967296",
+    "rist pack a b --profile main --wide=1",
+    "rist pack a b --profile main --wide --wide",
+    "rist pack a b --wide",
+    "rist pack a b --nulls",
+    "rist show a --nulls",
+    "rist show a --profile Main",
+    "rist show a --port 3",
+    "rist show a --port 0",
+    "rist show a --port 65536",
+    "rist show a --bits 192",
+    "rist show a --pass x",
+    "rist show a --profile main --pass=",
+    "rist --help",
+    "rist replay --help",
+    "rist help",
+    "rist --version",
+];
+
+fn all_replays(alloc: Global) -> Result<bool, Fail> {
+    for (text, capture, out, delay, span) in REPLAYS {
+        let line = ReplayLine {
+            capture,
+            out,
+            session: PLAIN,
+            delay,
+            span,
+        };
+        if !reads(alloc, text, Ok(Line::Replay(line)))? {
+            return Ok(false);
+        }
+    }
+    Ok(true)
+}
+
+fn all_refused(alloc: Global) -> Result<bool, Fail> {
+    for text in REFUSED {
+        if !reads(alloc, text, Err(Refused::Usage))? {
+            return Ok(false);
+        }
+    }
+    Ok(true)
+}
+
+fn all_shown(alloc: Global) -> Result<bool, Fail> {
+    let line = |session| Ok(Line::Show(ShowLine {
+        capture: "a",
+        session,
+    }));
+    let sealed = SessionWords {
+        profile: Profile::Main,
+        port: 65_534,
+        pass: Some("-x"),
+        bits: 256,
+    };
+    let text = "rist show --profile main a --port 65534 --pass=-x --bits=256";
+    Ok(
+        reads(
+            alloc,
+            "rist show a --bits 128 --profile simple",
+            line(PLAIN),
+        )? && reads(alloc, text, line(sealed))?,
+    )
+}
+
+fn all_packed(alloc: Global) -> Result<bool, Fail> {
+    let plain = PackLine {
+        source: "a",
+        capture: "b",
+        session: PLAIN,
+        nulls: false,
+        wide: false,
+        flow: 270_544_960,
+        first: 0,
+        gap: 1000,
+    };
+    let full = PackLine {
+        session: SessionWords {
+            profile: Profile::Main,
+            ..PLAIN
+        },
+        nulls: true,
+        wide: true,
+        flow: 2,
+        first: 4_294_967_295,
+        gap: 1_000_000,
+        ..plain
+    };
+    let text =
+        "rist pack a b --first 4294967295 --flow=2 --gap 1000000 --nulls --profile=main --wide";
+    Ok(
+        reads(alloc, "rist pack a b", Ok(Line::Pack(plain)))?
+            && reads(alloc, text, Ok(Line::Pack(full)))?,
+    )
+}
+
+#[test]
+fn words_are_a_line_or_refused(rt: HostRuntime) -> Result<(), Fail> {
+    let alloc = rt.alloc();
+    assert!(rt; all_replays(alloc)?);
+    assert!(rt; all_shown(alloc)?);
+    assert!(rt; all_packed(alloc)?);
+    assert!(rt; all_refused(alloc)?);
+    assert_eq!(rt; line(alloc, &[]), Err(Refused::Usage));
+    Ok(())
+}
