@@ -2,7 +2,7 @@
 #![tactic(auto)]
 
 use outside_io::RealHost;
-use rist_top::{Status, run};
+use rist_top::{Status, USAGE, run};
 use std::env;
 use std::process::ExitCode;
 
@@ -32,6 +32,9 @@ fn main(rt: HostRuntime) -> ExitCode {
     if status != Status::Done {
         // A text that can't be written changes no status.
         let _ = eprintln!(rt; "rist: {status}");
+    }
+    if status == Status::Usage {
+        let _ = eprint!(rt; "{USAGE}");
     }
     ExitCode::from(status.exit_code())
 }

@@ -1,5 +1,2 @@
-pub mod SteppingLemmas
-pub mod GoingLemmas
-pub mod EndingLemmas
-pub mod HandedLemmas
 pub mod ExactLemmas
+pub mod CompleteLemmas

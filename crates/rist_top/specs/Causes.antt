@@ -1,19 +1,18 @@
--- What a step leaves, and why one fails.
-use Rattle.std.specs.Prelude.{◌≡◌, ◌<◌, ◌≤◌, ◌^◌, ℕ, Result, Err}
+-- Why a command failed.
+use Rattle.std.specs.Prelude.{◌≡◌, ◌≢◌, ◌≤◌, ℕ}
 use Rattle.outside_io.specs.Causes.{Rose}
-use Rattle.reorder_buffer.specs.State.{State}
-use Rattle.reorder_buffer.specs.declared.phase.Phase.TheVariants.{Open}
-use Rattle.rist_top.specs.declared.stepping.StepBad.{StepBad}
-use Rattle.rist_top.specs.declared.stepping.StepBad.TheVariants.{WriteFault}
+use Rattle.rist_top.specs.declared.status.Status.{Status}
+use Rattle.rist_top.specs.declared.status.Status.TheVariants as statuses
 
--- the count did not fall, and rose where a write failed
-pub record HasStepCause (before now : ℕ) (result : Result ℕ StepBad) : Type 0 where
-  pub later : before ≤ now
-  pub failed : result ≡ Err WriteFault → Rose before now
+-- neither count fell; the source's rose where a read failed, the sink's where a write failed
+pub record HasCauses (source_before source_now sink_before sink_now : ℕ) (status : Status) : Type 0 where
+  pub source_later : source_before ≤ source_now
+  pub sink_later : sink_before ≤ sink_now
+  pub read : status ≡ statuses.ReadFault → Rose source_before source_now
+  pub write : status ≡ statuses.WriteFault → Rose sink_before sink_now
 
--- the buffer goes on at this effective time
-pub record IsMoved (old new : State) (at : ℕ) : Type 0 where
-  pub running : new.phase ≡ Open
-  pub time : new.time ≡ at
-  pub limits : new.limits ≡ old.limits
-  pub tick : at < 2 ^ 61
+-- a status that the work over a source and a sink can have
+pub record IsOwn (status : Status) : Type 0 where
+  pub line : status ≢ statuses.Usage
+  pub opened : status ≢ statuses.OpenFault
+  pub random : status ≢ statuses.EntropyFault

@@ -1,7 +1,7 @@
 -- The exit status of the program, by how a command ended.
 use Rattle.std.specs.Prelude.{ℕ}
 use Rattle.rist_top.specs.declared.status.Status.{Status}
-use Rattle.rist_top.specs.declared.status.Status.TheVariants.{Done, Memory, Usage, OpenFault, ReadFault, WriteFault, BadCapture, TooLong}
+use Rattle.rist_top.specs.declared.status.Status.TheVariants.{Done, Memory, Usage, OpenFault, ReadFault, WriteFault, BadCapture, EntropyFault, TooLong}
 
 abbrev pub exit_code_of : Status → ℕ
 exit_code_of Done = 0
@@ -11,4 +11,5 @@ exit_code_of OpenFault = 3
 exit_code_of ReadFault = 4
 exit_code_of WriteFault = 5
 exit_code_of (BadCapture kind at) = 7
+exit_code_of EntropyFault = 11
 exit_code_of TooLong = 12

@@ -1,9 +1,8 @@
 pub mod ExitCodes
-pub mod Words
-pub mod Media
 pub mod Causes
-pub mod Replay
-pub mod Sofar
-pub mod Turns
+pub mod Sessions
+pub mod Works
+pub mod Sealing
 pub mod Ran
 pub mod Exact
+pub mod Complete

@@ -2,15 +2,14 @@
 //! sinks tell before and after.
 #![tactic(auto)]
 
-pub mod laws;
-mod media;
-mod replaying;
+mod sealing;
+mod sessions;
 mod status;
-mod stepping;
 #[cfg(test)]
 mod tests;
 mod top;
-mod words;
+mod working;
 
+pub use rist_words::USAGE;
 pub use status::Status;
 pub use top::run;

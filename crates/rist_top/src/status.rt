@@ -1,4 +1,7 @@
 use capture_file::CapKind;
+use capture_walk::WalkBad;
+use outside_io::HostBad;
+use rist_pack::PackBad;
 use std::fmt::{self, Display, Formatter, Write};
 
 /// How a command ended.
@@ -18,7 +21,9 @@ pub enum Status {
     WriteFault,
     /// No record of a capture stands at this offset, for this kind.
     BadCapture(CapKind, u64),
-    /// A record ends past 2^40 octets.
+    /// A random word could not be had.
+    EntropyFault,
+    /// A record ends, or what was read of a source goes, past 2^40 octets.
     TooLong,
 }
 
@@ -38,7 +43,50 @@ impl Status {
             Status::ReadFault => 4,
             Status::WriteFault => 5,
             Status::BadCapture(..) => 7,
+            Status::EntropyFault => 11,
             Status::TooLong => 12,
+        }
+    }
+}
+
+impl Status {
+    ghost use Rattle.std.specs.Prelude.{◌≡◌, ◌⊎◌};
+    ghost use Rattle.rist_top.specs.Works.{walk_status, pack_status};
+
+    /// How a walk over a capture ended.
+    pub(crate) fn of_walk(end: Result<(), WalkBad>) -> Status
+        ensures value { result ≡ walk_status end }
+    {
+        match end {
+            Ok(()) => Status::Done,
+            Err(WalkBad::Memory) => Status::Memory,
+            Err(WalkBad::ReadFault) => Status::ReadFault,
+            Err(WalkBad::WriteFault) => Status::WriteFault,
+            Err(WalkBad::BadCapture(kind, at)) => Status::BadCapture(kind, at),
+            Err(WalkBad::TooLong) => Status::TooLong,
+        }
+    }
+
+    /// How a packing ended.
+    pub(crate) fn of_packing(end: Result<(), PackBad>) -> Status
+        ensures value { result ≡ pack_status end }
+    {
+        match end {
+            Ok(()) => Status::Done,
+            Err(PackBad::ReadFault) => Status::ReadFault,
+            Err(PackBad::WriteFault) => Status::WriteFault,
+            Err(PackBad::TooLong) => Status::TooLong,
+        }
+    }
+
+    /// Where a host hands nothing out.
+    pub(crate) fn of_host(bad: HostBad) -> Status
+        ensures failed { result ≡ Status.OpenFault → bad ≡ HostBad.Failed }
+        ensures other { (result ≡ Status.OpenFault) ⊎ (result ≡ Status.Memory) }
+    {
+        match bad {
+            HostBad::Failed => Status::OpenFault,
+            HostBad::NoMemory => Status::Memory,
         }
     }
 }
@@ -53,6 +101,7 @@ impl Display for Status {
             Status::ReadFault => f.write_str("read failed"),
             Status::WriteFault => f.write_str("write failed"),
             Status::BadCapture(kind, at) => write!(f, "bad capture: {kind} at {at}"),
+            Status::EntropyFault => f.write_str("no randomness"),
             Status::TooLong => f.write_str("input too long"),
         }
     }

@@ -6,7 +6,7 @@ ghost use Rattle.receiver_rules.specs.Plain.{IsFit};
 
 use crate::{Status, run};
 use capture_file::CapKind;
-use outside_io::{Bytes, MemHost, MemParts, MemSource, Place, Slot, Store8};
+use outside_io::{MemHost, MemParts, MemSource, Pieces, Place, Slot, Store8, Words};
 use receiver_rules::plain::{Event, Step, released};
 use receiver_rules::{Arrival, Limits, tick_of};
 use seq_unwrap::Width;
@@ -26,37 +26,77 @@ const C_EARLY: &[u8] = b"\0\0\0\x0D\0\0\0\0\0\0\x27\x10\x80\x21\0\x0C\0\0\x07\x0
 
 const B_LATE: &[u8] = b"\0\0\0\x0D\0\0\0\0\0\0\x4E\x20\x80\x21\0\x0B\0\0\x03\x84\x10\x20\x30\x40B";
 
-fn words(alloc: Global, list: &[&str]) -> Result<Vec<String>, Fail> {
+/// What a host has beside its source: where that is cut, random words, and which of the source's reads, the sink's puts,
+/// the draws of words and the host's own calls fail.
+#[derive(Clone, Copy)]
+struct Outside<'a> {
+    cuts: &'a [usize],
+    reads: &'a [u64],
+    puts: &'a [u64],
+    random: &'a [u32],
+    draws: &'a [u64],
+    calls: &'a [u64],
+}
+
+const NOTHING: Outside<'static> = Outside {
+    cuts: &[],
+    reads: &[],
+    puts: &[],
+    random: &[],
+    draws: &[],
+    calls: &[],
+};
+
+/// A host with a source and a sink under `-`.
+fn host(alloc: Global, octets: &[u8], outside: &Outside<'_>) -> Result<MemHost, Fail> {
+    let mut sources = Vec::new(alloc);
+    let source = Pieces::with(alloc, octets, outside.cuts, outside.reads)?;
+    sources.push(Slot {
+        name: String::from_str(alloc, "-")?,
+        place: Place::Here(MemSource::Cut(source)),
+    })?;
+    let mut sinks = Vec::new(alloc);
+    sinks.push(Slot {
+        name: String::from_str(alloc, "-")?,
+        place: Place::Here(Store8::with(alloc, 1 << 16, outside.puts)?),
+    })?;
+    let mut entropies = Vec::new(alloc);
+    entropies.push(Place::Here(Words::with(alloc, outside.random, outside.draws)?))?;
+    Ok(MemHost::with(MemParts {
+        sources,
+        sinks,
+        entropies,
+        failing: Vec::from_slice(alloc, outside.calls)?,
+    }))
+}
+
+/// The words between blanks, the program's name before them.
+fn words(alloc: Global, line: &str) -> Result<Vec<String>, Fail> {
     let mut words = Vec::new(alloc);
-    for word in list {
+    words.push(String::from_str(alloc, "rist")?)?;
+    for word in line.split(' ') {
         words.push(String::from_str(alloc, word)?)?;
     }
     Ok(words)
 }
 
-/// A host with a capture and an empty sink under `-`.
-fn host(
+/// What a command writes, if it ends with this status.
+fn written(
     alloc: Global,
-    capture: &[u8],
-    failing_puts: &[u64],
-    calls: &[u64],
-) -> Result<MemHost, Fail> {
-    let mut sources = Vec::new(alloc);
-    sources.push(Slot {
-        name: String::from_str(alloc, "-")?,
-        place: Place::Here(MemSource::Whole(Bytes::with(alloc, capture, &[])?)),
-    })?;
-    let mut sinks = Vec::new(alloc);
-    sinks.push(Slot {
-        name: String::from_str(alloc, "-")?,
-        place: Place::Here(Store8::with(alloc, 1 << 16, failing_puts)?),
-    })?;
-    Ok(MemHost::with(MemParts {
-        sources,
-        sinks,
-        entropies: Vec::new(alloc),
-        failing: Vec::from_slice(alloc, calls)?,
-    }))
+    line: &str,
+    source: &[u8],
+    outside: &Outside<'_>,
+    status: Status,
+) -> Result<Vec<u8>, Fail> {
+    let line = words(alloc, line)?;
+    let mut host = host(alloc, source, outside)?;
+    if run(alloc, line.as_slice(), &mut host) != status {
+        return Err(Fail::new("another status"));
+    }
+    match host.returned_sink("-") {
+        Some(sink) => Ok(Vec::from_slice(alloc, sink.octets())?),
+        None => Err(Fail::new("no sink")),
+    }
 }
 
 fn joined(alloc: Global, parts: &[&[u8]]) -> Result<Vec<u8>, Fail> {
@@ -71,30 +111,25 @@ fn joined(alloc: Global, parts: &[&[u8]]) -> Result<Vec<u8>, Fail> {
 fn replays(
     alloc: Global,
     parts: &[&[u8]],
-    failing_puts: &[u64],
+    outside: &Outside<'_>,
     status: Status,
-    written: &[u8],
+    octets: &[u8],
 ) -> Result<bool, Fail> {
-    let line = words(alloc, &["rist", "replay", "-", "-"])?;
     let capture = joined(alloc, parts)?;
-    let mut host = host(alloc, capture.as_slice(), failing_puts, &[])?;
-    let answered = run(alloc, line.as_slice(), &mut host);
-    match host.returned_sink("-") {
-        Some(sink) => Ok(answered == status && sink.octets() == written),
-        None => Ok(false),
-    }
+    let written = written(alloc, "replay - -", capture.as_slice(), outside, status)?;
+    Ok(written.as_slice() == octets)
 }
 
 #[test]
 fn a_capture_is_replayed_in_the_order_of_its_numbers(rt: HostRuntime) -> Result<(), Fail> {
     let alloc = rt.alloc();
-    assert!(rt; replays(alloc, &[NAME, A, B, C], &[], Status::Done, b"ABC")?);
-    assert!(rt; replays(alloc, &[NAME], &[], Status::Done, b"")?);
+    assert!(rt; replays(alloc, &[NAME, A, B, C], &NOTHING, Status::Done, b"ABC")?);
+    assert!(rt; replays(alloc, &[NAME], &NOTHING, Status::Done, b"")?);
     assert!(rt;
         replays(
             alloc,
             &[NAME, A, C_EARLY, B_LATE],
-            &[],
+            &NOTHING,
             Status::Done,
             b"ABC"
         )?
@@ -106,32 +141,147 @@ fn a_capture_is_replayed_in_the_order_of_its_numbers(rt: HostRuntime) -> Result<
 fn a_fault_is_answered_and_what_was_held_is_written(rt: HostRuntime) -> Result<(), Fail> {
     let alloc = rt.alloc();
     let truncated = Status::BadCapture(CapKind::Truncated, 33);
-    assert!(rt; replays(alloc, &[NAME, A, b"\0\0\0"], &[], truncated, b"A")?);
+    assert!(rt; replays(alloc, &[NAME, A, b"\0\0\0"], &NOTHING, truncated, b"A")?);
     let magic = Status::BadCapture(CapKind::Magic, 0);
-    assert!(rt; replays(alloc, &[b"RISTCAP2", A], &[], magic, b"")?);
-    assert!(rt; replays(alloc, &[NAME, A, B, C], &[1], Status::WriteFault, b"A")?);
+    assert!(rt; replays(alloc, &[b"RISTCAP2", A], &NOTHING, magic, b"")?);
+    let whole = &[NAME, A, B, C];
+    for (put, octets) in [
+        (0, b"".as_slice()),
+        (1, b"A".as_slice()),
+        (2, b"AB".as_slice()),
+    ] {
+        let outside = Outside {
+            puts: &[put],
+            ..NOTHING
+        };
+        assert!(rt; replays(alloc, whole, &outside, Status::WriteFault, octets)?);
+    }
+    // The source gives 33 octets, a whole record, and then fails.
+    let outside = Outside {
+        cuts: &[33],
+        reads: &[1],
+        ..NOTHING
+    };
+    assert!(rt; replays(alloc, whole, &outside, Status::ReadFault, b"A")?);
     Ok(())
 }
 
 #[test]
-fn a_missing_name_and_a_short_line_are_refused(rt: HostRuntime) -> Result<(), Fail> {
+fn what_is_no_line_or_not_there_is_refused(rt: HostRuntime) -> Result<(), Fail> {
     let alloc = rt.alloc();
-    let capture = joined(alloc, &[NAME, A])?;
-    let mut host = host(alloc, capture.as_slice(), &[], &[2])?;
-    let missing = words(alloc, &["rist", "replay", "file", "-"])?;
+    for line in [
+        "replay",
+        "replay - - --port 3",
+        "replay - - --span 0",
+        "pack -",
+        "--help",
+    ] {
+        let line = words(alloc, line)?;
+        let mut host = host(alloc, b"", &NOTHING)?;
+        assert_eq!(rt; run(alloc, line.as_slice(), &mut host), Status::Usage);
+    }
+    let missing = words(alloc, "replay file -")?;
+    let mut host_without = host(alloc, b"", &NOTHING)?;
     assert_eq!(rt;
-        run(alloc, missing.as_slice(), &mut host),
+        run(alloc, missing.as_slice(), &mut host_without),
         Status::OpenFault
     );
-    let short = words(alloc, &["rist", "replay"])?;
-    assert_eq!(rt; run(alloc, short.as_slice(), &mut host), Status::Usage);
-    let option = words(alloc, &["rist", "replay", "-", "-x"])?;
-    assert_eq!(rt; run(alloc, option.as_slice(), &mut host), Status::Usage);
-    // The third call of the host fails: that for the sink, so the source comes back.
-    let line = words(alloc, &["rist", "replay", "-", "-"])?;
-    assert_eq!(rt; run(alloc, line.as_slice(), &mut host), Status::OpenFault);
-    assert!(rt; host.returned_source("-").is_some() && host.returned_sink("-").is_none());
-    assert_eq!(rt; Status::TooLong.exit_code(), 12);
+    // The second call of the host fails: that for the sink, so the source comes back.
+    let line = words(alloc, "replay - -")?;
+    let outside = Outside {
+        calls: &[1],
+        ..NOTHING
+    };
+    let mut failing = host(alloc, b"", &outside)?;
+    assert_eq!(rt;
+        run(alloc, line.as_slice(), &mut failing),
+        Status::OpenFault
+    );
+    assert!(rt; failing.returned_source("-").is_some() && failing.returned_sink("-").is_none());
+    assert_eq!(rt; Status::EntropyFault.exit_code(), 11);
+    Ok(())
+}
+
+/// Whether what a packing writes is replayed to its source, with the same options of the session.
+fn returns(alloc: Global, source: &[u8], pack: &str, replay: &str) -> Result<bool, Fail> {
+    let outside = Outside {
+        random: &[9; 16],
+        ..NOTHING
+    };
+    let capture = written(alloc, pack, source, &outside, Status::Done)?;
+    let octets = written(alloc, replay, capture.as_slice(), &NOTHING, Status::Done)?;
+    Ok(octets.as_slice() == source)
+}
+
+#[test]
+fn a_packed_stream_is_replayed_to_itself(rt: HostRuntime) -> Result<(), Fail> {
+    let alloc = rt.alloc();
+    let source = [0x2F; 5264];
+    let capture = written(alloc, "pack - -", &source[..2632], &NOTHING, Status::Done)?;
+    assert_eq!(rt; capture.len(), 2688);
+    assert!(rt; returns(alloc, &source, "pack - -", "replay - -")?);
+    assert!(rt; returns(alloc, &source, "pack --first 65534 - -", "replay - -")?);
+    assert!(rt;
+        returns(
+            alloc,
+            &source,
+            "pack --profile main --wide --first 4294967295 - -",
+            "replay --profile main - -"
+        )?
+    );
+    assert!(rt;
+        returns(
+            alloc,
+            &source,
+            "pack --profile main --pass secret --bits 256 - -",
+            "replay --profile main --pass secret --bits 256 - -"
+        )?
+    );
+    Ok(())
+}
+
+#[test]
+fn what_is_enciphered_under_another_passphrase_is_refused(rt: HostRuntime) -> Result<(), Fail> {
+    let alloc = rt.alloc();
+    let outside = Outside {
+        random: &[9; 16],
+        ..NOTHING
+    };
+    let line = "pack --profile main --pass secret - -";
+    let capture = written(alloc, line, &[0x2F; 2632], &outside, Status::Done)?;
+    let line = "replay --profile main --pass another - -";
+    let octets = written(alloc, line, capture.as_slice(), &NOTHING, Status::Done)?;
+    assert!(rt; octets.is_empty());
+    let line = "replay --profile main --pass secret - -";
+    let octets = written(alloc, line, capture.as_slice(), &NOTHING, Status::Done)?;
+    assert!(rt; octets.as_slice() == [0x2F; 2632].as_slice());
+    Ok(())
+}
+
+#[test]
+fn words_that_fail_write_nothing(rt: HostRuntime) -> Result<(), Fail> {
+    let alloc = rt.alloc();
+    for draw in [0, 7, 15] {
+        let outside = Outside {
+            random: &[9; 16],
+            draws: &[draw],
+            ..NOTHING
+        };
+        let line = "pack --profile main --pass secret - -";
+        let octets = written(alloc, line, b"ABC", &outside, Status::EntropyFault)?;
+        assert!(rt; octets.is_empty());
+    }
+    Ok(())
+}
+
+#[test]
+fn a_record_is_shown_as_a_line(rt: HostRuntime) -> Result<(), Fail> {
+    let alloc = rt.alloc();
+    let capture = joined(alloc, &[NAME, A])?;
+    let octets = written(alloc, "show -", capture.as_slice(), &NOTHING, Status::Done)?;
+    let line =
+        b"{\"again\":false,\"at\":0,\"channel\":\"media\",\"flow\":\"10203040\",\"item\":\"media\",\"length\":1,\"link\":0,\"number\":10,\"stamp\":0,\"width\":16}\n";
+    assert!(rt; octets.as_slice() == line.as_slice());
     Ok(())
 }
 
@@ -147,6 +297,7 @@ fn each_status_has_its_text(rt: HostRuntime) -> Result<(), Fail> {
             Status::BadCapture(CapKind::Truncated, 33),
             "bad capture: truncated at 33",
         ),
+        (Status::EntropyFault, "no randomness"),
         (Status::TooLong, "input too long"),
     ] {
         let written = format!(in rt.alloc(); "{status}")?;
@@ -262,15 +413,16 @@ fn a_made_capture_is_replayed_as_the_plain_program_says(rt: HostRuntime) -> Resu
     let mut octets = joined(alloc, &[NAME])?;
     let steps = made_capture(alloc, &mut octets, 3000)?;
     let payloads = released(alloc, &limits(), steps.as_slice())?;
-    let written = joined(alloc, payloads.as_slice())?;
-    assert!(rt; written.len() > 1500 && written.len() < 3000);
+    let expected = joined(alloc, payloads.as_slice())?;
+    assert!(rt; expected.len() > 1500 && expected.len() < 3000);
+    let capture = octets.as_slice();
     assert!(rt;
         replays(
             alloc,
-            &[octets.as_slice()],
-            &[],
+            &[capture],
+            &NOTHING,
             Status::Done,
-            written.as_slice()
+            expected.as_slice()
         )?
     );
     Ok(())

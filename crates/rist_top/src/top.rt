@@ -1,71 +1,95 @@
-ghost use Rattle.std.specs.Prelude.{◌≡◌, ◌≢◌, ◌≤◌, ◌⊎◌, IsTrue, false, map, string_bytes};
+ghost use Rattle.std.specs.Prelude.{◌≡◌, ◌≢◌, ◌≤◌, ◌⊎◌, IsTrue, Some, None, map, string_bytes};
 ghost use Rattle.outside_io.specs.Causes.{Rose};
-ghost use Rattle.rist_top.specs.Words.{is_line, word};
-ghost use Rattle.rist_top.specs.Ran.{Ran};
+ghost use Rattle.rist_words.specs.CommandLine.{CommandLine, Replay, ReplayCommand, line_of};
+ghost use Rattle.rist_words.specs.Shown.{shown};
+ghost use Rattle.rist_words.specs.Ranges.{IsInRange};
+ghost use Rattle.rist_top.specs.Ran.{Ran, source_name, sink_name};
 ghost use Rattle.rist_top.specs.Exact.{WritesReached};
+ghost use Rattle.rist_top.specs.Complete.{Completes};
 
-use crate::replaying::replay;
 use crate::status::Status;
-use crate::words::is_line;
-use capture_file::Reader;
-use outside_io::{Host, HostBad};
+use crate::working::{Worked, work};
+use outside_io::Host;
+use rist_words::{Line, Refused, line};
 use std::alloc::Global;
 
-/// Does what the words of a command line say, the program's name first, with the objects of a host. The line is
-/// `replay CAPTURE OUT`: it writes the payloads of a capture's media packets to OUT, as a receiver plays them out.
+/// Does what the words of a command line say, the program's name first, with the objects of a host.
 pub fn run<H: Host>(alloc: Global, words: &[String], host: &mut H) -> Status
-    // The words are refused exactly where they are no line.
-    ensures usage { result ≡ Status.Usage → is_line (map string_bytes words.now) ≡ false }
-    ensures refused { is_line (map string_bytes words.now) ≡ false → result ≡ Status.Usage }
+    // The words are refused exactly where they are no line, memory aside.
+    ensures usage { result ≡ Status.Usage → line_of (map string_bytes words.now) ≡ None }
+    ensures refused { line_of (map string_bytes words.now) ≡ None → (result ≡ Status.Usage) ⊎ (result ≡ Status.Memory) }
 
     // A fault at opening comes only where a call of the host failed.
     ensures opened { result ≡ Status.OpenFault → Rose (H.faults host.old) (H.faults host.new) }
     ensures later { H.faults host.old ≤ H.faults host.new }
 
     // Every other answer but want of memory is about what the host's objects tell.
-    ensures ran { IsTrue H.tells → result ≢ Status.Usage → result ≢ Status.OpenFault → result ≢ Status.Memory
-        → Ran H.Input.remaining H.Input.faults H.Output.contents H.Output.faults (H.shelf host.old) (H.shelf host.new)
-        (word (map string_bytes words.now) 2) (word (map string_bytes words.now) 3) result }
+    ensures ran { (c : CommandLine) → line_of (map string_bytes words.now) ≡ Some c → IsTrue H.tells → (H.shelf host.old).next_entropy ≡ 0 → result ≢ Status.OpenFault → result ≢ Status.Memory
+        → Ran H.Input.remaining H.Input.faults H.Output.contents H.Output.faults H.Random.faults (H.shelf host.old) (H.shelf host.new) c result }
+
+    // What a replay leaves is the exact release set, in sent numbers.
+    ensures reached { (c : ReplayCommand) → line_of (map string_bytes words.now) ≡ Some (Replay c) → IsTrue H.tells → (H.shelf host.old).next_entropy ≡ 0 → result ≡ Status.Done
+        → WritesReached H.Input.remaining H.Output.contents (H.shelf host.old) (H.shelf host.new) c }
+
+    // Where no call fails, a capture is taken to its end, and so is a source.
+    ensures complete { (c : CommandLine) → line_of (map string_bytes words.now) ≡ Some c → IsTrue H.tells → (H.shelf host.old).next_entropy ≡ 0 → (Rose (H.faults host.old) (H.faults host.new) → ⊥)
+        → Completes H.Input.remaining H.Input.faults H.Output.faults H.Random.faults (H.shelf host.old) (H.shelf host.new) c result }
 {
-    if !is_line(words) {
-        return Status::Usage;
+    match line(alloc, words) {
+        Ok(line) => run_line(alloc, host, &line),
+        Err(Refused::Usage) => Status::Usage,
+        Err(Refused::Memory) => Status::Memory,
     }
-    replay_names(alloc, host, words[2].as_str(), words[3].as_str())
 }
 
-/// Takes the source and the sink of these names, replays, and gives both back.
-fn replay_names<H: Host>(alloc: Global, host: &mut H, capture: &str, out: &str) -> Status
+/// Does a line.
+fn run_line<H: Host>(alloc: Global, host: &mut H, line: &Line<'_>) -> Status
+    requires range { IsInRange (shown line.now) }
     ensures line { result ≢ Status.Usage }
     ensures opened { result ≡ Status.OpenFault → Rose (H.faults host.old) (H.faults host.new) }
     ensures later { H.faults host.old ≤ H.faults host.new }
-    ensures ran { IsTrue H.tells → result ≢ Status.OpenFault → result ≢ Status.Memory
-        → Ran H.Input.remaining H.Input.faults H.Output.contents H.Output.faults (H.shelf host.old) (H.shelf host.new) capture.now out.now result }
+    ensures ran { IsTrue H.tells → (H.shelf host.old).next_entropy ≡ 0 → result ≢ Status.OpenFault → result ≢ Status.Memory
+        → Ran H.Input.remaining H.Input.faults H.Output.contents H.Output.faults H.Random.faults (H.shelf host.old) (H.shelf host.new) (shown line.now) result }
 {
-    let source = match host.source(capture) {
+    let source = match host.source(source_name(line)) {
         Ok(source) => source,
-        Err(bad) => return refusal(bad),
+        Err(bad) => return Status::of_host(bad),
     };
-    let mut sink = match host.sink(out) {
+    let sink = match host.sink(sink_name(line)) {
         Ok(sink) => sink,
         Err(bad) => {
-            host.back_source(capture, source);
-            return refusal(bad);
+            host.back_source(source_name(line), source);
+            return Status::of_host(bad);
         }
     };
-    let mut reader = Reader::over(source);
-    let status = replay(alloc, &mut reader, &mut sink);
-    host.back_source(capture, reader.back());
-    host.back_sink(out, sink);
+    let Worked {
+        source,
+        sink,
+        status,
+    } = work(alloc, host, line, source, sink);
+    host.back_source(source_name(line), source);
+    host.back_sink(sink_name(line), sink);
     status
 }
 
-/// The status of a host that hands nothing out.
-fn refusal(bad: HostBad) -> Status
-    ensures failed { result ≡ Status.OpenFault → bad ≡ HostBad.Failed }
-    ensures other { (result ≡ Status.OpenFault) ⊎ (result ≡ Status.Memory) }
+/// The name of a line's source.
+fn source_name<'a>(line: &Line<'a>) -> &'a str
+    ensures value { result.now ≡ source_name (shown line.now) }
 {
-    match bad {
-        HostBad::Failed => Status::OpenFault,
-        HostBad::NoMemory => Status::Memory,
+    match line {
+        Line::Replay(line) => line.capture,
+        Line::Show(line) => line.capture,
+        Line::Pack(line) => line.source,
+    }
+}
+
+/// The name of a line's sink.
+fn sink_name<'a>(line: &Line<'a>) -> &'a str
+    ensures value { result.now ≡ sink_name (shown line.now) }
+{
+    match line {
+        Line::Replay(line) => line.out,
+        Line::Show(_) => "-",
+        Line::Pack(line) => line.capture,
     }
 }

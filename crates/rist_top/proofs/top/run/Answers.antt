@@ -1,0 +1,37 @@
+-- The values of a line lie in their ranges, and what a replay leaves is the exact release set.
+use Rattle.std.proofs.Common.{◌≡◌, ◌∙◌, sym, subst, Some}
+use Rattle.rist_words.proofs.RangeLemmas.{line_range}
+use Rattle.rist_words.specs.CommandLine.{CommandLine, Replay}
+use Rattle.rist_top.specs.Ran.{Ran}
+use Rattle.rist_top.specs.declared.status.Status.TheVariants as statuses
+use Rattle.rist_top.proofs.ExactLemmas.{ran_reached}
+use Rattle.rist_top.proofs.CompleteLemmas.{ran_completes}
+use Rattle.rist_top.proofs.top.run.Goals as goal
+
+same_line : (x y : CommandLine) → Some x ≡ Some y → x ≡ y
+same_line x y e = cc
+
+not_open : statuses.Done ≡ statuses.OpenFault → ⊥
+not_open e = cc
+
+not_memory : statuses.Done ≡ statuses.Memory → ⊥
+not_memory e = cc
+
+pub run_line-requires : goal.run_line-requires
+run_line-requires g c = record { range = line_range _ _ c.in-Ok.ensures.ok }
+
+pub returns-in-Ok-clause-reached : goal.returns-in-Ok-clause-reached
+returns-in-Ok-clause-reached g c r is tells zero done =
+    ran_reached g.H.Input.Source.remaining g.H.Input.Source.faults g.H.Output.Sink.contents g.H.Output.Sink.faults g.H.Random.Entropy.faults (g.H.Host.shelf c.args.host.now) (g.H.Host.shelf c.run_line.new.host) r c.run_line.result
+    (line_range _ (Replay r) is).some_delay done
+    (subst (λ (k : CommandLine). Ran g.H.Input.Source.remaining g.H.Input.Source.faults g.H.Output.Sink.contents g.H.Output.Sink.faults g.H.Random.Entropy.faults (g.H.Host.shelf c.args.host.now) (g.H.Host.shelf c.run_line.new.host) k c.run_line.result)
+    (same_line _ _ (sym c.in-Ok.ensures.ok ∙ is))
+    (c.run_line.ensures.ran tells zero (λ e. not_open (sym done ∙ e)) (λ e. not_memory (sym done ∙ e))))
+
+pub returns-in-Ok-clause-complete : goal.returns-in-Ok-clause-complete
+returns-in-Ok-clause-complete g c k is tells zero opened =
+    ran_completes g.H.Input.Source.remaining g.H.Input.Source.faults g.H.Output.Sink.contents g.H.Output.Sink.faults g.H.Random.Entropy.faults (g.H.Host.shelf c.args.host.now) (g.H.Host.shelf c.run_line.new.host) k c.run_line.result
+    (λ e. opened (c.run_line.ensures.opened e))
+    (subst (λ (x : CommandLine). (c.run_line.result ≡ statuses.OpenFault → ⊥) → (c.run_line.result ≡ statuses.Memory → ⊥) → Ran g.H.Input.Source.remaining g.H.Input.Source.faults g.H.Output.Sink.contents g.H.Output.Sink.faults g.H.Random.Entropy.faults (g.H.Host.shelf c.args.host.now) (g.H.Host.shelf c.run_line.new.host) x c.run_line.result)
+    (same_line _ _ (sym c.in-Ok.ensures.ok ∙ is))
+    (c.run_line.ensures.ran tells zero))

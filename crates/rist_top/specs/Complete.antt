@@ -1,0 +1,33 @@
+-- A command whose calls don't fail comes to its end, or memory is refused.
+use Rattle.std.specs.Prelude.{◌≡◌, ◌⊎◌, ◌≤◌, ◌^◌, ℕ, List, length, Some, Option}
+use Rattle.outside_io.specs.Causes.{Rose}
+use Rattle.outside_io.specs.Shelf.{Shelf}
+use Rattle.outside_io.specs.declared.host.Place.TheVariants.{Here, Back}
+use Rattle.capture_file.specs.Capture.{Record, IsCapture}
+use Rattle.rist_words.specs.CommandLine.{CommandLine, Replay, Show, Pack}
+use Rattle.rist_top.specs.Ran.{source_name, sink_name}
+use Rattle.rist_top.specs.Sealing.{FailedAt}
+use Rattle.rist_top.specs.declared.status.Status.{Status}
+use Rattle.rist_top.specs.declared.status.Status.TheVariants as statuses
+
+-- octets are a capture within the greatest offset
+abbrev pub IsWholeCapture : List ℕ → Type 0
+IsWholeCapture b = ((rs : List Record) × IsCapture rs b) × (length b ≤ 2 ^ 40)
+
+-- octets that a command takes to their end: a capture, or for a packing any octets, within the greatest offset
+abbrev pub IsWholeInput : CommandLine → List ℕ → Type 0
+IsWholeInput (Replay c) b = IsWholeCapture b
+IsWholeInput (Show c) b = IsWholeCapture b
+IsWholeInput (Pack c) b = length b ≤ 2 ^ 40
+
+-- no read, no write and no drawing of random words failed
+pub record NoneFailed {I O E : Type 0} (read_faults : I → ℕ) (write_faults : O → ℕ) (word_faults : E → ℕ) (old new : Shelf I O E) (c : CommandLine) : Type 0 where
+  pub reads : (source spent : I) → old.sources (source_name c) ≡ Here source → new.sources (source_name c) ≡ Back spent → Rose (read_faults source) (read_faults spent) → ⊥
+  pub writes : (sink filled : O) → old.sinks (sink_name c) ≡ Here sink → new.sinks (sink_name c) ≡ Back filled → Rose (write_faults sink) (write_faults filled) → ⊥
+  pub words : FailedAt word_faults old new → ⊥
+
+-- a command over such a source in which nothing failed is done, or memory was refused
+abbrev pub Completes : {I O E : Type 0} → (I → Option (List ℕ)) → (I → ℕ) → (O → ℕ) → (E → ℕ) → Shelf I O E → Shelf I O E → CommandLine → Status → Type 0
+Completes {I} remaining read_faults write_faults word_faults old new c status =
+    (source : I) (b : List ℕ) → old.sources (source_name c) ≡ Here source → remaining source ≡ Some b → IsWholeInput c b
+    → NoneFailed read_faults write_faults word_faults old new c → (status ≡ statuses.Done) ⊎ (status ≡ statuses.Memory)

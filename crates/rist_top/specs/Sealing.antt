@@ -1,0 +1,29 @@
+-- What is left where the sealer of a packing is made, or can't be.
+use Rattle.std.specs.Prelude.{◌≡◌, ◌⊎◌, ℕ, Result, Ok, Err}
+use Rattle.outside_io.specs.Causes.{Rose}
+use Rattle.outside_io.specs.Shelf.{Shelf}
+use Rattle.outside_io.specs.declared.host.Place.TheVariants.{Here, Back}
+use Rattle.rist_top.specs.declared.status.Status.{Status}
+use Rattle.rist_top.specs.declared.status.Status.TheVariants as statuses
+
+-- sources and sinks stand as they stood
+pub record KeepsOthers {I O E : Type 0} (old new : Shelf I O E) : Type 0 where
+  pub sources : new.sources ≡ old.sources
+  pub sinks : new.sinks ≡ old.sinks
+
+-- the first source of random words was handed out, failed, and came back
+pub record FailedAt {I O E : Type 0} (faults : E → ℕ) (old new : Shelf I O E) : Type 0 where
+  pub words : E
+  pub drawn : E
+  pub took : old.entropies 0 ≡ Here words
+  pub gave : new.entropies 0 ≡ Back drawn
+  pub rose : Rose (faults words) (faults drawn)
+
+-- a sealer can't be had where nothing is handed out, or where words fail
+abbrev pub CanRefuse : Status → Type 0
+CanRefuse status = (status ≡ statuses.OpenFault) ⊎ ((status ≡ statuses.Memory) ⊎ (status ≡ statuses.EntropyFault))
+
+-- P holds of an error
+abbrev pub OnErrIs : {T E : Type 0} → Result T E → (E → Type 0) → Type 0
+OnErrIs (Ok x) P = Unit {0}
+OnErrIs (Err e) P = P e

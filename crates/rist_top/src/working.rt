@@ -1,0 +1,136 @@
+// The work of each command over its source and its sink.
+ghost use Rattle.std.specs.Prelude.{◌≡◌, ◌≢◌, ◌≤◌, IsTrue};
+ghost use Rattle.outside_io.specs.Causes.{Rose};
+ghost use Rattle.rist_words.specs.Shown.{shown, shown_session, shown_replay, shown_show, shown_pack};
+ghost use Rattle.rist_words.specs.Ranges.{IsInRange, IsInSession, IsInReplay, IsInPack};
+ghost use Rattle.rist_words.specs.CommandLine.{Replay, Show};
+ghost use Rattle.rist_top.specs.Works.{Works, PacksAs, IsFreshFor};
+ghost use Rattle.rist_top.specs.Sealing.{KeepsOthers, FailedAt};
+ghost use Rattle.rist_top.specs.Causes.{HasCauses, IsOwn};
+
+use crate::sealing::sealer_for;
+use crate::sessions::session_of;
+use crate::status::Status;
+use capture_file::{Reader, Writer};
+use outside_io::{Host, Sink, Source};
+use psk_seal::Sealer;
+use rist_ends::Settings;
+use rist_pack::{PackSettings, pack};
+use rist_replay::replay;
+use rist_show::show;
+use rist_words::{Line, PackLine, ReplayLine, ShowLine};
+use std::alloc::Global;
+
+/// A source and a sink after their work, and how it ended.
+pub struct Worked<S, K> {
+    pub source: S,
+    pub sink: K,
+    pub status: Status,
+}
+
+/// Replays a capture.
+pub fn replay_line<S: Source, K: Sink>(
+    alloc: Global,
+    line: &ReplayLine<'_>,
+    source: S,
+    mut sink: K,
+) -> Worked<S, K>
+    requires range { IsInReplay (shown_replay line.now) }
+    ensures line { IsOwn result.status }
+    ensures work { Works (Replay (shown_replay line.now)) (S.remaining source) (S.remaining result.source) (K.contents sink) (K.contents result.sink) result.status }
+    ensures causes { HasCauses (S.faults source) (S.faults result.source) (K.faults sink) (K.faults result.sink) result.status }
+{
+    let session = session_of(&line.session, false, false);
+    let settings = Settings {
+        delay: line.delay,
+        span: line.span,
+    };
+    let mut reader = Reader::over(source);
+    let end = replay(alloc, &session, &settings, &mut reader, &mut sink);
+    Worked {
+        source: reader.back(),
+        sink,
+        status: Status::of_walk(end),
+    }
+}
+
+/// Shows the records of a capture.
+pub fn show_line<S: Source, K: Sink>(
+    alloc: Global,
+    line: &ShowLine<'_>,
+    source: S,
+    mut sink: K,
+) -> Worked<S, K>
+    requires range { IsInSession (shown_session line.now.session) }
+    ensures line { IsOwn result.status }
+    ensures work { Works (Show (shown_show line.now)) (S.remaining source) (S.remaining result.source) (K.contents sink) (K.contents result.sink) result.status }
+    ensures causes { HasCauses (S.faults source) (S.faults result.source) (K.faults sink) (K.faults result.sink) result.status }
+{
+    let session = session_of(&line.session, false, false);
+    let mut reader = Reader::over(source);
+    let end = show(alloc, &session, &mut reader, &mut sink);
+    Worked {
+        source: reader.back(),
+        sink,
+        status: Status::of_walk(end),
+    }
+}
+
+/// Packs a source.
+pub fn pack_line<S: Source, K: Sink>(
+    line: &PackLine<'_>,
+    sealer: Option<Sealer>,
+    mut source: S,
+    sink: K,
+) -> Worked<S, K>
+    requires range { IsInPack (shown_pack line.now) }
+    requires fresh { IsFreshFor (shown_pack line.now) sealer }
+    ensures line { IsOwn result.status }
+    ensures work { PacksAs (shown_pack line.now) sealer (S.remaining source) (S.remaining result.source) (K.contents sink) (K.contents result.sink) result.status }
+    ensures causes { HasCauses (S.faults source) (S.faults result.source) (K.faults sink) (K.faults result.sink) result.status }
+{
+    let session = session_of(&line.session, line.nulls, line.wide);
+    let settings = PackSettings {
+        flow: line.flow,
+        first: line.first,
+        gap: line.gap,
+    };
+    let mut capture = Writer::over(sink);
+    let end = pack(&session, sealer, &settings, &mut source, &mut capture);
+    Worked {
+        source,
+        sink: capture.back(),
+        status: Status::of_packing(end),
+    }
+}
+
+/// Does a line over its source and its sink.
+pub fn work<H: Host>(
+    alloc: Global,
+    host: &mut H,
+    line: &Line<'_>,
+    source: H::Input,
+    sink: H::Output,
+) -> Worked<H::Input, H::Output>
+    requires range { IsInRange (shown line.now) }
+    ensures line { result.status ≢ Status.Usage }
+    ensures work { result.status ≢ Status.OpenFault → result.status ≢ Status.Memory → Works (shown line.now) (H.Input.remaining source) (H.Input.remaining result.source) (H.Output.contents sink) (H.Output.contents result.sink) result.status }
+    ensures causes { HasCauses (H.Input.faults source) (H.Input.faults result.source) (H.Output.faults sink) (H.Output.faults result.sink) result.status }
+    ensures others { IsTrue H.tells → KeepsOthers (H.shelf host.old) (H.shelf host.new) }
+    ensures opened { result.status ≡ Status.OpenFault → Rose (H.faults host.old) (H.faults host.new) }
+    ensures later { H.faults host.old ≤ H.faults host.new }
+    ensures random { IsTrue H.tells → (H.shelf host.old).next_entropy ≡ 0 → result.status ≡ Status.EntropyFault → FailedAt H.Random.faults (H.shelf host.old) (H.shelf host.new) }
+{
+    match line {
+        Line::Replay(line) => replay_line(alloc, line, source, sink),
+        Line::Show(line) => show_line(alloc, line, source, sink),
+        Line::Pack(line) => match sealer_for(host, line) {
+            Ok(sealer) => pack_line(line, sealer, source, sink),
+            Err(status) => Worked {
+                source,
+                sink,
+                status,
+            },
+        },
+    }
+}
