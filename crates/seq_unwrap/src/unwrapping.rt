@@ -58,6 +58,14 @@ mod tests {
             Some((1 << 40) + 32_777)
         );
         assert_eq!(rt; unwrap(middle, Width::W32, 0), Some(1 << 40));
+        assert_eq!(rt;
+            unwrap(middle, Width::W32, (1 << 31) + 10),
+            Some((1 << 40) + 10 - (1 << 31))
+        );
+        assert_eq!(rt;
+            unwrap(middle, Width::W32, (1 << 31) + 9),
+            Some((1 << 40) + 9 + (1 << 31))
+        );
         assert_eq!(rt; nearest(last, Width::W16, 0), MAX_NUMBER);
     }
 }
