@@ -7,7 +7,8 @@ use crate::width::Width;
 pub const MAX_NUMBER: u64 = 1 << 62;
 
 /// The number whose lowest bits are `word` and that lies nearest to `reference`: from half a cycle
-/// below it to less than half a cycle above it.
+/// below it to less than half a cycle above it. A reference is at least 2^32, so that none of them lies
+/// below 0.
 #[tactic(auto, unfolding(crate::specs::Nearest::nearest))]
 pub fn nearest(reference: u64, width: Width, word: u32) -> u64
     requires word { word < cycle_of width }
@@ -67,5 +68,7 @@ mod tests {
             Some((1 << 40) + 9 + (1 << 31))
         );
         assert_eq!(rt; nearest(last, Width::W16, 0), MAX_NUMBER);
+        assert_eq!(rt; Width::W16.cycle(), 65_536);
+        assert_eq!(rt; Width::W32.cycle(), 4_294_967_296);
     }
 }
