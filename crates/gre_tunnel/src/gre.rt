@@ -4,7 +4,9 @@ use std::fmt::{Display, Formatter, Write};
 /// A GRE header that was read.
 #[derive(Clone, Copy, Debug, PartialEq, Eq)]
 pub struct Gre {
+    /// The key, where one stands there (RFC 2890, section 2.1).
     pub key: Option<u32>,
+    /// The sequence number, where one stands there (RFC 2890, section 2.2).
     pub sequence: Option<u32>,
     /// The EtherType of what follows.
     pub protocol: u16,
