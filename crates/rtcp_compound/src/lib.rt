@@ -11,11 +11,11 @@ mod refusal;
 mod writing;
 
 pub use compound::{Compound, Packets};
-pub use laws::one_reading;
+pub use laws::{one_reading, the_name_is_read};
 pub use name::{RIST_NAME, is_rist};
 pub use packet::Packet;
 pub use refusal::{Full, RtcpBad, RtcpWhy};
-pub use writing::{CompoundOut, OUT_LEN};
+pub use writing::{CompoundOut, OUT_LEN, put_at};
 
 #[cfg(test)]
 mod tests;

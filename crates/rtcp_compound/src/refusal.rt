@@ -52,6 +52,11 @@ pub struct RtcpBad {
 }
 
 impl fmt::Display for RtcpBad {
+    ghost use Rattle.std.specs.Prelude.{Some};
+    ghost use Rattle.rtcp_compound.specs.Text.{bad_text};
+
+    ghost output = { λ bad. Some (bad_text bad) };
+
     fn fmt<W: fmt::Write>(&self, f: &mut fmt::Formatter<W>) -> fmt::Result {
         write!(f, "{} at {}", self.why, self.place)
     }
@@ -64,6 +69,10 @@ impl Error for RtcpBad {}
 pub struct Full;
 
 impl fmt::Display for Full {
+    ghost use Rattle.std.specs.Prelude.{Some, codes};
+
+    ghost output = { λ _. Some (codes "compound full") };
+
     fn fmt<W: fmt::Write>(&self, f: &mut fmt::Formatter<W>) -> fmt::Result {
         f.write_str("compound full")
     }

@@ -135,6 +135,8 @@ fn a_request_is_read_with_its_fields(rt: HostRuntime) -> Result<(), Fail> {
     };
     assert_eq!(rt; (subtype, ssrc), (0, 0x1020_3040));
     assert_eq!(rt; name, *b"RIST");
+    assert!(rt; is_rist(&name));
+    assert!(rt; !is_rist(b"RISU"));
     assert_eq!(rt; words, [255, 255, 0, 1].as_slice());
     assert!(rt; packets.next().is_none());
     Ok(())
@@ -165,6 +167,14 @@ fn packets_are_written_octet_for_octet(rt: HostRuntime) -> Result<(), Fail> {
     assert_eq!(rt; &written[..28], report);
     assert_eq!(rt; &written[28..], rest);
     Ok(())
+}
+
+#[test]
+fn a_part_is_copied_to_its_place(rt: HostRuntime) {
+    let mut block = [9; 6];
+    assert_eq!(rt; put_at(&mut block, 1, &[1, 2]), 3);
+    assert_eq!(rt; put_at(&mut block, 6, &[]), 6);
+    assert_eq!(rt; block, [9, 1, 2, 9, 9, 9]);
 }
 
 #[test]

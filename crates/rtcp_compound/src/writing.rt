@@ -33,11 +33,12 @@ impl Model for CompoundOut {
     ghost invariant = { λ o. (o.used ≤ 1400) × AreWritten (take o.used o.block) };
 }
 
-// Writes a part at a place, and answers the place behind it.
-fn put_at(out: &mut [u8], at: usize, part: &[u8]) -> usize
-    requires { at + length part.now ≤ length out.old }
+/// Copies a part to this place, and answers the place behind it. What stands before and behind stays.
+pub fn put_at(out: &mut [u8], at: usize, part: &[u8]) -> usize
+    requires room { at + length part.now ≤ length out.old }
     ensures end { result ≡ at + length part.now }
     ensures octets { take result out.new ≡ take at out.old ++ part.now }
+    ensures rest { drop result out.new ≡ drop result out.old }
 {
     let end = at + part.len();
     out[at..end].copy_from_slice(part);
