@@ -1,25 +1,14 @@
 //! Requests as they are written.
-ghost use Rattle.std.specs.Prelude.{◌≡◌, ◌≤◌, ◌<◌, ◌+◌, ◌*◌, ◌↔◌, ◌++◌, length, take, OnOk, OnErr, IsErr};
+ghost use Rattle.std.specs.Prelude.{◌≡◌, ◌≤◌, ◌<◌, ◌+◌, ◌*◌, ◌↔◌, length, take, OnOk, OnErr, IsErr};
 ghost use Rattle.rtcp_compound.specs.Compound.{application, feedback};
 ghost use Rattle.rtcp_compound.specs.Name.{rist_name};
 ghost use Rattle.rtcp_compound.specs.Writing.{with_packet, app_octets, feedback_octets};
 ghost use Rattle.rist_nack.specs.Written.{words_spelling, upper_spelling};
 
-use rtcp_compound::{CompoundOut, Full, OUT_LEN, RIST_NAME};
+use rtcp_compound::{CompoundOut, Full, OUT_LEN, RIST_NAME, put_at};
 
 // More words than these fit no compound.
 const MAX_WORDS: usize = 350;
-
-// Writes a part at a place, and answers the place behind it.
-fn put_at(out: &mut [u8], at: usize, part: &[u8]) -> usize
-    requires { at + length part.now ≤ length out.old }
-    ensures end { result ≡ at + length part.now }
-    ensures octets { take result out.new ≡ take at out.old ++ part.now }
-{
-    let end = at + part.len();
-    out[at..end].copy_from_slice(part);
-    end
-}
 
 // Writes words of two halves one after another, and answers the place behind them.
 fn put_words(out: &mut [u8], words: &[(u16, u16)]) -> usize
