@@ -1,24 +1,13 @@
 //! Echoes as they are written (this profile).
-ghost use Rattle.std.specs.Prelude.{◌≡◌, ◌<◌, ◌≤◌, ◌+◌, ◌↔◌, ◌++◌, length, take, OnOk, OnErr, IsErr};
+ghost use Rattle.std.specs.Prelude.{◌≡◌, ◌<◌, ◌≤◌, ◌+◌, ◌↔◌, length, take, OnOk, OnErr, IsErr};
 ghost use Rattle.rtcp_compound.specs.Writing.{with_packet};
 ghost use Rattle.rist_rtt.specs.Echo.{echo_seen, echo_words, copied, request, response, request_octets, response_octets};
 
 use crate::echo::Echo;
-use rtcp_compound::{CompoundOut, Full, OUT_LEN, RIST_NAME};
+use rtcp_compound::{CompoundOut, Full, OUT_LEN, RIST_NAME, put_at};
 
 // An answer copies at most so many octets of further words.
 const COPIED_LEN: usize = 256;
-
-// Writes a part at a place, and answers the place behind it.
-fn put_at(out: &mut [u8], at: usize, part: &[u8]) -> usize
-    requires { at + length part.now ≤ length out.old }
-    ensures end { result ≡ at + length part.now }
-    ensures octets { take result out.new ≡ take at out.old ++ part.now }
-{
-    let end = at + part.len();
-    out[at..end].copy_from_slice(part);
-    end
-}
 
 // Writes the body of an echo: stamp, delay and further words.
 fn put_body(words: &mut [u8; 268], stamp: u64, delay: u32, more: &[u8]) -> usize
