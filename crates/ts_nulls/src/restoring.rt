@@ -1,4 +1,4 @@
-ghost use Rattle.std.specs.Prelude.{◌≡◌, ◌+◌, ◌-◌, ◌*◌, ◌<◌, ◌≤◌, ◌++◌, ◌==◌, if◌then◌else◌, false, IfOk, is_ok, length, take, drop};
+ghost use Rattle.std.specs.Prelude.{◌≡◌, ◌+◌, ◌-◌, ◌*◌, ◌<◌, ◌≤◌, ◌++◌, ◌==◌, if◌then◌else◌, false, IfOk, OnErr, is_ok, length, take, drop};
 ghost use Rattle.std.specs.Int.{bit_at};
 ghost use Rattle.ts_nulls.specs.Nulls.{null_flags, kept_count, restored, restoring_of, written};
 ghost use Rattle.ts_nulls.specs.Packets.{packet_len, null_packet};
@@ -105,9 +105,11 @@ pub fn can_restore(strip: &Strip, payload: &[u8]) -> bool
 }
 
 /// Copies a payload with its null packets put back to the front of `out`, and says how many octets it has.
+/// Where they can't be put back, nothing is written.
 pub fn restore(strip: &Strip, payload: &[u8], out: &mut [u8; 1500]) -> Result<usize, NullBad>
     ensures value { written out.new result ≡ restoring_of strip.now payload.now }
     ensures within { IfOk result (λ len. len ≤ 1428) }
+    ensures same { OnErr result (out.new ≡ out.old) }
 {
     let kept = kept_count(strip.units, strip.nulls);
     if payload.len() != packet_len(strip.long) * kept {

@@ -34,6 +34,7 @@ fn null_packets_return_to_their_places(rt: HostRuntime) -> Result<(), Fail> {
     );
     let mut whole = [0; 1500];
     let part = sent.get(..len).ok_or("752")?;
+    assert!(rt; can_restore(&told, part));
     assert_eq!(rt; restore(&told, part, &mut whole), Ok(1316));
     for at in [0, 564, 1128] {
         assert!(rt; whole.get(at..).ok_or("at")?.starts_with(&NULL), "at {at}");
