@@ -1,3 +1,4 @@
 mod SumLemmas
 mod Vectors
 mod KeyLemmas
+mod CacheLemmas

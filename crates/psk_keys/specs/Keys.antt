@@ -1,5 +1,5 @@
 -- The keys of a session (this profile): what PBKDF2 (RFC 8018) derives from its passphrase and the four octets of a nonce.
-use Rattle.std.specs.Prelude.{◌≡◌, ℕ, ◌/◌, ◌⊎◌, List, take, Contains}
+use Rattle.std.specs.Prelude.{◌≡◌, ℕ, ◌/◌, ◌⊎◌, List, [], ◌∷◌, take, if◌then◌else◌, ◌==◌, Contains}
 use Rattle.std.specs.Int.{w32, to_be_bytes}
 use Rattle.aes_block.specs.Cipher.{key_octets}
 use Rattle.aes_block.specs.declared.cipher.Key.{Key}
@@ -21,8 +21,16 @@ IsKeyLength bits = (bits ≡ 128) ⊎ (bits ≡ 256)
 pub record AreDerived (pass : List ℕ) (bits : ℕ) (entries : List (ℕ × Key)) : Type 0 where
   pub each : (e : ℕ × Key) → Contains entries e → key_octets e.1 ≡ key_of pass bits (to_be_bytes w32 e.0)
 
--- what a contract sees of the keys: the passphrase, the bits of a key, and how many keys are cached
+-- ---- the cache
+
+-- without the first of these nonces that is this one
+abbrev pub without : ℕ → List ℕ → List ℕ
+without nonce [] = []
+without nonce (n ∷ rest) = if nonce == n then rest else n ∷ without nonce rest
+
+-- what a contract sees of the keys: the passphrase, the bits of a key, and the nonces whose keys are cached, the one
+-- that was used last first
 pub record KeysState : Type 0 where
   pub phrase : List ℕ
   pub bits : ℕ
-  pub cached : ℕ
+  pub cached : List ℕ
