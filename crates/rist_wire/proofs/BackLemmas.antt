@@ -1,5 +1,5 @@
 -- What is written is read back: the message of the datagram of a message is that message.
-use Rattle.std.proofs.Common.{◌≡◌, ◌⊎◌, ℕ, ◌+◌, ◌^◌, ◌<◌, ◌≤◌, Bool, true, false, List, ◌++◌, drop, Option, Some, None, is_some, Ok, IsSome, refl, ap, ◌∙◌, arith, inl, inr}
+use Rattle.std.proofs.Common.{◌≡◌, ◌⊎◌, ℕ, ◌+◌, ◌^◌, ◌<◌, ◌≤◌, Bool, true, false, List, ◌++◌, drop, Option, Some, None, is_some, Ok, IsSome, refl, sym, ap, subst, ◌∙◌, arith, inl, inr}
 use Rattle.std.proofs.lemmas.Bool.Decides.{nat_tests}
 use Rattle.std.proofs.lemmas.Nat.{from_be_bytes-to_be_bytes_2}
 use Rattle.gre_tunnel.specs.Gre.{Spells, keepalive_protocol, datagram_protocol}
@@ -16,8 +16,9 @@ use Rattle.rist_wire.specs.declared.item.Item.TheVariants.{Control as ControlIte
 use Rattle.outside_io.specs.declared.channel.Channel.{Channel}
 use Rattle.rtcp_compound.specs.Compound.{Content, IsCompound}
 use Rattle.rtcp_compound.proofs.CompoundLaws.{compound_accepted, compound_packets}
-use Rattle.rist_wire.specs.Session.{IsSession}
-use Rattle.rist_wire.specs.Cipher.{ciphered_by}
+use Rattle.rist_wire.specs.Session.{IsPlain, IsSession}
+use Rattle.rist_wire.specs.Cipher.{ciphered, ciphered_by}
+use Rattle.rist_wire.specs.Sealed.{IsSealed}
 use Rattle.rist_wire.specs.Item.{datagram_kind, message_with, text_message, cipher_fault, text_in, refused_or, tunnel_message, message_on, message_of, destination_of, rtcp_item, item_by, item_in, item_of}
 use Rattle.rist_wire.specs.Writing.{IsPair, IsDatagram, nonce_of, sequence_of, protocol_for, header_for, is_long, header_octets, ports_octets, text_for, sealed_text, tunnel_octets, channel_on, channel_of, datagram_on, datagram_of}
 use Rattle.rist_wire.proofs.CipherLemmas.{ciphered_by-twice}
@@ -118,6 +119,31 @@ pub item-back : (session : Session) (pair : Option Pair) (kind : Kind) (octets :
 unfolding item_of
 item-back session pair kind octets legal fits paired main = ap item_in (message-back session pair kind octets legal fits paired main)
 
+-- the tunnel under a pair, in a session with this passphrase
+sealed-by : (session : Session) (pass : List ℕ) (pair : Pair) (kind : Kind) (octets : List ℕ) → session.pass ≡ Some pass → IsPair (Some pair)
+    → IsSealed pass session.bits (Some pair) (protocol_for kind) (text_for session.port kind octets) (tunnel_octets session (Some pair) kind octets)
+unfolding ciphered
+sealed-by session pass pair kind octets is fits =
+    let text = text_for session.port kind octets in
+    let rest = sealed_text session (Some pair) text in
+    let all = tunnel_octets session (Some pair) kind octets in
+    let header = header_for (Some pair) kind in
+    let spells = spelled session.bits (Some pair) kind rest fits in
+    record {
+      given = pair;
+      is_given = refl;
+      header = reading-spelled header rest all spells;
+      behind = rest-spelled header rest all spells
+          ∙ ap (λ (x : Option (List ℕ)). ciphered_by x session.bits (Some pair.nonce) (Some pair.sequence) text) is;
+    }
+
+sealed-on : (profile : Profile) (session : Session) (pass : List ℕ) (pair : Option Pair) (kind : Kind) (octets : List ℕ)
+    → (profile ≡ Simple → IsPlain session) → (profile ≡ Main → IsPair pair) → (profile ≡ Main → is_some pair ≡ is_some session.pass) → session.pass ≡ Some pass
+    → IsSealed pass session.bits pair (protocol_for kind) (text_for session.port kind octets) (datagram_on profile session pair kind octets)
+sealed-on Simple session pass pair kind octets plain fits paired is = let none = (plain refl).pass in let wrong : None ≡ Some pass = sym none ∙ is in cc
+sealed-on Main session pass None kind octets plain fits paired is = let same = paired refl in let wrong : false ≡ true = same ∙ ap is_some is in cc
+sealed-on Main session pass (Some pair) kind octets plain fits paired is = sealed-by session pass pair kind octets is (fits refl)
+
 pub datagram-from : (session : Session) (pair : Option Pair) (kind : Kind) (message : List ℕ) (way : Channel) (datagram : List ℕ)
     → IsSession session → (session.profile ≡ Main → IsPair pair) → (session.profile ≡ Main → is_some pair ≡ is_some session.pass)
     → (kind ≡ KeepaliveKind → session.profile ≡ Main) → way ≡ channel_of session kind → datagram ≡ datagram_of session pair kind message
@@ -126,6 +152,8 @@ datagram-from session pair kind message way datagram legal fits paired main on i
   channel = on;
   octets = is;
   item = (λ i. item_of session (on i) (is i)) ∙ item-back session pair kind message legal fits paired main;
+  sealed = λ pass some. subst (IsSealed pass session.bits pair (protocol_for kind) (text_for session.port kind message)) (sym is)
+      (sealed-on session.profile session pass pair kind message legal.simple fits paired some);
 }
 
 -- ---- a compound

@@ -23,6 +23,7 @@ use Rattle.rist_wire.specs.declared.session.Session.{Session}
 use Rattle.rist_wire.specs.declared.item.Kind.{Kind}
 use Rattle.rist_wire.specs.declared.item.Kind.TheVariants.{Media as MediaKind, Control as ControlKind, Keepalive as KeepaliveKind}
 use Rattle.rist_wire.specs.Cipher.{ciphered_by}
+use Rattle.rist_wire.specs.Sealed.{IsSealed}
 use Rattle.rist_wire.specs.Item.{item_by, item_of}
 use Rattle.rist_wire.specs.Media.{MediaValue}
 
@@ -145,11 +146,14 @@ datagram_on Main session pair kind octets = tunnel_octets session pair kind octe
 abbrev pub datagram_of : Session → Option Pair → Kind → List ℕ → List ℕ
 datagram_of session pair kind octets = datagram_on session.profile session pair kind octets
 
--- The datagram of a message on its channel, which is read back as that message.
+-- The datagram of a message on its channel, which is read back as that message. In a session with a passphrase it is
+-- enciphered under the pair.
 pub record IsDatagram (session : Session) (pair : Option Pair) (kind : Kind) (message : List ℕ) (way : Channel) (datagram : List ℕ) : Type 0 where
   pub channel : way ≡ channel_of session kind
   pub octets : datagram ≡ datagram_of session pair kind message
   pub item : item_of session way datagram ≡ item_by kind message
+  pub sealed : (pass : List ℕ) → session.pass ≡ Some pass
+      → IsSealed pass session.bits pair (protocol_for kind) (text_for session.port kind message) datagram
 
 -- ---- what is written next
 

@@ -108,7 +108,8 @@ impl Shutter {
 
     /// Writes the datagram of media at the front of `out`, and says on which channel it goes and how many octets
     /// it has. The timestamp is in ticks of 1/90,000 s. The payload is as it is sent: `strip` says which null
-    /// packets were deleted from it. `Spent` where the sealer has no pair left.
+    /// packets were deleted from it. In a session with a passphrase the datagram is enciphered under the sealer's
+    /// next pair. `Spent` where the sealer has no pair left, and then nothing is changed.
     pub fn media(
         &mut self,
         flow: u32,
@@ -149,7 +150,8 @@ impl Shutter {
     }
 
     /// Writes the datagram of an RTCP compound at the front of `out`, and says on which channel it goes and how
-    /// many octets it has. `Spent` where the sealer has no pair left.
+    /// many octets it has. It is enciphered as media is. `Spent` where the sealer has no pair left, and then nothing
+    /// is changed.
     pub fn control(
         &mut self,
         compound: &[u8],
@@ -171,7 +173,8 @@ impl Shutter {
     }
 
     /// Writes the datagram of an end's keepalive at the front of `out`, and says on which channel it goes and how
-    /// many octets it has. `Spent` where the sealer has no pair left.
+    /// many octets it has. It is enciphered as media is. `Spent` where the sealer has no pair left, and then nothing
+    /// is changed.
     pub fn keepalive(&mut self, ssrc: u32, out: &mut [u8; 2048]) -> Result<(Channel, usize), Spent>
         requires paired { is_some self.old.sealer ≡ is_some self.old.session.pass }
         requires tunnel { self.old.session.profile ≡ Main }

@@ -283,6 +283,12 @@ fn null_packets_return_to_their_places(rt: HostRuntime) -> Result<(), Fail> {
         return Err("media".into());
     };
     assert!(rt; media.again && !media.is_whole());
+    let strip = Strip {
+        units: 7,
+        long: false,
+        nulls: 0x49,
+    };
+    assert_eq!(rt; media.strip(), Some(strip));
     let mut content = [0; 1500];
     assert_eq!(rt; media.content(&mut content), 1316);
     for at in [0, 564, 1128] {
