@@ -5,8 +5,11 @@ use rtcp_compound::Compound;
 /// What a datagram says, a view of its octets.
 #[derive(Debug, Drop)]
 pub enum Item<'a> {
+    /// An RTP packet of a flow.
     Media(Media<'a>),
+    /// An RTCP compound.
     Control(Compound<'a>),
+    /// A keepalive of the tunnel.
     Keepalive(Keepalive),
 }
 

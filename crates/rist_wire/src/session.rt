@@ -5,6 +5,7 @@ use seq_unwrap::Width;
 /// What both ends of a session know of its datagrams.
 #[derive(Drop)]
 pub struct Session {
+    /// Which of RIST's profiles the datagrams are in.
     pub profile: Profile,
     /// The virtual port of media in the tunnel: even, 2 to 65,534. The next one is control's.
     pub port: u16,
@@ -21,6 +22,7 @@ pub struct Session {
 impl Session {
     ghost use Rattle.std.specs.Prelude.{◌≡◌};
 
+    // The same session once more, since a passphrase has no `Clone`.
     pub(crate) fn copied(&self) -> Session
         ensures value { result ≡ self.now }
     {
