@@ -1,7 +1,11 @@
--- What stands under the names and at the places of a host in memory.
+-- What stands under the names and at the places of a host in memory, and its calls.
+use Rattle.std.specs.Prelude.{◌≡◌, ◌≢◌, []}
+use Rattle.outside_io.specs.Calls.{Calls}
 use Rattle.outside_io.specs.Shelf.{Shelf}
 use Rattle.outside_io.specs.Slots.{place_of}
 use Rattle.outside_io.specs.ByPlace.{object_at}
+use Rattle.outside_io.specs.declared.host.Place.{Place}
+use Rattle.outside_io.specs.declared.host.Place.TheVariants.{Here}
 use Rattle.outside_io.specs.declared.mem_source.MemSource.{MemSource}
 use Rattle.outside_io.specs.declared.store.Store8.{Store8}
 use Rattle.outside_io.specs.declared.words.Words.{Words}
@@ -14,3 +18,10 @@ mem_shelf host = record {
   entropies = object_at host.entropies.items;
   next_entropy = host.next_entropy;
 }
+
+abbrev pub mem_calls : MemHost → Calls
+mem_calls host = host.calls
+
+-- no empty sink stands here to be handed out
+abbrev pub HasNoEmptySink : Place Store8 → Type 0
+HasNoEmptySink place = (sink : Store8) → place ≡ Here sink → sink.contents ≢ []

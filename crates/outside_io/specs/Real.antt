@@ -1,5 +1,7 @@
--- The counts of faults of files and standard streams.
-use Rattle.std.specs.Prelude.{ℕ}
+-- Files and standard streams: their counts of faults, and what a call does to the reader or writer behind, where that tells.
+use Rattle.std.specs.Prelude.{◌≡◌, ◌≢◌, ℕ, List, Option, None, Result, codes}
+use Rattle.std.specs.Io.KnownBytes.{Appends, ReadConsumes}
+use Rattle.outside_io.specs.declared.source.Failed.{Failed}
 use Rattle.outside_io.specs.declared.real.RealSource.{RealSource}
 use Rattle.outside_io.specs.declared.real.RealSource.TheVariants as sources
 use Rattle.outside_io.specs.declared.real.RealSink.{RealSink}
@@ -9,6 +11,10 @@ use Rattle.outside_io.specs.declared.real.RealSink.TheVariants as sinks
 pub record RealHostState : Type 0 where
   pub faults : ℕ
 
+-- what is given or taken is not told
+abbrev pub silent : Option (List ℕ)
+silent = None
+
 abbrev pub source_faults : {F I : Type 0} → RealSource F I → ℕ
 source_faults (sources.File s) = s.faults
 source_faults (sources.Stream s) = s.faults
@@ -16,3 +22,26 @@ source_faults (sources.Stream s) = s.faults
 abbrev pub sink_faults : {F O : Type 0} → RealSink F O → ℕ
 sink_faults (sinks.File s) = s.faults
 sink_faults (sinks.Stream s) = s.faults
+
+-- the reader behind gave what was read
+abbrev pub ReadsBehind : {F I : Type 0} → (F → Option (List ℕ)) → (I → Option (List ℕ)) → RealSource F I → RealSource F I → Result ℕ Failed → List ℕ → Type 0
+ReadsBehind file stream (sources.File s) (sources.File t) result buf = ReadConsumes (file s.inner) (file t.inner) result buf
+ReadsBehind file stream (sources.Stream s) (sources.Stream t) result buf = ReadConsumes (stream s.inner) (stream t.inner) result buf
+ReadsBehind file stream (sources.File s) (sources.Stream t) result buf = ⊥
+ReadsBehind file stream (sources.Stream s) (sources.File t) result buf = ⊥
+
+-- the writer behind has gained the piece
+abbrev pub WritesBehind : {F O : Type 0} → (F → Option (List ℕ)) → (O → Option (List ℕ)) → RealSink F O → RealSink F O → List ℕ → Type 0
+WritesBehind file stream (sinks.File s) (sinks.File t) piece = Appends (file s.inner) (file t.inner) piece
+WritesBehind file stream (sinks.Stream s) (sinks.Stream t) piece = Appends (stream s.inner) (stream t.inner) piece
+WritesBehind file stream (sinks.File s) (sinks.Stream t) piece = ⊥
+WritesBehind file stream (sinks.Stream s) (sinks.File t) piece = ⊥
+
+-- the standard streams have the name `-`, and files all others
+abbrev pub IsSourceNamed : {F I : Type 0} → List ℕ → RealSource F I → Type 0
+IsSourceNamed name (sources.File s) = name ≢ codes "-"
+IsSourceNamed name (sources.Stream s) = name ≡ codes "-"
+
+abbrev pub IsSinkNamed : {F O : Type 0} → List ℕ → RealSink F O → Type 0
+IsSinkNamed name (sinks.File s) = name ≢ codes "-"
+IsSinkNamed name (sinks.Stream s) = name ≡ codes "-"

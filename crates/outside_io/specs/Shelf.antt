@@ -26,6 +26,10 @@ pub record TakesBack {N X : Type 0} (old new : N → Place X) (name : N) (object
   pub kept : old name ≢ Out → new name ≡ old name
   pub others : (n : N) → n ≢ name → new n ≡ old n
 
+-- no object stands here to be handed out: there is none, it is out, or it came back
+abbrev pub IsAway : {X : Type 0} → Place X → Type 0
+IsAway {X} place = (object : X) → place ≢ Here object
+
 -- all stands as it stood
 abbrev pub Stays : {N X : Type 0} → (N → Place X) → (N → Place X) → Type 0
 Stays {N} old new = (n : N) → new n ≡ old n

@@ -2,7 +2,7 @@
 ghost use Rattle.std.specs.Prelude.{◌≡◌, ◌<◌, length, IfSome, IfNone};
 ghost use Rattle.outside_io.specs.declared.host.Place.TheVariants.{Back};
 ghost use Rattle.outside_io.specs.ByPlace.{object_at};
-ghost use Rattle.outside_io.specs.Shelf.{Stays, HandsOut, TakesBack};
+ghost use Rattle.outside_io.specs.Shelf.{Stays, HandsOut, TakesBack, IsAway};
 
 use crate::Place;
 use std::mem;
@@ -12,6 +12,7 @@ pub(crate) fn take_place<T: Drop>(places: &mut [Place<T>], at: usize) -> Option<
     ensures some { IfSome result (λ object. HandsOut (object_at places.old) (object_at places.new) at object) }
     ensures within { IfSome result (λ _. at < length places.old) }
     ensures none { IfNone result (Stays (object_at places.old) (object_at places.new)) }
+    ensures away { IfNone result (IsAway (object_at places.old at)) }
 {
     if at >= places.len() || !matches!(places[at], Place::Here(_)) {
         return None;

@@ -1,6 +1,6 @@
 // The calls of an object in memory, some of which are to fail.
-ghost use Rattle.std.specs.Prelude.{◌≡◌, ◌≤◌, ◌↔◌, IfOk, IsTrue, Contains};
-ghost use Rattle.outside_io.specs.Calls.{Calls, no_calls, next_count};
+ghost use Rattle.std.specs.Prelude.{◌≡◌, ◌≤◌, ◌↔◌, IfOk, IsTrue};
+ghost use Rattle.outside_io.specs.Calls.{Calls, no_calls, next_count, FailsNext};
 
 use crate::NoMemory;
 use std::alloc::Global;
@@ -40,7 +40,7 @@ impl FailingCalls {
 
     // Counts a call, and says whether it is to fail.
     pub(crate) fn next_fails(&mut self) -> bool
-        ensures value { IsTrue result ↔ Contains self.old.failing self.old.made }
+        ensures value { IsTrue result ↔ FailsNext self.old }
         ensures state { self.new ≡ record self.old { made = next_count self.old.made } }
     {
         let call = self.made;

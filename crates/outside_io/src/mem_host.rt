@@ -1,8 +1,12 @@
 // A host in memory.
-ghost use Rattle.std.specs.Prelude.{◌≡◌, true, IfSome, IfNone, IsTrue};
+ghost use Rattle.std.specs.Prelude.{◌≡◌, ◌≤◌, ◌<◌, ◌+◌, ◌⊎◌, true, Some, IfSome, IfNone, IfOk, IfErr, IsTrue, OnOk, OnErr};
+ghost use Rattle.outside_io.specs.Calls.{no_calls, FailsNext, CountsCall};
+ghost use Rattle.outside_io.specs.Told.{IsEmpty};
+ghost use Rattle.outside_io.specs.Shelf.{Stays, HandsOut, TakesBack, IsAway, HasHostCause};
+ghost use Rattle.outside_io.specs.declared.host.HostBad.TheVariants.{Failed};
 ghost use Rattle.outside_io.specs.ByPlace.{object_at};
 ghost use Rattle.outside_io.specs.Slots.{place_of};
-ghost use Rattle.outside_io.specs.MemHost.{mem_shelf};
+ghost use Rattle.outside_io.specs.MemHost.{mem_shelf, mem_calls, HasNoEmptySink};
 ghost use Rattle.outside_io.specs.declared.host.Place.TheVariants.{Here, Back};
 
 use crate::by_place::{put_place, returned_place, take_place};
@@ -37,6 +41,7 @@ impl MemHost {
         ensures sinks { (mem_shelf result).sinks ≡ place_of parts.sinks.items }
         ensures entropies { (mem_shelf result).entropies ≡ object_at parts.entropies.items }
         ensures first { (mem_shelf result).next_entropy ≡ 0 }
+        ensures calls { mem_calls result ≡ no_calls parts.failing.items }
     {
         MemHost {
             sources: parts.sources,
@@ -85,7 +90,16 @@ impl Host for MemHost {
 
     ghost faults = { λ host. host.calls.faults };
 
-    fn source(&mut self, name: &str) -> Result<MemSource, HostBad> {
+    fn source(&mut self, name: &str) -> Result<MemSource, HostBad>
+        ensures ok { IsTrue true → IfOk result (λ object. HandsOut (mem_shelf self.old).sources (mem_shelf self.new).sources name.now object) }
+        ensures err { IsTrue true → OnErr result (Stays (mem_shelf self.old).sources (mem_shelf self.new).sources) }
+        ensures same { IsTrue true → mem_shelf self.new ≡ record (mem_shelf self.old) { sources = (mem_shelf self.new).sources } }
+        ensures cause { HasHostCause (mem_calls self.old).faults (mem_calls self.new).faults result }
+        // It fails exactly where the call is to fail or nothing stands under the name to be handed out.
+        ensures refused { IfErr result (λ bad. (bad ≡ Failed) × (FailsNext (mem_calls self.old) ⊎ IsAway ((mem_shelf self.old).sources name.now))) }
+        ensures complete { OnOk result (FailsNext (mem_calls self.old) → ⊥) }
+        ensures calls { CountsCall (mem_calls self.old) (mem_calls self.new) result }
+    {
         if self.calls.next_fails() {
             self.calls.count_fault();
             return Err(HostBad::Failed);
@@ -99,7 +113,17 @@ impl Host for MemHost {
         }
     }
 
-    fn sink(&mut self, name: &str) -> Result<Store8, HostBad> {
+    fn sink(&mut self, name: &str) -> Result<Store8, HostBad>
+        ensures ok { IsTrue true → IfOk result (λ object. HandsOut (mem_shelf self.old).sinks (mem_shelf self.new).sinks name.now object) }
+        ensures fresh { IfOk result (λ object. IsEmpty (Some object.contents)) }
+        ensures err { IsTrue true → OnErr result (Stays (mem_shelf self.old).sinks (mem_shelf self.new).sinks) }
+        ensures same { IsTrue true → mem_shelf self.new ≡ record (mem_shelf self.old) { sinks = (mem_shelf self.new).sinks } }
+        ensures cause { HasHostCause (mem_calls self.old).faults (mem_calls self.new).faults result }
+        // It fails exactly where the call is to fail or no empty sink stands under the name to be handed out.
+        ensures refused { IfErr result (λ bad. (bad ≡ Failed) × (FailsNext (mem_calls self.old) ⊎ HasNoEmptySink ((mem_shelf self.old).sinks name.now))) }
+        ensures complete { OnOk result (FailsNext (mem_calls self.old) → ⊥) }
+        ensures calls { CountsCall (mem_calls self.old) (mem_calls self.new) result }
+    {
         if self.calls.next_fails() || !is_fresh(&self.sinks, name) {
             self.calls.count_fault();
             return Err(HostBad::Failed);
@@ -113,7 +137,19 @@ impl Host for MemHost {
         }
     }
 
-    fn entropy(&mut self) -> Result<Words, HostBad> {
+    fn entropy(&mut self) -> Result<Words, HostBad>
+        ensures ok { IsTrue true → IfOk result (λ object. HandsOut (mem_shelf self.old).entropies (mem_shelf self.new).entropies (mem_shelf self.old).next_entropy object) }
+        ensures next { IsTrue true → OnOk result ((mem_shelf self.new).next_entropy ≡ (mem_shelf self.old).next_entropy + 1) }
+        ensures within { IsTrue true → OnOk result ((mem_shelf self.old).next_entropy < 256) }
+        ensures err { IsTrue true → OnErr result (Stays (mem_shelf self.old).entropies (mem_shelf self.new).entropies) }
+        ensures err_next { IsTrue true → OnErr result ((mem_shelf self.new).next_entropy ≡ (mem_shelf self.old).next_entropy) }
+        ensures same { IsTrue true → mem_shelf self.new ≡ record (mem_shelf self.old) { entropies = (mem_shelf self.new).entropies; next_entropy = (mem_shelf self.new).next_entropy } }
+        ensures cause { HasHostCause (mem_calls self.old).faults (mem_calls self.new).faults result }
+        // It fails exactly where the call is to fail or 256 were handed out, or nothing stands at the place.
+        ensures refused { IfErr result (λ bad. (bad ≡ Failed) × (FailsNext (mem_calls self.old) ⊎ (255 < (mem_shelf self.old).next_entropy) ⊎ IsAway ((mem_shelf self.old).entropies (mem_shelf self.old).next_entropy))) }
+        ensures complete { OnOk result (FailsNext (mem_calls self.old) → ⊥) }
+        ensures calls { CountsCall (mem_calls self.old) (mem_calls self.new) result }
+    {
         if self.calls.next_fails() || self.next_entropy > 255 {
             self.calls.count_fault();
             return Err(HostBad::Failed);
@@ -130,15 +166,33 @@ impl Host for MemHost {
         }
     }
 
-    fn back_source(&mut self, name: &str, object: MemSource) {
+    fn back_source(&mut self, name: &str, object: MemSource)
+        ensures state { IsTrue true → TakesBack (mem_shelf self.old).sources (mem_shelf self.new).sources name.now object }
+        ensures same { IsTrue true → mem_shelf self.new ≡ record (mem_shelf self.old) { sources = (mem_shelf self.new).sources } }
+        ensures cause { (mem_calls self.old).faults ≤ (mem_calls self.new).faults }
+        // It counts as no call.
+        ensures calls { mem_calls self.new ≡ mem_calls self.old }
+    {
         put_back(&mut self.sources, name, object);
     }
 
-    fn back_sink(&mut self, name: &str, object: Store8) {
+    fn back_sink(&mut self, name: &str, object: Store8)
+        ensures state { IsTrue true → TakesBack (mem_shelf self.old).sinks (mem_shelf self.new).sinks name.now object }
+        ensures same { IsTrue true → mem_shelf self.new ≡ record (mem_shelf self.old) { sinks = (mem_shelf self.new).sinks } }
+        ensures cause { (mem_calls self.old).faults ≤ (mem_calls self.new).faults }
+        // It counts as no call.
+        ensures calls { mem_calls self.new ≡ mem_calls self.old }
+    {
         put_back(&mut self.sinks, name, object);
     }
 
-    fn back_entropy(&mut self, place: u8, object: Words) {
+    fn back_entropy(&mut self, place: u8, object: Words)
+        ensures state { IsTrue true → TakesBack (mem_shelf self.old).entropies (mem_shelf self.new).entropies place object }
+        ensures same { IsTrue true → mem_shelf self.new ≡ record (mem_shelf self.old) { entropies = (mem_shelf self.new).entropies } }
+        ensures cause { (mem_calls self.old).faults ≤ (mem_calls self.new).faults }
+        // It counts as no call.
+        ensures calls { mem_calls self.new ≡ mem_calls self.old }
+    {
         put_place(&mut self.entropies, place as usize, object);
     }
 }

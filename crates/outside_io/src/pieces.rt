@@ -1,7 +1,7 @@
 // A source in memory that is cut at stated places.
-ghost use Rattle.std.specs.Prelude.{◌≡◌, ◌≤◌, ◌<◌, ◌+◌, [], length, drop, take, Some, IfOk, OnOk, OnErr, Contains};
+ghost use Rattle.std.specs.Prelude.{◌≡◌, ◌≤◌, ◌<◌, ◌+◌, [], length, drop, take, Some, IfOk, OnOk, OnErr};
 ghost use Rattle.std.specs.Io.{ReadsAtMost};
-ghost use Rattle.outside_io.specs.Calls.{no_calls, call_done, call_failed};
+ghost use Rattle.outside_io.specs.Calls.{no_calls, FailsNext, call_done, call_failed};
 ghost use Rattle.outside_io.specs.Causes.{HasCause};
 ghost use Rattle.outside_io.specs.Memory.{CutSource, IsNextCut, IsEarlier, ReadsToCut};
 ghost use Rattle.outside_io.specs.Told.{Takes, IsEmpty};
@@ -88,8 +88,8 @@ impl Source for Pieces {
         ensures state { IfOk result (λ count. self.new ≡ record { remaining = drop count self.old.remaining; given = self.old.given + count; cuts = self.old.cuts; calls = call_done self.old.calls }) }
         ensures same { OnErr result (self.new ≡ record self.old { calls = call_failed self.old.calls }) }
         // It fails exactly where the call is to fail.
-        ensures refused { OnErr result (Contains self.old.calls.failing self.old.calls.made) }
-        ensures complete { OnOk result (Contains self.old.calls.failing self.old.calls.made → ⊥) }
+        ensures refused { OnErr result (FailsNext self.old.calls) }
+        ensures complete { OnOk result (FailsNext self.old.calls → ⊥) }
     {
         if self.calls.next_fails() {
             self.calls.count_fault();

@@ -1,10 +1,13 @@
 // Files and standard streams. What they give and take is not told: the trusted edge of the system.
-ghost use Rattle.std.specs.Prelude.{◌≡◌, ◌≤◌, ◌<◌, length, take, false, None};
+ghost use Rattle.std.specs.Prelude.{◌≡◌, ◌≤◌, ◌<◌, length, take, false, IfOk};
+ghost use Rattle.outside_io.specs.Real.{silent, source_faults, sink_faults, ReadsBehind, WritesBehind, IsSourceNamed, IsSinkNamed};
+ghost use Rattle.std.specs.Io.{ReadsAtMost};
+ghost use Rattle.std.specs.Io.KnownBytes.{ReadConsumes};
 ghost use Rattle.outside_io.specs.Causes.{HasCause, Rose};
 ghost use Rattle.outside_io.specs.Shelf.{nowhere};
 ghost use Rattle.std.specs.Prelude.{OnOk, OnErr};
 ghost use Rattle.std.specs.Io.KnownBytes.{Appends as WriterAppends};
-ghost use Rattle.outside_io.specs.Told.{Appends, AppendsPart};
+ghost use Rattle.outside_io.specs.Told.{Appends, AppendsPart, Takes, IsEmpty};
 
 use crate::{Failed, Host, HostBad, RealEntropy, Sink, Source};
 use std::fs::{self, Files};
@@ -20,11 +23,19 @@ pub struct Reading<R> {
 }
 
 impl<R: Read> Source for Reading<R> {
-    ghost remaining = { λ _. None };
+    ghost remaining = { λ _. silent };
 
     ghost faults = { λ source. source.faults };
 
-    fn read(&mut self, buf: &mut [u8]) -> Result<usize, Failed> {
+    fn read(&mut self, buf: &mut [u8]) -> Result<usize, Failed>
+        ensures within { ReadsAtMost result buf.new }
+        ensures ok { IfOk result (λ count. Takes silent silent (take count buf.new)) }
+        ensures end { IfOk result (λ count. count ≡ 0 → 0 < length buf.new → IsEmpty silent) }
+        ensures err { OnErr result (silent ≡ silent) }
+        ensures cause { HasCause self.old.faults self.new.faults result }
+        // What is given was read, where the reader tells.
+        ensures whole { ReadConsumes (R.remaining self.old.inner) (R.remaining self.new.inner) result buf.new }
+    {
         match self.inner.read(buf) {
             Ok(count) => Ok(count),
             Err(_) => {
@@ -59,13 +70,13 @@ fn write_through<W: Write>(writer: &mut W, piece: &[u8]) -> usize
 }
 
 impl<W: Write> Sink for Writing<W> {
-    ghost contents = { λ _. None };
+    ghost contents = { λ _. silent };
 
     ghost faults = { λ sink. sink.faults };
 
     fn put(&mut self, piece: &[u8]) -> Result<(), Failed>
-        ensures ok { OnOk result (Appends None None piece.now) }
-        ensures err { OnErr result (AppendsPart None None piece.now) }
+        ensures ok { OnOk result (Appends silent silent piece.now) }
+        ensures err { OnErr result (AppendsPart silent silent piece.now) }
         ensures cause { HasCause self.old.faults self.new.faults result }
         // A piece that is taken was written whole, where the writer tells.
         ensures whole { OnOk result (WriterAppends (W.contents self.old.inner) (W.contents self.new.inner) piece.now) }
@@ -86,13 +97,18 @@ pub enum RealSource<F, I> {
 }
 
 impl<F: Read, I: Read> Source for RealSource<F, I> {
-    ghost use Rattle.outside_io.specs.Real.{source_faults};
-
-    ghost remaining = { λ _. None };
+    ghost remaining = { λ _. silent };
 
     ghost faults = { source_faults };
 
-    fn read(&mut self, buf: &mut [u8]) -> Result<usize, Failed> {
+    fn read(&mut self, buf: &mut [u8]) -> Result<usize, Failed>
+        ensures within { ReadsAtMost result buf.new }
+        ensures ok { IfOk result (λ count. Takes silent silent (take count buf.new)) }
+        ensures end { IfOk result (λ count. count ≡ 0 → 0 < length buf.new → IsEmpty silent) }
+        ensures err { OnErr result (silent ≡ silent) }
+        ensures cause { HasCause (source_faults self.old) (source_faults self.new) result }
+        ensures whole { ReadsBehind F.remaining I.remaining self.old self.new result buf.new }
+    {
         match self {
             RealSource::File(source) => source.read(buf),
             RealSource::Stream(source) => source.read(buf),
@@ -108,17 +124,57 @@ pub enum RealSink<F, O> {
 }
 
 impl<F: Write, O: Write> Sink for RealSink<F, O> {
-    ghost use Rattle.outside_io.specs.Real.{sink_faults};
-
-    ghost contents = { λ _. None };
+    ghost contents = { λ _. silent };
 
     ghost faults = { sink_faults };
 
-    fn put(&mut self, piece: &[u8]) -> Result<(), Failed> {
+    fn put(&mut self, piece: &[u8]) -> Result<(), Failed>
+        ensures ok { OnOk result (Appends silent silent piece.now) }
+        ensures err { OnErr result (AppendsPart silent silent piece.now) }
+        ensures cause { HasCause (sink_faults self.old) (sink_faults self.new) result }
+        ensures whole { OnOk result (WritesBehind F.contents O.contents self.old self.new piece.now) }
+    {
         match self {
             RealSink::File(sink) => sink.put(piece),
             RealSink::Stream(sink) => sink.put(piece),
         }
+    }
+}
+
+// Standard input under the name `-`, and else the file of this name.
+fn open_source<R: Files + Input>(rt: &R, name: &str) -> io::Result<RealSource<R::File, R::Reader>>
+    ensures named { IfOk result (λ source. IsSourceNamed name.now source) }
+    ensures fresh { IfOk result (λ source. source_faults source ≡ 0) }
+{
+    if name == "-" {
+        return Ok(RealSource::Stream(Reading {
+            inner: rt.reader(),
+            faults: 0,
+        }));
+    }
+    match fs::open(rt, name) {
+        Ok(inner) => Ok(RealSource::File(Reading { inner, faults: 0 })),
+        Err(error) => Err(error),
+    }
+}
+
+// Standard output under the name `-`, and else a new file of this name.
+fn create_sink<'a, R: Files + Print>(
+    rt: &'a R,
+    name: &str,
+) -> io::Result<RealSink<R::File, Printer<'a, R>>>
+    ensures named { IfOk result (λ sink. IsSinkNamed name.now sink) }
+    ensures fresh { IfOk result (λ sink. sink_faults sink ≡ 0) }
+{
+    if name == "-" {
+        return Ok(RealSink::Stream(Writing {
+            inner: io::writer(rt),
+            faults: 0,
+        }));
+    }
+    match fs::create(rt, name) {
+        Ok(inner) => Ok(RealSink::File(Writing { inner, faults: 0 })),
+        Err(error) => Err(error),
     }
 }
 
@@ -159,14 +215,8 @@ impl<'a, R: Files + Input + Print + RandomSource> Host for RealHost<'a, R> {
     ghost faults = { λ host. host.faults };
 
     fn source(&mut self, name: &str) -> Result<Self::Input, HostBad> {
-        if name == "-" {
-            return Ok(RealSource::Stream(Reading {
-                inner: self.rt.reader(),
-                faults: 0,
-            }));
-        }
-        match fs::open(self.rt, name) {
-            Ok(inner) => Ok(RealSource::File(Reading { inner, faults: 0 })),
+        match open_source(self.rt, name) {
+            Ok(source) => Ok(source),
             Err(_) => {
                 self.faults = self.faults.saturating_add(1);
                 Err(HostBad::Failed)
@@ -175,14 +225,8 @@ impl<'a, R: Files + Input + Print + RandomSource> Host for RealHost<'a, R> {
     }
 
     fn sink(&mut self, name: &str) -> Result<Self::Output, HostBad> {
-        if name == "-" {
-            return Ok(RealSink::Stream(Writing {
-                inner: io::writer(self.rt),
-                faults: 0,
-            }));
-        }
-        match fs::create(self.rt, name) {
-            Ok(inner) => Ok(RealSink::File(Writing { inner, faults: 0 })),
+        match create_sink(self.rt, name) {
+            Ok(sink) => Ok(sink),
             Err(_) => {
                 self.faults = self.faults.saturating_add(1);
                 Err(HostBad::Failed)

@@ -1,8 +1,9 @@
 // Objects under names, in order: the first slot of a name counts.
-ghost use Rattle.std.specs.Prelude.{◌≡◌, ◌<◌, length, MatchOption, IfSome, IfNone, IsTrue, []};
+ghost use Rattle.std.specs.Prelude.{◌≡◌, ◌<◌, length, MatchOption, IfSome, IfNone, IsTrue, false, []};
+ghost use Rattle.outside_io.specs.MemHost.{HasNoEmptySink};
 ghost use Rattle.outside_io.specs.declared.host.Place.TheVariants.{Here, Back};
 ghost use Rattle.outside_io.specs.Slots.{place_of, index_of};
-ghost use Rattle.outside_io.specs.Shelf.{Stays, HandsOut, TakesBack};
+ghost use Rattle.outside_io.specs.Shelf.{Stays, HandsOut, TakesBack, IsAway};
 
 use crate::{Place, Store8};
 use std::mem;
@@ -32,6 +33,7 @@ fn find<T>(slots: &[Slot<T>], name: &str) -> Option<usize>
 pub(crate) fn take_out<T: Drop>(slots: &mut [Slot<T>], name: &str) -> Option<T>
     ensures some { IfSome result (λ object. HandsOut (place_of slots.old) (place_of slots.new) name.now object) }
     ensures none { IfNone result (Stays (place_of slots.old) (place_of slots.new)) }
+    ensures away { IfNone result (IsAway (place_of slots.old name.now)) }
 {
     let i = find(slots, name)?;
     if !matches!(slots[i].place, Place::Here(_)) {
@@ -71,6 +73,7 @@ pub(crate) fn returned<'a, T>(slots: &'a [Slot<T>], name: &str) -> Option<&'a T>
 // Whether an empty sink stands under this name, to be handed out.
 pub(crate) fn is_fresh(slots: &[Slot<Store8>], name: &str) -> bool
     ensures value { (sink : _) → IsTrue result → place_of slots.now name.now ≡ Here sink → sink.contents ≡ [] }
+    ensures none { result ≡ false → HasNoEmptySink (place_of slots.now name.now) }
 {
     match find(slots, name) {
         Some(i) => match &slots[i].place {

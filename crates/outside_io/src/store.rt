@@ -1,6 +1,6 @@
 // A sink in memory.
-ghost use Rattle.std.specs.Prelude.{◌≡◌, ◌<◌, ◌≤◌, ◌+◌, ◌++◌, ◌↔◌, ◌⊎◌, Contains, [], length, Some, IfOk, IsTrue, OnOk, OnErr, vec_capacity};
-ghost use Rattle.outside_io.specs.Calls.{no_calls};
+ghost use Rattle.std.specs.Prelude.{◌≡◌, ◌<◌, ◌≤◌, ◌+◌, ◌-◌, ◌++◌, ◌↔◌, ◌⊎◌, [], length, take, Some, IfOk, IsTrue, OnOk, OnErr, vec_capacity};
+ghost use Rattle.outside_io.specs.Calls.{no_calls, FailsNext, CountsCall};
 ghost use Rattle.outside_io.specs.Causes.{HasCause};
 ghost use Rattle.outside_io.specs.Memory.{MemorySink};
 ghost use Rattle.outside_io.specs.Told.{Appends, AppendsPart};
@@ -72,9 +72,13 @@ impl Sink for Store8 {
         // A piece that is taken fits the room, which stays.
         ensures within { length self.new.contents ≤ self.new.room }
         ensures same { self.new.room ≡ self.old.room }
+        // A call that is to fail takes nothing, and any other the front part that has room.
+        ensures failed { FailsNext self.old.calls → self.new.contents ≡ self.old.contents }
+        ensures front { (FailsNext self.old.calls → ⊥) → self.new.contents ≡ self.old.contents ++ take (self.old.room - length self.old.contents) piece.now }
+        ensures calls { CountsCall self.old.calls self.new.calls result }
         // It fails exactly where the call is to fail or the piece has no room.
-        ensures refused { OnErr result (Contains self.old.calls.failing self.old.calls.made ⊎ (self.old.room < length self.old.contents + length piece.now)) }
-        ensures complete { OnOk result ((Contains self.old.calls.failing self.old.calls.made → ⊥) × (length self.old.contents + length piece.now ≤ self.old.room)) }
+        ensures refused { OnErr result (FailsNext self.old.calls ⊎ (self.old.room < length self.old.contents + length piece.now)) }
+        ensures complete { OnOk result ((FailsNext self.old.calls → ⊥) × (length self.old.contents + length piece.now ≤ self.old.room)) }
     {
         if self.calls.next_fails() {
             self.calls.count_fault();

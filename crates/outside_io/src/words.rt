@@ -1,6 +1,6 @@
 // Random words in memory.
-ghost use Rattle.std.specs.Prelude.{◌≡◌, ◌≤◌, ◌⊎◌, [], ◌∷◌, length, drop, Some, IfOk, OnOk, OnErr, Contains};
-ghost use Rattle.outside_io.specs.Calls.{no_calls, call_done, call_failed};
+ghost use Rattle.std.specs.Prelude.{◌≡◌, ◌≤◌, ◌⊎◌, [], ◌∷◌, length, drop, Some, IfOk, OnOk, OnErr};
+ghost use Rattle.outside_io.specs.Calls.{no_calls, FailsNext, CountsCall};
 ghost use Rattle.outside_io.specs.Causes.{HasCause};
 ghost use Rattle.outside_io.specs.Memory.{MemoryWords};
 ghost use Rattle.outside_io.specs.Told.{Takes};
@@ -48,11 +48,10 @@ impl Entropy for Words {
         ensures ok { IfOk result (λ word. Takes (Some self.old.remaining) (Some self.new.remaining) (word ∷ [])) }
         ensures err { OnErr result (Some self.new.remaining ≡ Some self.old.remaining) }
         ensures cause { HasCause self.old.calls.faults self.new.calls.faults result }
-        ensures calls { OnOk result (self.new.calls ≡ call_done self.old.calls) }
-        ensures same { OnErr result (self.new.calls ≡ call_failed self.old.calls) }
+        ensures calls { CountsCall self.old.calls self.new.calls result }
         // It fails exactly where the call is to fail or no word remains.
-        ensures refused { OnErr result (Contains self.old.calls.failing self.old.calls.made ⊎ (self.old.remaining ≡ [])) }
-        ensures complete { OnOk result (Contains self.old.calls.failing self.old.calls.made → ⊥) }
+        ensures refused { OnErr result (FailsNext self.old.calls ⊎ (self.old.remaining ≡ [])) }
+        ensures complete { OnOk result (FailsNext self.old.calls → ⊥) }
     {
         if self.calls.next_fails() || self.at == self.words.len() {
             self.calls.count_fault();
