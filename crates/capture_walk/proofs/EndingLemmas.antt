@@ -15,7 +15,7 @@ use Rattle.capture_file.specs.declared.reader.CapKind.TheVariants as kinds
 use Rattle.capture_file.specs.declared.reader.CapBad.{CapBad}
 use Rattle.capture_file.specs.declared.reader.CapBad.TheVariants.{Bad, ReadFault}
 use Rattle.capture_walk.specs.Writes.{WritesPart}
-use Rattle.capture_walk.specs.Leaves.{records_before, Begin, Fronts, WritesOf, WritesFrontOf, Leaves, walk_bad_of}
+use Rattle.capture_walk.specs.Leaves.{records_before, Begin, Fronts, WritesOf, WritesFrontOf, WritesBegun, Leaves, walk_bad_of}
 use Rattle.capture_walk.specs.Sofar.{HasRead}
 use Rattle.capture_walk.specs.declared.walk_bad.WalkBad.{WalkBad}
 use Rattle.capture_walk.specs.declared.walk_bad.WalkBad.TheVariants as bads
@@ -166,6 +166,12 @@ pub end_front_told : (so_far whole : List Record → List ℕ) (first a u v w : 
     → Appends u v (so_far done) → WritesPart v w (so_far done) (whole done) → IfSome first (λ x. WritesFrontOf so_far whole u w x)
 end_front_told so_far whole None a u v w at done read before part = tt
 end_front_told so_far whole (Some x) a u v w at done read before part = end_failed so_far whole x a u v w at done read before part
+
+-- memory was refused: what was read before is written
+pub refused_told : (so_far : List Record → List ℕ) (first a u v w : Option (List ℕ)) (at : ℕ) (done : List Record) → HasRead first a at done
+    → Appends u v (so_far done) → w ≡ v → IfSome first (λ x. WritesBegun so_far u w x)
+refused_told so_far None a u v w at done read before same = tt
+refused_told so_far (Some x) a u v w at done read before same = (done, begun x a at done read, same ∙ before)
 
 -- ---- a reader is given back
 

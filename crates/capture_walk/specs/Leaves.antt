@@ -36,6 +36,10 @@ abbrev pub WritesFrontOf : (List Record → List ℕ) → (List Record → List 
 WritesFrontOf so_far whole old new b =
     (rs : List Record) × ((rs ≡ []) ⊎ Begin rs b) × ((front : List ℕ) × Appends old new front × (IsPrefix front (so_far rs) ⊎ IsPrefix front (whole rs)))
 
+-- it has gained what is written of some records that stand at the front of these octets, and no more
+abbrev pub WritesBegun : (List Record → List ℕ) → Option (List ℕ) → Option (List ℕ) → List ℕ → Type 0
+WritesBegun so_far old new b = (rs : List Record) × ((rs ≡ []) ⊎ Begin rs b) × Appends old new (so_far rs)
+
 -- what the end of a walk says of the octets that a source, where it tells, had and has left, and of what a sink held and holds
 abbrev pub Leaves : (List Record → List ℕ) → (List Record → List ℕ) → Option (List ℕ) → Option (List ℕ) → Option (List ℕ) → Option (List ℕ) → Result Unit WalkBad → Type 0
 Leaves so_far whole source rest old new (Ok x) = IsEmpty rest × IfSome source (λ b. (rs : List Record) × IsCapture rs b × (length b ≤ 2 ^ 40) × Appends old new (whole rs))
@@ -43,7 +47,7 @@ Leaves so_far whole source rest old new (Err (bads.BadCapture kind at)) = (kind 
 Leaves so_far whole source rest old new (Err bads.TooLong) = IfSome source (λ b. (at : ℕ) × (bad : BadAt b kinds.TooLong at) × Appends old new (whole (records_before bad)))
 Leaves so_far whole source rest old new (Err bads.ReadFault) = IfSome source (λ b. (read : List ℕ) × ((c : List ℕ) × (rest ≡ Some c) × (b ≡ read ++ c)) × WritesOf whole old new read)
 Leaves so_far whole source rest old new (Err bads.WriteFault) = IfSome source (λ b. WritesFrontOf so_far whole old new b)
-Leaves so_far whole source rest old new (Err bads.Memory) = IfSome source (λ b. WritesFrontOf so_far whole old new b)
+Leaves so_far whole source rest old new (Err bads.Memory) = IfSome source (λ b. WritesBegun so_far old new b)
 
 -- how a walk ends by a reader's error
 abbrev pub walk_bad_of : CapBad → WalkBad

@@ -1,7 +1,8 @@
 -- A record is one more step of the receiver.
 use Rattle.std.proofs.Common.{◌≡◌, ℕ, List, [], ◌∷◌, ◌++◌, map, reverse, Option, Bool, true, false, ◌||◌, refl, sym, ap, ◌∙◌, append-nil}
 use mathlib.Core.List.{reverse-cons}
-use Rattle.std.specs.Prelude.{OnOk, OnErr, Result, Ok, Err}
+use Rattle.std.specs.Prelude.{OnOk, OnErr, IsErrOf, Result, Ok, Err}
+use Rattle.capture_walk.specs.declared.visitor.VisitBad.TheVariants as bads
 use Rattle.std.specs.List.{concat}
 use Rattle.std.proofs.lemmas.List.{map_push, reverse-append}
 use Rattle.outside_io.specs.Told.{IsPrefix}
@@ -80,6 +81,14 @@ on_refused outcomes.WriteFault P fault memory = fault refl
 on_refused (outcomes.Verdict v) P fault memory = tt
 on_refused outcomes.Nothing P fault memory = tt
 on_refused outcomes.Memory P fault memory = memory refl
+
+-- where memory was refused
+pub on_memory : (o : Outcome) (P : Type 0) → (o ≡ outcomes.Memory → P) → IsErrOf (answer_of o) bads.Memory → P
+on_memory outcomes.Stopped P memory is = cc
+on_memory outcomes.WriteFault P memory is = cc
+on_memory (outcomes.Verdict v) P memory is = cc
+on_memory outcomes.Nothing P memory is = cc
+on_memory outcomes.Memory P memory is = memory refl
 
 -- a step with this record's item is the record's step
 pub pushed : (session : Session) (done : List Record) (r : Record) (step : ReceiverStep) → step ≡ step_of session r → buffer_history (step ∷ receiver_history session done) ≡ history_of session (done ++ r ∷ [])

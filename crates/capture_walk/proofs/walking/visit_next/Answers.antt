@@ -1,10 +1,10 @@
 -- A record is one more, and whatever else the reader answers ends the walk.
-use Rattle.std.proofs.Common.{take, arith, sym, subst}
+use Rattle.std.proofs.Common.{take, arith, ap, sym, subst}
 use Rattle.std.specs.Prelude.{Err}
 use Rattle.capture_file.specs.Heads.{record_of}
 use Rattle.capture_walk.specs.Leaves.{Leaves}
 use Rattle.capture_walk.proofs.GoingLemmas.{reads_on, gained}
-use Rattle.capture_walk.proofs.EndingLemmas.{front_told, end_front_told, done_whole, bad_end}
+use Rattle.capture_walk.proofs.EndingLemmas.{front_told, end_front_told, refused_told, done_whole, bad_end}
 use Rattle.capture_walk.proofs.walking.visit_next.Goals as goal
 
 pub returns-in-Ok-clause-on : goal.returns-in-Ok-clause-on
@@ -28,11 +28,8 @@ returns-in-Err-WriteFault-clause-over g c first u sofar =
 
 pub returns-in-Err-Memory-clause-over : goal.returns-in-Err-Memory-clause-over
 returns-in-Err-Memory-clause-over g c first u sofar =
-    let e = rw c.in-Ok-Some.field-0-is at c.in-Ok-Some.ensures in
-    let place = e.at in
-    front_told (g.V.Visitor.so_far c.args.visitor.now) (g.V.Visitor.whole c.args.visitor.now) first c.args.reader.now.remaining c.next.new.self.remaining u (g.K.Sink.contents c.args.sink.now) (g.K.Sink.contents c.record.new.sink)
-    c.args.reader.now.at c.next.new.self.at sofar.done (record_of c.in-Ok-Some.head (take c.in-Ok-Some.head.length c.next.new.buf))
-    sofar.read e.value.0 (omega (arith, place)) e.value.1 sofar.sink (c.in-Err-Memory.ensures.part sofar.done sofar.seen)
+    refused_told (g.V.Visitor.so_far c.args.visitor.now) first c.args.reader.now.remaining u (g.K.Sink.contents c.args.sink.now) (g.K.Sink.contents c.record.new.sink)
+    c.args.reader.now.at sofar.done sofar.read sofar.sink (c.in-Err-Memory.ensures.none (ap Err c.in-Err-Memory.field-0-is))
 
 pub returns-in-Ok-finish-clause-over : goal.returns-in-Ok-finish-clause-over
 returns-in-Ok-finish-clause-over g c first u sofar =

@@ -12,7 +12,7 @@ use Rattle.rist_replay.specs.Steps.{step_of, input_read, receiver_history, histo
 use Rattle.rist_replay.specs.Visiting.{HasReplayed}
 use Rattle.rist_replay.specs.Replay.{released_so_far}
 use Rattle.rist_ends.specs.Receiver.{IsReceiverAfter}
-use Rattle.rist_replay.proofs.ReplayLemmas.{on_made, on_refused, pushed, wrote_nothing}
+use Rattle.rist_replay.proofs.ReplayLemmas.{on_made, on_refused, on_memory, pushed, wrote_nothing}
 use Rattle.rist_replay.proofs.replayer.ReplayerVisitor.record.Goals as goal
 
 pub returns-clause-sink : goal.returns-clause-sink
@@ -43,3 +43,9 @@ returns-clause-part g c =
     (λ fault done has. subst (λ h. WritesPart (g.K.Sink.contents c.args.sink.now) (g.K.Sink.contents c.step.new.sink) (released_bytes limits (history_of session done)) (released_bytes limits h)) (pushed session done r step is) (c.step.ensures.part fault (receiver_history session done) has.state))
     (λ memory done has. subst (λ k. WritesPart (g.K.Sink.contents c.args.sink.now) (g.K.Sink.contents k) (released_bytes limits (history_of session done)) (released_bytes limits (history_of session (done ++ r ∷ [])))) (sym (c.step.ensures.refused memory).1)
     (wrote_nothing limits session done r (g.K.Sink.contents c.args.sink.now))))
+
+pub returns-clause-none : goal.returns-clause-none
+returns-clause-none g c is =
+    on_memory c.step.result (g.K.Sink.contents c.step.new.sink ≡ g.K.Sink.contents c.args.sink.now)
+    (λ memory. ap g.K.Sink.contents (c.step.ensures.refused memory).1)
+    (sym c.answer_of.ensures.value ∙ is)
