@@ -1,5 +1,5 @@
 -- A packet is put among those that wait before what is due goes out, and stays behind it.
-use Rattle.std.proofs.Common.{◌≡◌, ℕ, ℤ, ◌+◌, ◌≤◌, max, true, false, cond, List, [], ◌∷◌, Some, ap, sym, ◌∙◌, refl, subst, map, arith, length}
+use Rattle.std.proofs.Common.{◌≡◌, ℕ, ℤ, ◌+◌, ◌≤◌, max, Bool, true, false, cond, List, [], ◌∷◌, Some, ap, sym, ◌∙◌, refl, subst, map, arith, length}
 use Rattle.std.proofs.lemmas.Bool.Decides.{nat_tests}
 use Rattle.std.specs.List.{filter, concat}
 use Rattle.receiver_rules.specs.Packets.{Packet, Moment, At, higher, is_due_by, insert_by_number, is_below, is_from, IsRising}
@@ -26,6 +26,16 @@ stays floor p low = grind (arith, nat_tests)
 
 pub not_below : (floor : ℕ) (p : Packet) → floor ≤ p.number → is_below floor p ≡ false
 not_below floor p low = grind (arith, nat_tests)
+
+keeps_all : (floor low : ℕ) (ps : List Packet) → floor ≤ low → IsRising low ps → filter (is_from floor) ps ≡ ps
+keeps_all floor low [] h r = refl
+keeps_all floor low (p ∷ ps) h r =
+    subst (λ (b : Bool). cond b (p ∷ filter (is_from floor) ps) (filter (is_from floor) ps) ≡ p ∷ ps) (sym (stays floor p (omega (arith, r.0))))
+    (ap (λ l. p ∷ l) (keeps_all floor (p.number + 1) ps (omega (arith, r.0)) r.1))
+
+-- from its own floor on a sound state keeps all that waits
+pub raised_none : (b : State) → IsSound b → raised b b.floor ≡ b
+raised_none b s = ap (λ held. record { limits = b.limits; phase = b.phase; time = b.time; anchor = b.anchor; highest = b.highest; floor = b.floor; held = held }) (keeps_all b.floor b.floor b.held (omega arith) s.rising)
 
 ordered : (low : ℕ) (ps : List Packet) → IsRising low ps → IsOrderedFrom low ps
 ordered low [] r = tt

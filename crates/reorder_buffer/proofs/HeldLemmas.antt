@@ -1,13 +1,13 @@
 -- Tests on a map's keys, as tests on the packets that it shows.
-use Rattle.std.proofs.Common.{◌≡◌, ℕ, zero, suc, ◌+◌, ◌-◌, ◌^◌, ◌<◌, ◌≤◌, ℤ, Some, Bool, true, false, cond, ◌||◌, ◌&&◌, List, [], ◌∷◌, refl, sym, ◌∙◌, ap, subst, arith}
+use Rattle.std.proofs.Common.{◌≡◌, ℕ, zero, suc, ◌+◌, ◌^◌, ◌<◌, ◌≤◌, ℤ, Some, Bool, true, false, cond, ◌||◌, ◌&&◌, List, [], ◌∷◌, refl, sym, ◌∙◌, ap, subst, arith}
 use Rattle.std.specs.Prelude.{nat_lt, nat_le, ◌==◌, is_some, Option, None}
 use Rattle.std.specs.Option.{ForSome}
 use Rattle.std.proofs.lemmas.Bool.{ltb-true, leb-false, or_parts}
 use Rattle.std.specs.List.{list_any, filter, All, slice_get}
 use Rattle.std.specs.Map.{lookup, keys_of, remove_entry}
 use Rattle.std.specs.BTreeMap.{BTreeMap, is_at, insert_entry}
-use Rattle.std.specs.Ordering.{nat_cmp, is_gt, is_lt}
-use Rattle.std.specs.BTreeMap.Range.{IsLeBy, entries_between}
+use Rattle.std.specs.Ordering.{nat_cmp, is_lt}
+use Rattle.std.specs.BTreeMap.Range.{entries_between}
 use Rattle.std.specs.declared.ops.Bound.TheVariants.{Included, Unbounded}
 use Rattle.std.proofs.lemmas.List.Elements.{All-head, All-tail}
 use Rattle.receiver_rules.specs.declared.anchor.Highest.{Highest}
@@ -103,33 +103,10 @@ pub remove-insert : (number : ℕ) (held : Held) (es : List (ℕ × Held)) → l
 remove-insert number held [] h = grind arith
 remove-insert number held (e ∷ es) h = grind (arith, is_at-nat_cmp number e.0, remove-insert number held es)
 
--- the numbers lie between the first and the last
-far_ends : (capacity n first last : ℕ) (ks : List ℕ) → All (λ k. first ≤ k) ks → All (λ k. k ≤ last) ks → list_any (λ k. k == first) ks ≡ true → list_any (λ k. k == last) ks ≡ true → list_any (λ k. nat_le capacity ((k - n) + (n - k))) ks ≡ (nat_le capacity ((first - n) + (n - first)) || nat_le capacity ((last - n) + (n - last)))
-far_ends capacity n first last ks low high f l = grind (arith, far_none capacity n first last ks low high, far_some capacity n first ks f, far_some capacity n last ks l)
-  where
-    far_none : (capacity n first last : ℕ) (ks : List ℕ) → All (λ k. first ≤ k) ks → All (λ k. k ≤ last) ks → nat_le capacity ((first - n) + (n - first)) ≡ false → nat_le capacity ((last - n) + (n - last)) ≡ false → list_any (λ k. nat_le capacity ((k - n) + (n - k))) ks ≡ false
-    far_none capacity n first last [] low high f l = refl
-    far_none capacity n first last (k ∷ ks) low high f l = grind (arith, All-head (λ j. first ≤ j) k ks low, All-head (λ j. j ≤ last) k ks high, far_none capacity n first last ks (All-tail (λ j. first ≤ j) k ks low) (All-tail (λ j. j ≤ last) k ks high) f l)
-
-    far_some : (capacity n first : ℕ) (ks : List ℕ) → list_any (λ k. k == first) ks ≡ true → nat_le capacity ((first - n) + (n - first)) ≡ true → list_any (λ k. nat_le capacity ((k - n) + (n - k))) ks ≡ true
-    far_some capacity n first [] f h = cc
-    far_some capacity n first (k ∷ ks) f h = grind (arith, far_some capacity n first ks)
-
 key_at : (i : ℕ) (es : List (ℕ × Held)) (e : ℕ × Held) → slice_get es i ≡ Some e → list_any (λ k. k == e.0) (keys_of es) ≡ true
 key_at i [] e h = cc
 key_at zero (x ∷ es) e h = let same : x.0 ≡ e.0 = cc in grind (arith, same)
 key_at (suc i) (x ∷ es) e h = grind (arith, key_at i es e h)
-
--- the first and the last number decide
-pub far_keys : (capacity n i : ℕ) (es : List (ℕ × Held)) (first last : ℕ × Held) → slice_get es 0 ≡ Some first → slice_get es i ≡ Some last → All (IsLeBy nat_cmp first.0) (keys_of es) → All (λ k. is_lt (nat_cmp last.0 k) ≡ false) (keys_of es) → list_any (λ k. nat_le capacity (distance k n)) (keys_of es) ≡ (nat_le capacity (distance first.0 n) || nat_le capacity (distance last.0 n))
-far_keys capacity n i es first last f l low high =
-    far_ends capacity n first.0 last.0 (keys_of es) (λ j d h. from_cmp first.0 _ (low j d h)) (λ j d h. to_cmp last.0 _ (high j d h)) (key_at 0 es first f) (key_at i es last l)
-  where
-    from_cmp : (a b : ℕ) → is_gt (nat_cmp a b) ≡ false → a ≤ b
-    from_cmp a b h = grind arith
-
-    to_cmp : (a b : ℕ) → is_lt (nat_cmp a b) ≡ false → b ≤ a
-    to_cmp a b h = grind arith
 
 -- ---- from a floor on
 

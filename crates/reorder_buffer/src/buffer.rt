@@ -1,9 +1,7 @@
 ghost use Rattle.std.specs.Prelude.{◌≡◌, ◌<◌, ◌≤◌, ◌^◌};
 
 use crate::due::{floor_at, pop_floor};
-use crate::packets::{
-    Held, admit, drop_all, holds, insert_both, is_any_far, is_any_far_from, put_below,
-};
+use crate::packets::{Held, admit, drop_all, holds, insert_both, is_any_far_from, put_below};
 use crate::phase::{Phase, ReceiveBad, WriteFault};
 use outside_io::{NoMemory, Sink};
 use receiver_rules::place::{Place, highest_after, new_anchor, place_of};
@@ -253,7 +251,7 @@ impl Buffer {
     {
         let anchor = self.anchor_for(at, arrival);
         let place = self.place(&anchor, arrival);
-        let verdict = self.verdict(&anchor, at, arrival.flow, place.number, place.deadline);
+        let verdict = self.verdict(&anchor, at, arrival.flow, &place);
         if verdict.is_kept() {
             self.hold(alloc, &place, arrival.payload)?;
         }
@@ -285,28 +283,12 @@ impl Buffer {
         place_of(&self.limits, anchor, self.highest, arrival)
     }
 
-    /// The first test that fits.
-    fn verdict(&self, anchor: &Anchor, at: u64, flow: u32, number: u64, deadline: i64) -> Verdict
+    /// The first test that fits, where nothing more goes out before.
+    fn verdict(&self, anchor: &Anchor, at: u64, flow: u32, place: &Place) -> Verdict
         requires { at < 2 ^ 61 }
-        ensures { result ≡ verdict_here self.now anchor.now at flow number deadline }
+        ensures { result ≡ verdict_here self.now anchor.now at flow place.now.number place.now.deadline }
     {
-        if flow != anchor.flow {
-            Verdict::Stranger
-        } else if number >= 1 << 62 {
-            Verdict::Exhausted
-        } else if deadline <= at as i64 {
-            Verdict::Late
-        } else if number < self.floor {
-            Verdict::Behind
-        } else if deadline > (at + 2 * self.limits.playout_delay) as i64 {
-            Verdict::Early
-        } else if holds(&self.held, number) {
-            Verdict::Twice
-        } else if is_any_far(&self.held, self.limits.capacity, number) {
-            Verdict::Span
-        } else {
-            Verdict::Kept
-        }
+        self.verdict_then(self.floor, anchor, at, flow, place)
     }
 
     /// The first test that fits once what is due below this floor is out.

@@ -1,7 +1,6 @@
 //! The packets that are buffered, as an ordered map by their numbers.
 ghost use Rattle.std.specs.Prelude.{◌≡◌, ◌==◌, ◌<◌, ◌≤◌, ◌+◌, ◌^◌, ◌∷◌, ◌⊎◌, [], ℕ, ℤ, Some, false, nat_le, length, IfSome, IfNone, IfOk, IsOk, OnOk, OnErr, IsErrOf};
 ghost use Rattle.std.specs.List.{list_any, filter};
-ghost use Rattle.std.specs.BTreeMap.{keys};
 ghost use Rattle.outside_io.specs.Causes.{HasCause};
 ghost use Rattle.outside_io.specs.Told.{Appends, AppendsPart};
 ghost use Rattle.receiver_rules.specs.Packets.{Moment, At, is_due_by, distance, insert_by_number, is_below, is_from, IsRising};
@@ -33,14 +32,6 @@ pub fn holds(held: &BTreeMap<u64, Held>, number: u64) -> bool
     held.contains_key(&number)
 }
 
-/// Whether some waiting number lies the capacity or more away.
-#[tactic(auto, using(crate::proofs::HeldLemmas::any_key))]
-pub fn is_any_far(held: &BTreeMap<u64, Held>, capacity: u64, number: u64) -> bool
-    ensures { result ≡ list_any (λ p. nat_le capacity (distance p.number number)) (packets_of held.now.entries) }
-{
-    is_any_key_far(held, capacity, number)
-}
-
 /// Whether some waiting number from the floor on lies the capacity or more away. The first of these and the last decide.
 pub fn is_any_far_from(held: &BTreeMap<u64, Held>, floor: u64, capacity: u64, number: u64) -> bool
     requires rising { IsRising 0 (packets_of held.now.entries) }
@@ -61,18 +52,6 @@ fn first_from(held: &BTreeMap<u64, Held>, floor: u64) -> Option<u64>
     match held.range(floor..).next() {
         Some((number, _)) => Some(*number),
         None => None,
-    }
-}
-
-/// The first and the last number decide, since the others lie between.
-fn is_any_key_far(held: &BTreeMap<u64, Held>, capacity: u64, number: u64) -> bool
-    ensures { result ≡ list_any (λ k. nat_le capacity (distance k number)) (keys held.now) }
-{
-    match (held.first_key_value(), held.last_key_value()) {
-        (Some((first, _)), Some((last, _))) => {
-            is_far(*first, capacity, number) || is_far(*last, capacity, number)
-        }
-        _ => false,
     }
 }
 

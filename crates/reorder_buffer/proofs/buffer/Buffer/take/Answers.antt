@@ -1,6 +1,5 @@
 -- A kept packet's number and stamp are far from the ends.
-use Rattle.std.proofs.Common.{ℕ, ◌∙◌, ◌^◌, ◌≤◌, ◌<◌, ap, sym, subst, rules, FitsSigned, w64}
-use Rattle.std.proofs.lemmas.Int.{to_z-of_z}
+use Rattle.std.proofs.Common.{ℕ, ◌∙◌, ◌^◌, ◌≤◌, ◌<◌, ap, sym, subst}
 use Rattle.receiver_rules.specs.Packets.{is_kept, placed_packet}
 use Rattle.receiver_rules.specs.Seen.{seen}
 use Rattle.reorder_buffer.specs.Tests.{verdict_here}
@@ -9,8 +8,7 @@ use Rattle.reorder_buffer.proofs.buffer.Buffer.take.Goals as goal
 
 pub hold-requires-clause-mid : goal.hold-requires-clause-mid
 hold-requires-clause-mid c =
-    let fits : FitsSigned w64 c.place-place.result.deadline = search rules in
-    let judged = simp to_z-of_z at c.verdict-verdict.ensures in
+    let judged = c.verdict-verdict.ensures in
     let place = c.place-place.ensures.place in
     let accepted = sym c.is_kept.ensures ∙ c.if-is_kept.true in
     let m = mid_kept c.args.self.now c.anchor_for-anchor.result c.args.at (seen c.args.arrival.now) c.place-place.ensures.limits c.anchor_for-anchor.ensures.early c.requires.tick
