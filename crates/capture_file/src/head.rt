@@ -11,9 +11,12 @@ use outside_io::Channel;
 /// A record but for its octets.
 #[derive(Clone, Copy, Debug, PartialEq, Eq)]
 pub struct Head {
+    /// Below 16.
     pub link: u8,
     pub channel: Channel,
+    /// In octets, at most 2,048.
     pub length: u16,
+    /// When it was captured, in microseconds.
     pub us: u64,
 }
 

@@ -15,11 +15,17 @@ use std::marker::Model;
 /// The first test that fails of what stands at an offset.
 #[derive(Clone, Copy, Debug, PartialEq, Eq)]
 pub enum CapKind {
+    /// The name does not stand at the front.
     Magic,
+    /// The head, or the octets that it says, end early.
     Truncated,
+    /// The link is above 15.
     Link,
+    /// The octet of the channel is above 2.
     Channel,
+    /// The length is above 2,048 octets.
     Long,
+    /// The record would end past 2^40 octets.
     TooLong,
 }
 
@@ -44,7 +50,9 @@ impl Display for CapKind {
 /// Why a reader gives no record: what stands at an offset is none, or the source failed.
 #[derive(Clone, Copy, Debug, PartialEq, Eq)]
 pub enum CapBad {
+    /// This test fails of what stands at this offset, in octets.
     Bad(CapKind, u64),
+    /// A read of the source failed.
     ReadFault,
 }
 
