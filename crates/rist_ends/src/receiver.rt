@@ -76,8 +76,9 @@ impl Receiver {
         ensures phase { IfStepped result (self.new.buffer.phase ≡ ended_at told.now) }
         ensures limits { self.new.buffer.limits ≡ self.old.buffer.limits }
 
-        // After a failed write it has ended, and the sink has gained a front part.
+        // After a failed write it has ended, the step isn't counted, and the sink has gained a front part.
         ensures failed { result ≡ WriteFault → self.new.buffer.phase ≡ Failed }
+        ensures counts { result ≡ WriteFault → self.new.counts ≡ self.old.counts }
         ensures part { result ≡ WriteFault → (history : List ReceiverStep) → IsReceiverAfter self.old history → WritesPart (K.contents sink.old) (K.contents sink.new) (released_bytes self.old.buffer.limits (buffer_history history)) (released_bytes self.old.buffer.limits (buffer_history (step_of told.now ∷ history))) }
         ensures cause { result ≡ WriteFault → Rose (K.faults sink.old) (K.faults sink.new) }
         ensures later { K.faults sink.old ≤ K.faults sink.new }
