@@ -127,6 +127,7 @@ impl Buffer {
         ensures limits { self.new.limits ≡ self.old.limits }
 
         ensures failed { IsErrOf result ReceiveFault → self.new.phase ≡ Phase.Failed }
+        ensures dropped { IsErrOf result ReceiveFault → self.new.held ≡ [] }
         ensures part { IsErrOf result ReceiveFault → (history : List Step) → IsStateAfter self.old history → WritesPart (K.contents sink.old) (K.contents sink.new) (released_bytes self.old.limits history) (released_bytes self.old.limits (media_step at (seen arrival.now) ∷ history)) }
         ensures same { IsErrOf result ReceiveNoMemory → (self.new ≡ self.old) × (sink.new ≡ sink.old) }
         ensures cause { HasReceiveCause (K.faults sink.old) (K.faults sink.new) result }
@@ -157,6 +158,7 @@ impl Buffer {
         ensures limits { self.new.limits ≡ self.old.limits }
 
         ensures err { OnErr result (self.new.phase ≡ Phase.Failed) }
+        ensures dropped { OnErr result (self.new.held ≡ []) }
         ensures part { OnErr result ((history : List Step) → IsStateAfter self.old history → WritesPart (K.contents sink.old) (K.contents sink.new) (released_bytes self.old.limits history) (released_bytes self.old.limits (time_step at ∷ history))) }
         // Where no octet is to be written no write can fail: an empty payload makes no piece.
         ensures complete { (history : List Step) → IsStateAfter self.old history → released_bytes self.old.limits (time_step at ∷ history) ≡ released_bytes self.old.limits history → IsOk result }
@@ -178,6 +180,7 @@ impl Buffer {
         ensures limits { self.new.limits ≡ self.old.limits }
 
         ensures err { OnErr result (self.new.phase ≡ Phase.Failed) }
+        ensures dropped { OnErr result (self.new.held ≡ []) }
         ensures part { OnErr result ((history : List Step) → IsStateAfter self.old history → WritesPart (K.contents sink.old) (K.contents sink.new) (released_bytes self.old.limits history) (released_bytes self.old.limits (end_step ∷ history))) }
         // Where no octet is to be written no write can fail: an empty payload makes no piece.
         ensures complete { (history : List Step) → IsStateAfter self.old history → released_bytes self.old.limits (end_step ∷ history) ≡ released_bytes self.old.limits history → IsOk result }
@@ -338,6 +341,7 @@ impl Buffer {
         ensures ok { OnOk result (self.new ≡ settled self.old at verdict (packet_at place.now payload.now)) }
         ensures sink { OnOk result (Appends (K.contents sink.old) (K.contents sink.new) (octets_below (floor_then self.old (At at)) self.old.held)) }
         ensures failed { IsErrOf result ReceiveFault → self.new.phase ≡ Phase.Failed }
+        ensures dropped { IsErrOf result ReceiveFault → self.new.held ≡ [] }
         ensures limits { self.new.limits ≡ self.old.limits }
         ensures part { IsErrOf result ReceiveFault → AppendsPart (K.contents sink.old) (K.contents sink.new) (octets_below (floor_then self.old (At at)) self.old.held) }
         ensures same { IsErrOf result ReceiveNoMemory → (self.new ≡ self.old) × (sink.new ≡ sink.old) }
@@ -366,6 +370,7 @@ impl Buffer {
         ensures ok { OnOk result (self.new ≡ holding (raised self.old (floor_then self.old (At at))) (packet_at place.now payload.now)) }
         ensures sink { OnOk result (Appends (K.contents sink.old) (K.contents sink.new) (octets_below (floor_then self.old (At at)) self.old.held)) }
         ensures failed { IsErrOf result ReceiveFault → self.new.phase ≡ Phase.Failed }
+        ensures dropped { IsErrOf result ReceiveFault → self.new.held ≡ [] }
         ensures limits { self.new.limits ≡ self.old.limits }
         ensures part { IsErrOf result ReceiveFault → AppendsPart (K.contents sink.old) (K.contents sink.new) (octets_below (floor_then self.old (At at)) self.old.held) }
         ensures same { IsErrOf result ReceiveNoMemory → (self.new ≡ self.old) × (sink.new ≡ sink.old) }
@@ -448,6 +453,7 @@ impl Buffer {
         ensures sink { OnOk result (Appends (K.contents sink.old) (K.contents sink.new) (octets_below (floor_then self.old (moment_of until)) self.old.held)) }
         ensures count { IfOk result (λ n. n ≡ length (filter (is_below (floor_then self.old (moment_of until))) self.old.held)) }
         ensures err { OnErr result (self.new.phase ≡ Phase.Failed) }
+        ensures dropped { OnErr result (self.new.held ≡ []) }
         ensures limits { self.new.limits ≡ self.old.limits }
         ensures part { OnErr result (AppendsPart (K.contents sink.old) (K.contents sink.new) (octets_below (floor_then self.old (moment_of until)) self.old.held)) }
         ensures complete { octets_below (floor_then self.old (moment_of until)) self.old.held ≡ [] → IsOk result }
