@@ -1,4 +1,5 @@
 pub mod ExitCodes
+pub mod Text
 pub mod Causes
 pub mod Sessions
 pub mod Works

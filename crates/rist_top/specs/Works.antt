@@ -1,5 +1,7 @@
 -- What each command leaves, by its status.
 use Rattle.std.specs.Prelude.{◌≡◌, ◌⊎◌, ℕ, List, Option, Result, Ok, Err, IfSome, is_some}
+use Rattle.outside_io.specs.declared.host.HostBad.{HostBad}
+use Rattle.outside_io.specs.declared.host.HostBad.TheVariants as hosts
 use Rattle.psk_seal.specs.Sealer.{SealerState}
 use Rattle.psk_seal.specs.Nonces.{AreNonces}
 use Rattle.capture_file.specs.Capture.{Record}
@@ -32,6 +34,11 @@ pack_status (Ok x) = statuses.Done
 pack_status (Err packs.ReadFault) = statuses.ReadFault
 pack_status (Err packs.WriteFault) = statuses.WriteFault
 pack_status (Err packs.TooLong) = statuses.TooLong
+
+-- why a host hands nothing out, as a status
+abbrev pub host_status : HostBad → Status
+host_status hosts.Failed = statuses.OpenFault
+host_status hosts.NoMemory = statuses.Memory
 
 -- a walk over the source's records ended so, and left this
 abbrev pub Walks : (List Record → List ℕ) → (List Record → List ℕ) → Option (List ℕ) → Option (List ℕ) → Option (List ℕ) → Option (List ℕ) → Status → Type 0

@@ -50,8 +50,8 @@ impl Status {
 }
 
 impl Status {
-    ghost use Rattle.std.specs.Prelude.{◌≡◌, ◌⊎◌};
-    ghost use Rattle.rist_top.specs.Works.{walk_status, pack_status};
+    ghost use Rattle.std.specs.Prelude.{◌≡◌};
+    ghost use Rattle.rist_top.specs.Works.{walk_status, pack_status, host_status};
 
     /// How a walk over a capture ended.
     pub(crate) fn of_walk(end: Result<(), WalkBad>) -> Status
@@ -81,8 +81,7 @@ impl Status {
 
     /// Where a host hands nothing out.
     pub(crate) fn of_host(bad: HostBad) -> Status
-        ensures failed { result ≡ Status.OpenFault → bad ≡ HostBad.Failed }
-        ensures other { (result ≡ Status.OpenFault) ⊎ (result ≡ Status.Memory) }
+        ensures value { result ≡ host_status bad }
     {
         match bad {
             HostBad::Failed => Status::OpenFault,
@@ -92,6 +91,11 @@ impl Status {
 }
 
 impl Display for Status {
+    ghost use Rattle.std.specs.Prelude.{Some};
+    ghost use Rattle.rist_top.specs.Text.{text_of};
+
+    ghost output = { λ status. Some (text_of status) };
+
     fn fmt<W: Write>(&self, f: &mut Formatter<W>) -> fmt::Result {
         match self {
             Status::Done => f.write_str("done"),

@@ -1,0 +1,17 @@
+-- What is printed for each status.
+use Rattle.std.specs.Prelude.{ℕ, List, ◌++◌, codes, decimal}
+use Rattle.capture_file.specs.Text.{kind_text}
+use Rattle.rist_top.specs.declared.status.Status.{Status}
+use Rattle.rist_top.specs.declared.status.Status.TheVariants.{Done, Memory, Usage, OpenFault, ReadFault, WriteFault, BadCapture, EntropyFault, TooLong}
+
+-- for a bad capture the test that fails and the offset, in decimal digits
+abbrev pub text_of : Status → List ℕ
+text_of Done = codes "done"
+text_of Memory = codes "out of memory"
+text_of Usage = codes "usage"
+text_of OpenFault = codes "cannot open"
+text_of ReadFault = codes "read failed"
+text_of WriteFault = codes "write failed"
+text_of (BadCapture kind at) = codes "bad capture: " ++ (kind_text kind ++ (codes " at " ++ decimal at))
+text_of EntropyFault = codes "no randomness"
+text_of TooLong = codes "input too long"
