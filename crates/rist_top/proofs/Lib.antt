@@ -1,2 +1,3 @@
 pub mod ExactLemmas
 pub mod CompleteLemmas
+pub mod UntouchedLemmas

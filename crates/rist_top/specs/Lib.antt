@@ -5,5 +5,6 @@ pub mod Sessions
 pub mod Works
 pub mod Sealing
 pub mod Ran
+pub mod Untouched
 pub mod Exact
 pub mod Complete

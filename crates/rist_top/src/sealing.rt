@@ -1,6 +1,7 @@
 // The sealer of a packing.
 ghost use Rattle.std.specs.Prelude.{◌≡◌, ◌≤◌, IsTrue, IfOk, IsErrOf, is_some};
 ghost use Rattle.outside_io.specs.Causes.{Rose};
+ghost use Rattle.outside_io.specs.Shelf.{Stays};
 ghost use Rattle.rist_words.specs.Shown.{shown_pack};
 ghost use Rattle.rist_top.specs.Works.{IsFreshFor};
 ghost use Rattle.rist_top.specs.Sealing.{KeepsOthers, FailedAt, CanRefuse, OnErrIs};
@@ -16,6 +17,9 @@ pub fn sealer_for<H: Host>(host: &mut H, line: &PackLine<'_>) -> Result<Option<S
     ensures ok { IfOk result (λ sealer. IsFreshFor (shown_pack line.now) sealer) }
     ensures err { OnErrIs result CanRefuse }
     ensures others { IsTrue H.tells → KeepsOthers (H.shelf host.old) (H.shelf host.new) }
+    // Words are drawn only where a sealer is made, or where they fail.
+    ensures closed { IsTrue H.tells → IsErrOf result statuses.OpenFault → Stays (H.shelf host.old).entropies (H.shelf host.new).entropies }
+    ensures memory { IsTrue H.tells → IsErrOf result statuses.Memory → Stays (H.shelf host.old).entropies (H.shelf host.new).entropies }
     ensures opened { IsErrOf result statuses.OpenFault → Rose (H.faults host.old) (H.faults host.new) }
     ensures later { H.faults host.old ≤ H.faults host.new }
     ensures random { IsTrue H.tells → (H.shelf host.old).next_entropy ≡ 0 → IsErrOf result statuses.EntropyFault → FailedAt H.Random.faults (H.shelf host.old) (H.shelf host.new) }

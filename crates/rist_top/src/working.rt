@@ -1,5 +1,5 @@
 // The work of each command over its source and its sink.
-ghost use Rattle.std.specs.Prelude.{◌≡◌, ◌≢◌, ◌≤◌, IsTrue};
+ghost use Rattle.std.specs.Prelude.{◌≡◌, ◌≢◌, ◌≤◌, ◌⊎◌, IsTrue};
 ghost use Rattle.outside_io.specs.Causes.{Rose};
 ghost use Rattle.rist_words.specs.Shown.{shown, shown_session, shown_replay, shown_show, shown_pack};
 ghost use Rattle.rist_words.specs.Ranges.{IsInRange, IsInSession, IsInReplay, IsInPack};
@@ -7,6 +7,7 @@ ghost use Rattle.rist_words.specs.CommandLine.{Replay, Show};
 ghost use Rattle.rist_top.specs.Works.{Works, PacksAs, IsFreshFor};
 ghost use Rattle.rist_top.specs.Sealing.{KeepsOthers, FailedAt};
 ghost use Rattle.rist_top.specs.Causes.{HasCauses, IsOwn};
+ghost use Rattle.rist_top.specs.Untouched.{IsUnbegun};
 
 use crate::sealing::sealer_for;
 use crate::sessions::session_of;
@@ -116,6 +117,9 @@ pub fn work<H: Host>(
     ensures line { result.status ≢ Status.Usage }
     ensures work { result.status ≢ Status.OpenFault → result.status ≢ Status.Memory → Works (shown line.now) (H.Input.remaining source) (H.Input.remaining result.source) (H.Output.contents sink) (H.Output.contents result.sink) result.status }
     ensures causes { HasCauses (H.Input.faults source) (H.Input.faults result.source) (H.Output.faults sink) (H.Output.faults result.sink) result.status }
+    ensures closed { IsTrue H.tells → result.status ≡ Status.OpenFault → IsUnbegun source result.source sink result.sink (H.shelf host.old) (H.shelf host.new) }
+    ensures memory { IsTrue H.tells → result.status ≡ Status.Memory → IsUnbegun source result.source sink result.sink (H.shelf host.old) (H.shelf host.new)
+        ⊎ Works (shown line.now) (H.Input.remaining source) (H.Input.remaining result.source) (H.Output.contents sink) (H.Output.contents result.sink) result.status }
     ensures others { IsTrue H.tells → KeepsOthers (H.shelf host.old) (H.shelf host.new) }
     ensures opened { result.status ≡ Status.OpenFault → Rose (H.faults host.old) (H.faults host.new) }
     ensures later { H.faults host.old ≤ H.faults host.new }

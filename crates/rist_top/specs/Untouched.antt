@@ -1,0 +1,33 @@
+-- What is left where a line's work is not begun, or wants memory.
+use Rattle.std.specs.Prelude.{◌≡◌, ◌≢◌, ◌⊎◌, ℕ, List, Option}
+use Rattle.outside_io.specs.Shelf.{Shelf, Stays}
+use Rattle.outside_io.specs.declared.host.Place.{Place}
+use Rattle.outside_io.specs.declared.host.Place.TheVariants.{Here, Back}
+use Rattle.rist_words.specs.CommandLine.{CommandLine, Pack}
+use Rattle.rist_top.specs.Ran.{Ran, source_name, sink_name}
+use Rattle.rist_top.specs.declared.status.Status.TheVariants as statuses
+
+-- a place stands as it stood, or its object was handed out and came back as it was
+abbrev pub IsAsItWas : {X : Type 0} → Place X → Place X → Type 0
+IsAsItWas {X} old new = (new ≡ old) ⊎ ((object : X) × (old ≡ Here object) × (new ≡ Back object))
+
+-- nothing was read of a line's source, nothing was written to its sink, and no random word was drawn
+pub record Untouched {I O E : Type 0} (old new : Shelf I O E) (c : CommandLine) : Type 0 where
+  pub source : IsAsItWas (old.sources (source_name c)) (new.sources (source_name c))
+  pub sink : IsAsItWas (old.sinks (sink_name c)) (new.sinks (sink_name c))
+  pub other_sources : (name : List ℕ) → name ≢ source_name c → new.sources name ≡ old.sources name
+  pub other_sinks : (name : List ℕ) → name ≢ sink_name c → new.sinks name ≡ old.sinks name
+  pub entropies : Stays old.entropies new.entropies
+
+-- a source and a sink are as they were handed out, and no random word was drawn
+pub record IsUnbegun {I O E : Type 0} (source spent : I) (sink filled : O) (old new : Shelf I O E) : Type 0 where
+  pub unread : spent ≡ source
+  pub unwritten : filled ≡ sink
+  pub entropies : Stays old.entropies new.entropies
+
+-- Where memory is refused a packing has touched nothing. A walk over a capture has touched nothing, or its sink has gained a
+-- front part of what is written of some records at the front.
+abbrev pub LeavesAtMemory : {I O E : Type 0} → (I → Option (List ℕ)) → (I → ℕ) → (O → Option (List ℕ)) → (O → ℕ) → (E → ℕ) → Shelf I O E → Shelf I O E → CommandLine → Type 0
+LeavesAtMemory remaining read_faults contents write_faults word_faults old new (Pack c) = Untouched old new (Pack c)
+LeavesAtMemory remaining read_faults contents write_faults word_faults old new c =
+    Untouched old new c ⊎ Ran remaining read_faults contents write_faults word_faults old new c statuses.Memory
