@@ -1,6 +1,6 @@
 -- No value of a line is a float, and one more record is one more line.
 use Rattle.std.proofs.Common.{◌≡◌, ℕ, List, [], ◌∷◌, ◌++◌, map, Bool, false, ◌||◌, refl, sym, ap, ◌∙◌, append-nil, append_assoc}
-use Rattle.std.specs.Prelude.{Option, None, Result, Ok, Err}
+use Rattle.std.specs.Prelude.{Option, None, Result, Ok, Err, OnOk, OnErr}
 use Rattle.outside_io.specs.Told.{Appends, AppendsPart}
 use Rattle.outside_io.specs.ToldLaws.{appends_none}
 use Rattle.capture_walk.specs.Writes.{Writes, WritesPart}
@@ -63,3 +63,12 @@ wrote_part session done r old new text is part = (
 pub wrote_nothing : (session : Session) (done : List Record) (r : Record) (told : Option (List ℕ)) → WritesPart told told (lines session done) (lines session (done ++ r ∷ []))
 wrote_nothing session done r told =
     ([], appends_none told, (line_of session r, lines_push session done r ∙ ap (λ l. l ++ line_of session r) (sym (append-nil (lines session done)))))
+
+-- what follows from a fact of a good answer, or of a bad one
+pub on_ok : {T E : Type 0} (r : Result T E) (P Q : Type 0) → (P → Q) → OnOk r P → OnOk r Q
+on_ok (Ok x) P Q so p = so p
+on_ok (Err e) P Q so p = tt
+
+pub on_err : {T E : Type 0} (r : Result T E) (P Q : Type 0) → (P → Q) → OnErr r P → OnErr r Q
+on_err (Ok x) P Q so p = tt
+on_err (Err e) P Q so p = so p

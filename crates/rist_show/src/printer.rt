@@ -1,6 +1,8 @@
 // A visitor that writes the line of each record.
-ghost use Rattle.std.specs.Prelude.{◌≡◌};
-ghost use Rattle.rist_show.specs.Lines.{lines};
+ghost use Rattle.std.specs.Prelude.{◌≡◌, OnOk, OnErr, IsOkUnless};
+ghost use Rattle.outside_io.specs.Causes.{HasCause};
+ghost use Rattle.outside_io.specs.Told.{Appends, AppendsPart};
+ghost use Rattle.capture_walk.specs.declared.visitor.VisitBad.TheVariants.{WriteFault};
 
 use crate::line::line;
 use capture_file::Head;
@@ -8,6 +10,19 @@ use capture_walk::{VisitBad, Visitor};
 use outside_io::{Failed, Sink};
 use rist_wire::Opener;
 use std::alloc::Global;
+
+// Writes a line at once. Only a failed write is answered.
+fn put_line<K: Sink>(text: &[u8], sink: &mut K) -> Result<(), VisitBad>
+    ensures ok { OnOk result (Appends (K.contents sink.old) (K.contents sink.new) text.now) }
+    ensures err { OnErr result (AppendsPart (K.contents sink.old) (K.contents sink.new) text.now) }
+    ensures only { IsOkUnless result WriteFault }
+    ensures cause { HasCause (K.faults sink.old) (K.faults sink.new) result }
+{
+    match sink.put(text) {
+        Ok(()) => Ok(()),
+        Err(_) => Err(VisitBad::WriteFault),
+    }
+}
 
 /// Opens a session's datagrams, and writes a line for each.
 #[derive(Drop)]
@@ -35,10 +50,7 @@ impl Visitor for Printer {
     ) -> Result<(), VisitBad> {
         let item = self.opener.take(head.channel, octets);
         match line(self.alloc, head, &item, &mut self.block) {
-            Ok(text) => match sink.put(text.as_slice()) {
-                Ok(()) => Ok(()),
-                Err(_) => Err(VisitBad::WriteFault),
-            },
+            Ok(text) => put_line(text.as_slice(), sink),
             Err(_) => Err(VisitBad::Memory),
         }
     }
