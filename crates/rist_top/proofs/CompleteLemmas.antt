@@ -8,6 +8,7 @@ use Rattle.outside_io.specs.declared.host.Place.TheVariants.{Here}
 use Rattle.capture_file.specs.Capture.{Record}
 use Rattle.capture_walk.specs.Leaves.{Leaves}
 use Rattle.capture_walk.proofs.CompleteLemmas.{walk_completes}
+use Rattle.psk_seal.specs.Sealer.{SealerState}
 use Rattle.rist_pack.specs.Packing.{Packs}
 use Rattle.rist_pack.specs.Capture.{packed_record, nonces_of}
 use Rattle.rist_pack.specs.declared.bad.PackBad.{PackBad}
@@ -53,23 +54,23 @@ pack_ends record_of b left old new status (Err packs.TooLong) bound is read writ
     let within = taken_within b packed.0 left packed.1 in
     absurd (omega (arith, within, bound, packed.2))
 
-work_ends : (c : CommandLine) (b : List ℕ) (first rest old new : Option (List ℕ)) (status : Status) → IsWholeInput c b → first ≡ Some b
-    → (status ≡ statuses.ReadFault → ⊥) → (status ≡ statuses.WriteFault → ⊥) → (status ≡ statuses.EntropyFault → ⊥) → (status ≡ statuses.Memory → ⊥) → Works c first rest old new status → status ≡ statuses.Done
-work_ends (Replay c) b first rest old new status input told read write words memory work = walk_ends _ _ b first rest old new status input told read write memory work
-work_ends (Show c) b first rest old new status input told read write words memory work = walk_ends _ _ b first rest old new status input told read write memory work
-work_ends (Pack c) b first rest old new status input told read write words memory (inl failed) = absurd (words failed.0)
-work_ends (Pack c) b first rest old new status input told read write words memory (inr work) =
+work_ends : (IsKnown : SealerState → Type 0) (c : CommandLine) (b : List ℕ) (first rest old new : Option (List ℕ)) (status : Status) → IsWholeInput c b → first ≡ Some b
+    → (status ≡ statuses.ReadFault → ⊥) → (status ≡ statuses.WriteFault → ⊥) → (status ≡ statuses.EntropyFault → ⊥) → (status ≡ statuses.Memory → ⊥) → Works IsKnown c first rest old new status → status ≡ statuses.Done
+work_ends IsKnown (Replay c) b first rest old new status input told read write words memory work = walk_ends _ _ b first rest old new status input told read write memory work
+work_ends IsKnown (Show c) b first rest old new status input told read write words memory work = walk_ends _ _ b first rest old new status input told read write memory work
+work_ends IsKnown (Pack c) b first rest old new status input told read write words memory (inl failed) = absurd (words failed.0)
+work_ends IsKnown (Pack c) b first rest old new status input told read write words memory (inr work) =
     let record_of : ℕ → List ℕ → Record = packed_record (session_with c.session c.nulls c.wide) (nonces_of work.0) (pack_settings c) in
-    pack_ends record_of b rest old new status work.2.0 input work.2.1 read write (subst (λ o. Packs record_of o rest old new work.2.0) told work.2.2)
+    pack_ends record_of b rest old new status work.3.0 input work.3.1 read write (subst (λ o. Packs record_of o rest old new work.3.0) told work.3.2)
 
 same_source : {X : Type 0} (x y : X) → Here x ≡ Here y → x ≡ y
 same_source x y e = cc
 
-ran_done : {I O E : Type 0} (remaining : I → Option (List ℕ)) (read_faults : I → ℕ) (contents : O → Option (List ℕ)) (write_faults : O → ℕ) (word_faults : E → ℕ) (old new : Shelf I O E) (c : CommandLine) (status : Status)
+ran_done : {I O E : Type 0} (remaining : I → Option (List ℕ)) (read_faults : I → ℕ) (contents : O → Option (List ℕ)) (write_faults : O → ℕ) (words : E → Option (List ℕ)) (word_faults : E → ℕ) (old new : Shelf I O E) (c : CommandLine) (status : Status)
     (source : I) (b : List ℕ) → old.sources (source_name c) ≡ Here source → remaining source ≡ Some b → IsWholeInput c b → NoneFailed read_faults write_faults word_faults old new c
-    → (status ≡ statuses.Memory → ⊥) → Ran remaining read_faults contents write_faults word_faults old new c status → status ≡ statuses.Done
-ran_done remaining read_faults contents write_faults word_faults old new c status source b here told input none memory ran =
-    work_ends c b (remaining ran.source) (remaining ran.spent) (contents ran.sink) (contents ran.filled) status input
+    → (status ≡ statuses.Memory → ⊥) → Ran remaining read_faults contents write_faults words word_faults old new c status → status ≡ statuses.Done
+ran_done remaining read_faults contents write_faults words word_faults old new c status source b here told input none memory ran =
+    work_ends _ c b (remaining ran.source) (remaining ran.spent) (contents ran.sink) (contents ran.filled) status input
     (ap remaining (same_source ran.source source (sym ran.took_source ∙ here)) ∙ told)
     (λ e. none.reads ran.source ran.spent ran.took_source ran.gave_source (ran.read e))
     (λ e. none.writes ran.sink ran.filled ran.took_sink ran.gave_sink (ran.write e))
@@ -80,9 +81,9 @@ done_or_memory status (inl memory) done = inr memory
 done_or_memory status (inr other) done = inl (done other)
 
 -- a run in which nothing failed is done, or memory was refused
-pub ran_completes : {I O E : Type 0} (remaining : I → Option (List ℕ)) (read_faults : I → ℕ) (contents : O → Option (List ℕ)) (write_faults : O → ℕ) (word_faults : E → ℕ) (old new : Shelf I O E) (c : CommandLine) (status : Status)
-    → (status ≡ statuses.OpenFault → ⊥) → ((status ≡ statuses.OpenFault → ⊥) → (status ≡ statuses.Memory → ⊥) → Ran remaining read_faults contents write_faults word_faults old new c status)
+pub ran_completes : {I O E : Type 0} (remaining : I → Option (List ℕ)) (read_faults : I → ℕ) (contents : O → Option (List ℕ)) (write_faults : O → ℕ) (words : E → Option (List ℕ)) (word_faults : E → ℕ) (old new : Shelf I O E) (c : CommandLine) (status : Status)
+    → (status ≡ statuses.OpenFault → ⊥) → ((status ≡ statuses.OpenFault → ⊥) → (status ≡ statuses.Memory → ⊥) → Ran remaining read_faults contents write_faults words word_faults old new c status)
     → Completes remaining read_faults write_faults word_faults old new c status
-ran_completes remaining read_faults contents write_faults word_faults old new c status opened ran source b here told input none =
+ran_completes remaining read_faults contents write_faults words word_faults old new c status opened ran source b here told input none =
     done_or_memory status (is_memory status) (λ memory.
-    ran_done remaining read_faults contents write_faults word_faults old new c status source b here told input none memory (ran opened memory))
+    ran_done remaining read_faults contents write_faults words word_faults old new c status source b here told input none memory (ran opened memory))

@@ -66,10 +66,10 @@ done_reached c first old new b rs p run some told work capture is steady honest 
     let same : here.0 ≡ rs = one_capture b here.0 rs here.1 capture in
     subst (Appends old new) (ap (replayed (session_read c.session) (replay_limits c)) same ∙ released c rs p run some is steady honest) here.3
 
-pub ran_reached : {I O E : Type 0} (remaining : I → Option (List ℕ)) (read_faults : I → ℕ) (contents : O → Option (List ℕ)) (write_faults : O → ℕ) (word_faults : E → ℕ) (old new : Shelf I O E) (c : ReplayCommand) (status : Status)
-    → 1 ≤ c.delay → status ≡ statuses.Done → Ran remaining read_faults contents write_faults word_faults old new (Replay c) status → WritesReached remaining contents old new c
-ran_reached remaining read_faults contents write_faults word_faults old new c status some done ran source sink filled b rs p run here_source here_sink back_sink told is_capture is steady honest =
-    let r = subst (λ s. Ran remaining read_faults contents write_faults word_faults old new (Replay c) s) done ran in
+pub ran_reached : {I O E : Type 0} (remaining : I → Option (List ℕ)) (read_faults : I → ℕ) (contents : O → Option (List ℕ)) (write_faults : O → ℕ) (words : E → Option (List ℕ)) (word_faults : E → ℕ) (old new : Shelf I O E) (c : ReplayCommand) (status : Status)
+    → 1 ≤ c.delay → status ≡ statuses.Done → Ran remaining read_faults contents write_faults words word_faults old new (Replay c) status → WritesReached remaining contents old new c
+ran_reached remaining read_faults contents write_faults words word_faults old new c status some done ran source sink filled b rs p run here_source here_sink back_sink told is_capture is steady honest =
+    let r = subst (λ s. Ran remaining read_faults contents write_faults words word_faults old new (Replay c) s) done ran in
     let source_is = same_here r.source source (sym r.took_source ∙ here_source) in
     let sink_is = same_here r.sink sink (sym r.took_sink ∙ here_sink) in
     let filled_is = same_back r.filled filled (sym r.gave_sink ∙ back_sink) in

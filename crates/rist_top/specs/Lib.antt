@@ -3,8 +3,10 @@ pub mod Text
 pub mod Causes
 pub mod Sessions
 pub mod Works
+pub mod Places
 pub mod Sealing
 pub mod Ran
+pub mod Frame
 pub mod Untouched
 pub mod Exact
 pub mod Complete

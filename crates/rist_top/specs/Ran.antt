@@ -6,7 +6,7 @@ use Rattle.outside_io.specs.Shelf.{Shelf}
 use Rattle.outside_io.specs.declared.host.Place.TheVariants.{Here, Back}
 use Rattle.rist_words.specs.CommandLine.{CommandLine, Replay, Show, Pack}
 use Rattle.rist_top.specs.Works.{Works}
-use Rattle.rist_top.specs.Sealing.{FailedAt}
+use Rattle.rist_top.specs.Sealing.{FailedAt, DrawnFirst}
 use Rattle.rist_top.specs.declared.status.Status.{Status}
 use Rattle.rist_top.specs.declared.status.Status.TheVariants as statuses
 
@@ -22,7 +22,7 @@ sink_name (Show c) = codes "-"
 sink_name (Pack c) = c.capture
 
 -- the source and the sink of a line were handed out and came back, and the status says what they tell
-pub record Ran {I O E : Type 0} (remaining : I → Option (List ℕ)) (read_faults : I → ℕ) (contents : O → Option (List ℕ)) (write_faults : O → ℕ) (word_faults : E → ℕ)
+pub record Ran {I O E : Type 0} (remaining : I → Option (List ℕ)) (read_faults : I → ℕ) (contents : O → Option (List ℕ)) (write_faults : O → ℕ) (words : E → Option (List ℕ)) (word_faults : E → ℕ)
     (old new : Shelf I O E) (c : CommandLine) (status : Status) : Type 0 where
   pub source : I
   pub spent : I
@@ -33,7 +33,7 @@ pub record Ran {I O E : Type 0} (remaining : I → Option (List ℕ)) (read_faul
   pub took_sink : old.sinks (sink_name c) ≡ Here sink
   pub gave_sink : new.sinks (sink_name c) ≡ Back filled
   pub fresh : IsEmpty (contents sink)
-  pub work : Works c (remaining source) (remaining spent) (contents sink) (contents filled) status
+  pub work : Works (DrawnFirst words old.entropies new.entropies) c (remaining source) (remaining spent) (contents sink) (contents filled) status
   pub read : status ≡ statuses.ReadFault → Rose (read_faults source) (read_faults spent)
   pub write : status ≡ statuses.WriteFault → Rose (write_faults sink) (write_faults filled)
   -- where random words failed they came from the first place

@@ -1,15 +1,31 @@
 -- What is left where the sealer of a packing is made, or can't be.
-use Rattle.std.specs.Prelude.{◌≡◌, ◌⊎◌, ℕ, Result, Ok, Err}
+use Rattle.std.specs.Prelude.{◌≡◌, ◌≢◌, ◌⊎◌, ℕ, List, Bool, false, Option, Result, Ok, Err}
+use Rattle.psk_seal.specs.Nonces.{Draws}
+use Rattle.psk_seal.specs.Sealer.{SealerState}
 use Rattle.outside_io.specs.Causes.{Rose}
 use Rattle.outside_io.specs.Shelf.{Shelf}
+use Rattle.outside_io.specs.declared.host.Place.{Place}
 use Rattle.outside_io.specs.declared.host.Place.TheVariants.{Here, Back}
+use Rattle.rist_top.specs.Places.{CameBack}
 use Rattle.rist_top.specs.declared.status.Status.{Status}
 use Rattle.rist_top.specs.declared.status.Status.TheVariants as statuses
 
--- sources and sinks stand as they stood
-pub record KeepsOthers {I O E : Type 0} (old new : Shelf I O E) : Type 0 where
+-- sources and sinks stand as they stood, and of a host that has handed out none all random words but the first, which came
+-- back; that one too where none are drawn
+pub record KeepsObjects {I O E : Type 0} (old new : Shelf I O E) (draws : Bool) : Type 0 where
   pub sources : new.sources ≡ old.sources
   pub sinks : new.sinks ≡ old.sinks
+  pub others : old.next_entropy ≡ 0 → (place : ℕ) → place ≢ 0 → new.entropies place ≡ old.entropies place
+  pub first : old.next_entropy ≡ 0 → CameBack (old.entropies 0) (new.entropies 0)
+  pub undrawn : draws ≡ false → (place : ℕ) → new.entropies place ≡ old.entropies place
+
+-- the nonces of a sealer are drawn from the first source of random words, which was handed out and came back
+pub record DrawnFirst {E : Type 0} (remaining : E → Option (List ℕ)) (old new : ℕ → Place E) (sealer : SealerState) : Type 0 where
+  pub words : E
+  pub drawn : E
+  pub took : old 0 ≡ Here words
+  pub gave : new 0 ≡ Back drawn
+  pub nonces : Draws (remaining words) (remaining drawn) sealer.nonces 16
 
 -- the first source of random words was handed out, failed, and came back
 pub record FailedAt {I O E : Type 0} (faults : E → ℕ) (old new : Shelf I O E) : Type 0 where

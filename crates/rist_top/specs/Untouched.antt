@@ -1,15 +1,10 @@
 -- What is left where a line's work is not begun, or wants memory.
 use Rattle.std.specs.Prelude.{◌≡◌, ◌≢◌, ◌⊎◌, ℕ, List, Option}
 use Rattle.outside_io.specs.Shelf.{Shelf, Stays}
-use Rattle.outside_io.specs.declared.host.Place.{Place}
-use Rattle.outside_io.specs.declared.host.Place.TheVariants.{Here, Back}
 use Rattle.rist_words.specs.CommandLine.{CommandLine, Pack}
+use Rattle.rist_top.specs.Places.{IsAsItWas}
 use Rattle.rist_top.specs.Ran.{Ran, source_name, sink_name}
 use Rattle.rist_top.specs.declared.status.Status.TheVariants as statuses
-
--- a place stands as it stood, or its object was handed out and came back as it was
-abbrev pub IsAsItWas : {X : Type 0} → Place X → Place X → Type 0
-IsAsItWas {X} old new = (new ≡ old) ⊎ ((object : X) × (old ≡ Here object) × (new ≡ Back object))
 
 -- nothing was read of a line's source, nothing was written to its sink, and no random word was drawn
 pub record Untouched {I O E : Type 0} (old new : Shelf I O E) (c : CommandLine) : Type 0 where
@@ -25,9 +20,9 @@ pub record IsUnbegun {I O E : Type 0} (source spent : I) (sink filled : O) (old 
   pub unwritten : filled ≡ sink
   pub entropies : Stays old.entropies new.entropies
 
--- Where memory is refused a packing has touched nothing. A walk over a capture has touched nothing, or its sink has gained a
--- front part of what is written of some records at the front.
-abbrev pub LeavesAtMemory : {I O E : Type 0} → (I → Option (List ℕ)) → (I → ℕ) → (O → Option (List ℕ)) → (O → ℕ) → (E → ℕ) → Shelf I O E → Shelf I O E → CommandLine → Type 0
-LeavesAtMemory remaining read_faults contents write_faults word_faults old new (Pack c) = Untouched old new (Pack c)
-LeavesAtMemory remaining read_faults contents write_faults word_faults old new c =
-    Untouched old new c ⊎ Ran remaining read_faults contents write_faults word_faults old new c statuses.Memory
+-- Where memory is refused a packing has touched nothing. A walk over a capture has touched nothing, or its sink has gained
+-- exactly what is written of some records at the front.
+abbrev pub LeavesAtMemory : {I O E : Type 0} → (I → Option (List ℕ)) → (I → ℕ) → (O → Option (List ℕ)) → (O → ℕ) → (E → Option (List ℕ)) → (E → ℕ) → Shelf I O E → Shelf I O E → CommandLine → Type 0
+LeavesAtMemory remaining read_faults contents write_faults words word_faults old new (Pack c) = Untouched old new (Pack c)
+LeavesAtMemory remaining read_faults contents write_faults words word_faults old new c =
+    Untouched old new c ⊎ Ran remaining read_faults contents write_faults words word_faults old new c statuses.Memory

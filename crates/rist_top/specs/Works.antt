@@ -14,7 +14,7 @@ use Rattle.rist_pack.specs.Packing.{Packs}
 use Rattle.rist_pack.specs.Capture.{packed_record, nonces_of}
 use Rattle.rist_pack.specs.declared.bad.PackBad.{PackBad}
 use Rattle.rist_pack.specs.declared.bad.PackBad.TheVariants as packs
-use Rattle.rist_words.specs.CommandLine.{CommandLine, Replay, Show, Pack, PackCommand}
+use Rattle.rist_words.specs.CommandLine.{CommandLine, Replay, Show, Pack, ReplayCommand, ShowCommand, PackCommand}
 use Rattle.rist_top.specs.Sessions.{session_with, session_read, replay_limits, pack_settings}
 use Rattle.rist_top.specs.declared.status.Status.{Status}
 use Rattle.rist_top.specs.declared.status.Status.TheVariants as statuses
@@ -54,8 +54,16 @@ pub record IsFreshFor (c : PackCommand) (sealer : Option SealerState) : Type 0 w
   pub fresh : IfSome sealer (λ s. s.given ≡ 0)
   pub nonces : IfSome sealer (λ s. AreNonces s.nonces)
 
--- what a command leaves of the octets that its source, where it tells, had and has left, and of what its sink held and holds
-abbrev pub Works : CommandLine → Option (List ℕ) → Option (List ℕ) → Option (List ℕ) → Option (List ℕ) → Status → Type 0
-Works (Replay c) source rest old new status = Walks (released_so_far (session_read c.session) (replay_limits c)) (replayed (session_read c.session) (replay_limits c)) source rest old new status
-Works (Show c) source rest old new status = Walks (lines (session_read c.session)) (lines (session_read c.session)) source rest old new status
-Works (Pack c) source rest old new status = ((status ≡ statuses.EntropyFault) × (rest ≡ source) × (new ≡ old)) ⊎ ((sealer : Option SealerState) × IsFreshFor c sealer × PacksAs c sealer source rest old new status)
+-- what a replay leaves, and what a showing leaves
+abbrev pub Replays : ReplayCommand → Option (List ℕ) → Option (List ℕ) → Option (List ℕ) → Option (List ℕ) → Status → Type 0
+Replays c source rest old new status = Walks (released_so_far (session_read c.session) (replay_limits c)) (replayed (session_read c.session) (replay_limits c)) source rest old new status
+
+abbrev pub Shows : ShowCommand → Option (List ℕ) → Option (List ℕ) → Option (List ℕ) → Option (List ℕ) → Status → Type 0
+Shows c source rest old new status = Walks (lines (session_read c.session)) (lines (session_read c.session)) source rest old new status
+
+-- what a command leaves of the octets that its source, where it tells, had and has left, and of what its sink held and holds,
+-- and what else is known of the sealer of a packing
+abbrev pub Works : (SealerState → Type 0) → CommandLine → Option (List ℕ) → Option (List ℕ) → Option (List ℕ) → Option (List ℕ) → Status → Type 0
+Works IsKnown (Replay c) source rest old new status = Replays c source rest old new status
+Works IsKnown (Show c) source rest old new status = Shows c source rest old new status
+Works IsKnown (Pack c) source rest old new status = ((status ≡ statuses.EntropyFault) × (rest ≡ source) × (new ≡ old)) ⊎ ((sealer : Option SealerState) × IsFreshFor c sealer × IfSome sealer IsKnown × PacksAs c sealer source rest old new status)

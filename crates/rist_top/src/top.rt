@@ -4,6 +4,7 @@ ghost use Rattle.rist_words.specs.CommandLine.{CommandLine, Replay, ReplayComman
 ghost use Rattle.rist_words.specs.Shown.{shown};
 ghost use Rattle.rist_words.specs.Ranges.{IsInRange};
 ghost use Rattle.rist_top.specs.Ran.{Ran, source_name, sink_name};
+ghost use Rattle.rist_top.specs.Frame.{KeepsOthers};
 ghost use Rattle.rist_top.specs.Untouched.{Untouched, LeavesAtMemory};
 ghost use Rattle.rist_top.specs.Exact.{WritesReached};
 ghost use Rattle.rist_top.specs.Complete.{Completes};
@@ -24,14 +25,18 @@ pub fn run<H: Host>(alloc: Global, words: &[String], host: &mut H) -> Status
     ensures opened { result ≡ Status.OpenFault → Rose (H.faults host.old) (H.faults host.new) }
     ensures later { H.faults host.old ≤ H.faults host.new }
 
+    // What is no line touches nothing, and a line only what it speaks of.
+    ensures same { IsTrue H.tells → line_of (map string_bytes words.now) ≡ None → H.shelf host.new ≡ H.shelf host.old }
+    ensures others { (c : CommandLine) → line_of (map string_bytes words.now) ≡ Some c → IsTrue H.tells → (H.shelf host.old).next_entropy ≡ 0 → KeepsOthers (H.shelf host.old) (H.shelf host.new) c }
+
     // Every other answer but want of memory is about what the host's objects tell.
     ensures ran { (c : CommandLine) → line_of (map string_bytes words.now) ≡ Some c → IsTrue H.tells → (H.shelf host.old).next_entropy ≡ 0 → result ≢ Status.OpenFault → result ≢ Status.Memory
-        → Ran H.Input.remaining H.Input.faults H.Output.contents H.Output.faults H.Random.faults (H.shelf host.old) (H.shelf host.new) c result }
+        → Ran H.Input.remaining H.Input.faults H.Output.contents H.Output.faults H.Random.remaining H.Random.faults (H.shelf host.old) (H.shelf host.new) c result }
 
     // Where nothing can be opened, or memory is refused before a walk, all comes back as it was.
     ensures closed { (c : CommandLine) → line_of (map string_bytes words.now) ≡ Some c → IsTrue H.tells → result ≡ Status.OpenFault → Untouched (H.shelf host.old) (H.shelf host.new) c }
-    ensures memory { (c : CommandLine) → line_of (map string_bytes words.now) ≡ Some c → IsTrue H.tells → result ≡ Status.Memory
-        → LeavesAtMemory H.Input.remaining H.Input.faults H.Output.contents H.Output.faults H.Random.faults (H.shelf host.old) (H.shelf host.new) c }
+    ensures memory { (c : CommandLine) → line_of (map string_bytes words.now) ≡ Some c → IsTrue H.tells → (H.shelf host.old).next_entropy ≡ 0 → result ≡ Status.Memory
+        → LeavesAtMemory H.Input.remaining H.Input.faults H.Output.contents H.Output.faults H.Random.remaining H.Random.faults (H.shelf host.old) (H.shelf host.new) c }
 
     // What a replay leaves is the exact release set, in sent numbers.
     ensures reached { (c : ReplayCommand) → line_of (map string_bytes words.now) ≡ Some (Replay c) → IsTrue H.tells → (H.shelf host.old).next_entropy ≡ 0 → result ≡ Status.Done
@@ -54,11 +59,12 @@ fn run_line<H: Host>(alloc: Global, host: &mut H, line: &Line<'_>) -> Status
     ensures line { result ≢ Status.Usage }
     ensures opened { result ≡ Status.OpenFault → Rose (H.faults host.old) (H.faults host.new) }
     ensures later { H.faults host.old ≤ H.faults host.new }
+    ensures others { IsTrue H.tells → (H.shelf host.old).next_entropy ≡ 0 → KeepsOthers (H.shelf host.old) (H.shelf host.new) (shown line.now) }
     ensures ran { IsTrue H.tells → (H.shelf host.old).next_entropy ≡ 0 → result ≢ Status.OpenFault → result ≢ Status.Memory
-        → Ran H.Input.remaining H.Input.faults H.Output.contents H.Output.faults H.Random.faults (H.shelf host.old) (H.shelf host.new) (shown line.now) result }
+        → Ran H.Input.remaining H.Input.faults H.Output.contents H.Output.faults H.Random.remaining H.Random.faults (H.shelf host.old) (H.shelf host.new) (shown line.now) result }
     ensures closed { IsTrue H.tells → result ≡ Status.OpenFault → Untouched (H.shelf host.old) (H.shelf host.new) (shown line.now) }
-    ensures memory { IsTrue H.tells → result ≡ Status.Memory → Untouched (H.shelf host.old) (H.shelf host.new) (shown line.now)
-        ⊎ Ran H.Input.remaining H.Input.faults H.Output.contents H.Output.faults H.Random.faults (H.shelf host.old) (H.shelf host.new) (shown line.now) result }
+    ensures memory { IsTrue H.tells → (H.shelf host.old).next_entropy ≡ 0 → result ≡ Status.Memory → Untouched (H.shelf host.old) (H.shelf host.new) (shown line.now)
+        ⊎ Ran H.Input.remaining H.Input.faults H.Output.contents H.Output.faults H.Random.remaining H.Random.faults (H.shelf host.old) (H.shelf host.new) (shown line.now) result }
 {
     let source = match host.source(source_name(line)) {
         Ok(source) => source,

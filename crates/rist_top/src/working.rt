@@ -3,9 +3,9 @@ ghost use Rattle.std.specs.Prelude.{◌≡◌, ◌≢◌, ◌≤◌, ◌⊎◌, 
 ghost use Rattle.outside_io.specs.Causes.{Rose};
 ghost use Rattle.rist_words.specs.Shown.{shown, shown_session, shown_replay, shown_show, shown_pack};
 ghost use Rattle.rist_words.specs.Ranges.{IsInRange, IsInSession, IsInReplay, IsInPack};
-ghost use Rattle.rist_words.specs.CommandLine.{Replay, Show};
-ghost use Rattle.rist_top.specs.Works.{Works, PacksAs, IsFreshFor};
-ghost use Rattle.rist_top.specs.Sealing.{KeepsOthers, FailedAt};
+ghost use Rattle.rist_top.specs.Frame.{draws_words};
+ghost use Rattle.rist_top.specs.Works.{Works, Replays, Shows, PacksAs, IsFreshFor};
+ghost use Rattle.rist_top.specs.Sealing.{KeepsObjects, DrawnFirst, FailedAt};
 ghost use Rattle.rist_top.specs.Causes.{HasCauses, IsOwn};
 ghost use Rattle.rist_top.specs.Untouched.{IsUnbegun};
 
@@ -38,7 +38,7 @@ pub fn replay_line<S: Source, K: Sink>(
 ) -> Worked<S, K>
     requires range { IsInReplay (shown_replay line.now) }
     ensures line { IsOwn result.status }
-    ensures work { Works (Replay (shown_replay line.now)) (S.remaining source) (S.remaining result.source) (K.contents sink) (K.contents result.sink) result.status }
+    ensures work { Replays (shown_replay line.now) (S.remaining source) (S.remaining result.source) (K.contents sink) (K.contents result.sink) result.status }
     ensures causes { HasCauses (S.faults source) (S.faults result.source) (K.faults sink) (K.faults result.sink) result.status }
 {
     let session = session_of(&line.session, false, false);
@@ -64,7 +64,7 @@ pub fn show_line<S: Source, K: Sink>(
 ) -> Worked<S, K>
     requires range { IsInSession (shown_session line.now.session) }
     ensures line { IsOwn result.status }
-    ensures work { Works (Show (shown_show line.now)) (S.remaining source) (S.remaining result.source) (K.contents sink) (K.contents result.sink) result.status }
+    ensures work { Shows (shown_show line.now) (S.remaining source) (S.remaining result.source) (K.contents sink) (K.contents result.sink) result.status }
     ensures causes { HasCauses (S.faults source) (S.faults result.source) (K.faults sink) (K.faults result.sink) result.status }
 {
     let session = session_of(&line.session, false, false);
@@ -115,12 +115,13 @@ pub fn work<H: Host>(
 ) -> Worked<H::Input, H::Output>
     requires range { IsInRange (shown line.now) }
     ensures line { result.status ≢ Status.Usage }
-    ensures work { result.status ≢ Status.OpenFault → result.status ≢ Status.Memory → Works (shown line.now) (H.Input.remaining source) (H.Input.remaining result.source) (H.Output.contents sink) (H.Output.contents result.sink) result.status }
+    ensures work { IsTrue H.tells → (H.shelf host.old).next_entropy ≡ 0 → result.status ≢ Status.OpenFault → result.status ≢ Status.Memory
+        → Works (DrawnFirst H.Random.remaining (H.shelf host.old).entropies (H.shelf host.new).entropies) (shown line.now) (H.Input.remaining source) (H.Input.remaining result.source) (H.Output.contents sink) (H.Output.contents result.sink) result.status }
     ensures causes { HasCauses (H.Input.faults source) (H.Input.faults result.source) (H.Output.faults sink) (H.Output.faults result.sink) result.status }
     ensures closed { IsTrue H.tells → result.status ≡ Status.OpenFault → IsUnbegun source result.source sink result.sink (H.shelf host.old) (H.shelf host.new) }
-    ensures memory { IsTrue H.tells → result.status ≡ Status.Memory → IsUnbegun source result.source sink result.sink (H.shelf host.old) (H.shelf host.new)
-        ⊎ Works (shown line.now) (H.Input.remaining source) (H.Input.remaining result.source) (H.Output.contents sink) (H.Output.contents result.sink) result.status }
-    ensures others { IsTrue H.tells → KeepsOthers (H.shelf host.old) (H.shelf host.new) }
+    ensures memory { IsTrue H.tells → (H.shelf host.old).next_entropy ≡ 0 → result.status ≡ Status.Memory → IsUnbegun source result.source sink result.sink (H.shelf host.old) (H.shelf host.new)
+        ⊎ Works (DrawnFirst H.Random.remaining (H.shelf host.old).entropies (H.shelf host.new).entropies) (shown line.now) (H.Input.remaining source) (H.Input.remaining result.source) (H.Output.contents sink) (H.Output.contents result.sink) result.status }
+    ensures others { IsTrue H.tells → KeepsObjects (H.shelf host.old) (H.shelf host.new) (draws_words (shown line.now)) }
     ensures opened { result.status ≡ Status.OpenFault → Rose (H.faults host.old) (H.faults host.new) }
     ensures later { H.faults host.old ≤ H.faults host.new }
     ensures random { IsTrue H.tells → (H.shelf host.old).next_entropy ≡ 0 → result.status ≡ Status.EntropyFault → FailedAt H.Random.faults (H.shelf host.old) (H.shelf host.new) }

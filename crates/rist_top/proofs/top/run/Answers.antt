@@ -27,22 +27,22 @@ returns-in-Ok-clause-closed g c k is tells unopened =
     subst (Untouched (g.H.Host.shelf c.args.host.now) (g.H.Host.shelf c.run_line.new.host)) (same_line _ _ (sym c.in-Ok.ensures.ok ∙ is)) (c.run_line.ensures.closed tells unopened)
 
 pub returns-in-Ok-clause-memory : goal.returns-in-Ok-clause-memory
-returns-in-Ok-clause-memory g c k is tells memory =
-    line_at_memory g.H.Input.Source.remaining g.H.Input.Source.faults g.H.Output.Sink.contents g.H.Output.Sink.faults g.H.Random.Entropy.faults (g.H.Host.shelf c.args.host.now) (g.H.Host.shelf c.run_line.new.host) _ k c.run_line.result
-    (c.run_line.ensures.memory tells memory) (same_line _ _ (sym c.in-Ok.ensures.ok ∙ is)) memory
+returns-in-Ok-clause-memory g c k is tells zero memory =
+    line_at_memory g.H.Input.Source.remaining g.H.Input.Source.faults g.H.Output.Sink.contents g.H.Output.Sink.faults g.H.Random.Entropy.remaining g.H.Random.Entropy.faults (g.H.Host.shelf c.args.host.now) (g.H.Host.shelf c.run_line.new.host) _ k c.run_line.result
+    (c.run_line.ensures.memory tells zero memory) (same_line _ _ (sym c.in-Ok.ensures.ok ∙ is)) memory
 
 pub returns-in-Ok-clause-reached : goal.returns-in-Ok-clause-reached
 returns-in-Ok-clause-reached g c r is tells zero done =
-    ran_reached g.H.Input.Source.remaining g.H.Input.Source.faults g.H.Output.Sink.contents g.H.Output.Sink.faults g.H.Random.Entropy.faults (g.H.Host.shelf c.args.host.now) (g.H.Host.shelf c.run_line.new.host) r c.run_line.result
+    ran_reached g.H.Input.Source.remaining g.H.Input.Source.faults g.H.Output.Sink.contents g.H.Output.Sink.faults g.H.Random.Entropy.remaining g.H.Random.Entropy.faults (g.H.Host.shelf c.args.host.now) (g.H.Host.shelf c.run_line.new.host) r c.run_line.result
     (line_range _ (Replay r) is).some_delay done
-    (subst (λ (k : CommandLine). Ran g.H.Input.Source.remaining g.H.Input.Source.faults g.H.Output.Sink.contents g.H.Output.Sink.faults g.H.Random.Entropy.faults (g.H.Host.shelf c.args.host.now) (g.H.Host.shelf c.run_line.new.host) k c.run_line.result)
+    (subst (λ (k : CommandLine). Ran g.H.Input.Source.remaining g.H.Input.Source.faults g.H.Output.Sink.contents g.H.Output.Sink.faults g.H.Random.Entropy.remaining g.H.Random.Entropy.faults (g.H.Host.shelf c.args.host.now) (g.H.Host.shelf c.run_line.new.host) k c.run_line.result)
     (same_line _ _ (sym c.in-Ok.ensures.ok ∙ is))
     (c.run_line.ensures.ran tells zero (λ e. not_open (sym done ∙ e)) (λ e. not_memory (sym done ∙ e))))
 
 pub returns-in-Ok-clause-complete : goal.returns-in-Ok-clause-complete
 returns-in-Ok-clause-complete g c k is tells zero opened =
-    ran_completes g.H.Input.Source.remaining g.H.Input.Source.faults g.H.Output.Sink.contents g.H.Output.Sink.faults g.H.Random.Entropy.faults (g.H.Host.shelf c.args.host.now) (g.H.Host.shelf c.run_line.new.host) k c.run_line.result
+    ran_completes g.H.Input.Source.remaining g.H.Input.Source.faults g.H.Output.Sink.contents g.H.Output.Sink.faults g.H.Random.Entropy.remaining g.H.Random.Entropy.faults (g.H.Host.shelf c.args.host.now) (g.H.Host.shelf c.run_line.new.host) k c.run_line.result
     (λ e. opened (c.run_line.ensures.opened e))
-    (subst (λ (x : CommandLine). (c.run_line.result ≡ statuses.OpenFault → ⊥) → (c.run_line.result ≡ statuses.Memory → ⊥) → Ran g.H.Input.Source.remaining g.H.Input.Source.faults g.H.Output.Sink.contents g.H.Output.Sink.faults g.H.Random.Entropy.faults (g.H.Host.shelf c.args.host.now) (g.H.Host.shelf c.run_line.new.host) x c.run_line.result)
+    (subst (λ (x : CommandLine). (c.run_line.result ≡ statuses.OpenFault → ⊥) → (c.run_line.result ≡ statuses.Memory → ⊥) → Ran g.H.Input.Source.remaining g.H.Input.Source.faults g.H.Output.Sink.contents g.H.Output.Sink.faults g.H.Random.Entropy.remaining g.H.Random.Entropy.faults (g.H.Host.shelf c.args.host.now) (g.H.Host.shelf c.run_line.new.host) x c.run_line.result)
     (same_line _ _ (sym c.in-Ok.ensures.ok ∙ is))
     (c.run_line.ensures.ran tells zero))

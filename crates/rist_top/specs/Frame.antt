@@ -1,0 +1,23 @@
+-- What a run leaves as it stood.
+use Rattle.std.specs.Prelude.{◌≡◌, ◌≢◌, ℕ, List, Bool, false, is_some}
+use Rattle.outside_io.specs.Shelf.{Shelf}
+use Rattle.rist_words.specs.CommandLine.{CommandLine, Replay, Show, Pack}
+use Rattle.rist_top.specs.Places.{CameBack}
+use Rattle.rist_top.specs.Ran.{source_name, sink_name}
+
+-- whether a command draws random words: a packing under a passphrase
+abbrev pub draws_words : CommandLine → Bool
+draws_words (Replay c) = false
+draws_words (Show c) = false
+draws_words (Pack c) = is_some c.session.pass
+
+-- what a line doesn't speak of stands as it stood, and what it speaks of came back: its source, its sink, and the first
+-- random words where it draws some
+pub record KeepsOthers {I O E : Type 0} (old new : Shelf I O E) (c : CommandLine) : Type 0 where
+  pub sources : (n : List ℕ) → n ≢ source_name c → new.sources n ≡ old.sources n
+  pub sinks : (n : List ℕ) → n ≢ sink_name c → new.sinks n ≡ old.sinks n
+  pub entropies : (place : ℕ) → place ≢ 0 → new.entropies place ≡ old.entropies place
+  pub source : CameBack (old.sources (source_name c)) (new.sources (source_name c))
+  pub sink : CameBack (old.sinks (sink_name c)) (new.sinks (sink_name c))
+  pub first : CameBack (old.entropies 0) (new.entropies 0)
+  pub undrawn : draws_words c ≡ false → new.entropies 0 ≡ old.entropies 0
