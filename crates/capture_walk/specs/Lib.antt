@@ -4,3 +4,4 @@ pub mod Leaves
 pub mod Turns
 pub mod Sofar
 pub mod Copied
+pub mod Text

@@ -9,6 +9,7 @@ ghost use Rattle.capture_walk.specs.declared.visitor.VisitBad.TheVariants.{Memor
 
 use capture_file::Head;
 use outside_io::{Failed, Sink};
+use std::fmt::{self, Display, Formatter, Write};
 
 /// Why a record was not taken.
 #[derive(Clone, Copy, Debug, PartialEq, Eq)]
@@ -17,6 +18,20 @@ pub enum VisitBad {
     Memory,
     /// A write to the sink failed.
     WriteFault,
+}
+
+impl Display for VisitBad {
+    ghost use Rattle.std.specs.Prelude.{Some};
+    ghost use Rattle.capture_walk.specs.Text.{visit_text};
+
+    ghost output = { λ bad. Some (visit_text bad) };
+
+    fn fmt<W: Write>(&self, f: &mut Formatter<W>) -> fmt::Result {
+        f.write_str(match self {
+            VisitBad::Memory => "out of memory",
+            VisitBad::WriteFault => "write failed",
+        })
+    }
 }
 
 /// Takes the records of a capture in their order, then the end, and writes something of them.

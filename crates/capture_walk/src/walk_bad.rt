@@ -30,3 +30,20 @@ impl From<CapBad> for WalkBad {
         }
     }
 }
+
+impl Display for WalkBad {
+    ghost use Rattle.std.specs.Prelude.{Some};
+    ghost use Rattle.capture_walk.specs.Text.{walk_text};
+
+    ghost output = { λ bad. Some (walk_text bad) };
+
+    fn fmt<W: Write>(&self, f: &mut Formatter<W>) -> fmt::Result {
+        match self {
+            WalkBad::Memory => f.write_str("out of memory"),
+            WalkBad::ReadFault => f.write_str("read failed"),
+            WalkBad::WriteFault => f.write_str("write failed"),
+            WalkBad::BadCapture(kind, at) => write!(f, "bad capture: {kind} at {at}"),
+            WalkBad::TooLong => f.write_str("input too long"),
+        }
+    }
+}
