@@ -7,3 +7,4 @@ pub mod StateAfter
 pub mod Tests
 pub mod Changes
 pub mod Release
+pub mod Text

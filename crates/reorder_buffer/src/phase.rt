@@ -1,3 +1,5 @@
+use std::fmt::{self, Display, Formatter, Write};
+
 /// Where a buffer stands in its life.
 #[derive(Clone, Copy, Debug, PartialEq, Eq)]
 pub enum Phase {
@@ -13,6 +15,16 @@ pub enum Phase {
 #[derive(Clone, Copy, Debug, PartialEq, Eq)]
 pub struct WriteFault;
 
+impl Display for WriteFault {
+    ghost use Rattle.std.specs.Prelude.{Some, codes};
+
+    ghost output = { λ _. Some (codes "write failed") };
+
+    fn fmt<W: Write>(&self, f: &mut Formatter<W>) -> fmt::Result {
+        f.write_str("write failed")
+    }
+}
+
 /// Why a media packet was not received.
 #[derive(Clone, Copy, Debug, PartialEq, Eq)]
 pub enum ReceiveBad {
@@ -20,4 +32,18 @@ pub enum ReceiveBad {
     WriteFault,
     /// Memory was refused, and nothing changed.
     NoMemory,
+}
+
+impl Display for ReceiveBad {
+    ghost use Rattle.std.specs.Prelude.{Some};
+    ghost use Rattle.reorder_buffer.specs.Text.{receive_text};
+
+    ghost output = { λ bad. Some (receive_text bad) };
+
+    fn fmt<W: Write>(&self, f: &mut Formatter<W>) -> fmt::Result {
+        f.write_str(match self {
+            ReceiveBad::WriteFault => "write failed",
+            ReceiveBad::NoMemory => "out of memory",
+        })
+    }
 }
