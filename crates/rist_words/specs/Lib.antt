@@ -3,3 +3,4 @@ pub mod Values
 pub mod CommandLine
 pub mod Ranges
 pub mod Shown
+pub mod Text

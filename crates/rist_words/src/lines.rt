@@ -1,5 +1,6 @@
 // The lines of the program.
 use outside_io::Profile;
+use std::fmt::{self, Display, Formatter, Write};
 
 /// What the words of a command line tell the program to do.
 #[derive(Clone, Copy, Debug, PartialEq, Eq)]
@@ -73,4 +74,18 @@ pub enum Refused {
     Memory,
     /// The words are no line of the program.
     Usage,
+}
+
+impl Display for Refused {
+    ghost use Rattle.std.specs.Prelude.{Some};
+    ghost use Rattle.rist_words.specs.Text.{refusal_text};
+
+    ghost output = { λ refused. Some (refusal_text refused) };
+
+    fn fmt<W: Write>(&self, f: &mut Formatter<W>) -> fmt::Result {
+        f.write_str(match self {
+            Refused::Memory => "out of memory",
+            Refused::Usage => "usage",
+        })
+    }
 }
