@@ -72,10 +72,11 @@ fn play_as_one(alloc: Global, steps: &[Step<'_>], sink: Store8) -> Result<Played
         if let Event::Media(arrival) = &step.event {
             match buffer.receive(alloc, at, arrival, &mut played.sink) {
                 Ok(verdict) => played.verdicts.push(verdict)?,
-                Err(bad) => {
-                    played.failed = bad == ReceiveBad::WriteFault && buffer.ended();
+                Err(ReceiveBad::WriteFault) => {
+                    played.failed = buffer.ended();
                     return Ok(played);
                 }
+                Err(ReceiveBad::NoMemory) => return Err(Fail::new("out of memory")),
             }
             continue;
         }
