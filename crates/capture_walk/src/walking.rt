@@ -1,9 +1,9 @@
 ghost use Rattle.std.specs.Prelude.{◌≡◌, ◌≤◌, ◌<◌, ◌^◌, false, [], ℕ, List, Option, IfOk, OnErr, IsErrOf, IsErr};
-ghost use Rattle.outside_io.specs.Causes.{Rose};
+ghost use Rattle.capture_walk.specs.Causes.{HasReadCause, HasWriteCause};
 ghost use Rattle.capture_walk.specs.Leaves.{Leaves};
 ghost use Rattle.capture_walk.specs.Turns.{IfOn, IfOver};
 ghost use Rattle.capture_walk.specs.Sofar.{Sofar};
-ghost use Rattle.capture_walk.specs.declared.walk_bad.WalkBad.TheVariants.{ReadFault, WriteFault};
+ghost use Rattle.capture_walk.specs.declared.walk_bad.WalkBad.TheVariants.{ReadFault};
 
 use crate::visitor::{VisitBad, Visitor};
 use crate::walk_bad::WalkBad;
@@ -23,9 +23,8 @@ pub fn walk<S: Source, V: Visitor, K: Sink>(
     requires empty { V.so_far visitor.old [] ≡ [] }
     ensures work { (first : Option (List ℕ)) → first ≡ reader.old.remaining → Leaves (V.so_far visitor.old) (V.whole visitor.old) first reader.new.remaining (K.contents sink.old) (K.contents sink.new) result }
     ensures ahead { IsErrOf result ReadFault → reader.new.ahead ≡ [] }
-    ensures read { IsErrOf result ReadFault → Rose reader.old.faults reader.new.faults }
-    ensures write { IsErrOf result WriteFault → Rose (K.faults sink.old) (K.faults sink.new) }
-    ensures later { (reader.old.faults ≤ reader.new.faults) × (K.faults sink.old ≤ K.faults sink.new) }
+    ensures read { HasReadCause reader.old.faults reader.new.faults result }
+    ensures write { HasWriteCause (K.faults sink.old) (K.faults sink.new) result }
 {
     let mut block = [0; 2048];
     loop {
@@ -50,9 +49,8 @@ fn visit_next<S: Source, V: Visitor, K: Sink>(
     ensures same { IfOn result ((V.so_far visitor.new ≡ V.so_far visitor.old) × (V.whole visitor.new ≡ V.whole visitor.old)) }
     ensures progress { IfOn result ((reader.old.at < reader.new.at) × (reader.new.at ≤ 2 ^ 40) × (reader.new.spent ≡ false)) }
     ensures ahead { IsErrOf result ReadFault → reader.new.ahead ≡ [] }
-    ensures read { IsErrOf result ReadFault → Rose reader.old.faults reader.new.faults }
-    ensures write { IsErrOf result WriteFault → Rose (K.faults sink.old) (K.faults sink.new) }
-    ensures later { (reader.old.faults ≤ reader.new.faults) × (K.faults sink.old ≤ K.faults sink.new) }
+    ensures read { HasReadCause reader.old.faults reader.new.faults result }
+    ensures write { HasWriteCause (K.faults sink.old) (K.faults sink.new) result }
 {
     match reader.next(block) {
         Ok(Some(head)) => {

@@ -1,8 +1,8 @@
 -- The objects of a host, by the names or places that they are asked by.
-use Rattle.std.specs.Prelude.{◌≡◌, ◌≢◌, ℕ, List, ◌≤◌, Result, IsErrOf}
-use Rattle.outside_io.specs.Causes.{Rose}
+use Rattle.std.specs.Prelude.{◌≡◌, ◌≢◌, ℕ, List, Bool, true, false, Result, Ok, Err}
+use Rattle.outside_io.specs.Causes.{RoseWhere}
 use Rattle.outside_io.specs.declared.host.HostBad.{HostBad}
-use Rattle.outside_io.specs.declared.host.HostBad.TheVariants.{Failed}
+use Rattle.outside_io.specs.declared.host.HostBad.TheVariants.{Failed, NoMemory}
 use Rattle.outside_io.specs.declared.host.Place.{Place}
 use Rattle.outside_io.specs.declared.host.Place.TheVariants.{Absent, Here, Out, Back}
 
@@ -38,7 +38,11 @@ Stays {N} old new = (n : N) → new n ≡ old n
 abbrev pub nowhere : {I O E : Type 0} → Shelf I O E
 nowhere = record { sources = λ _. Absent; sinks = λ _. Absent; entropies = λ _. Absent; next_entropy = 0 }
 
--- the count did not fall, and where the host failed it rose
-pub record HasHostCause {T : Type 0} (before now : ℕ) (result : Result T HostBad) : Type 0 where
-  pub later : before ≤ now
-  pub failed : IsErrOf result Failed → Rose before now
+abbrev pub has_host_failed : {T : Type 0} → Result T HostBad → Bool
+has_host_failed (Ok x) = false
+has_host_failed (Err Failed) = true
+has_host_failed (Err NoMemory) = false
+
+-- the count rose exactly where the host failed
+abbrev pub HasHostCause : {T : Type 0} → ℕ → ℕ → Result T HostBad → Type 0
+HasHostCause before now result = RoseWhere (has_host_failed result) before now

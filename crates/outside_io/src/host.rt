@@ -1,5 +1,5 @@
 // What hands out sources and sinks by name, and random words by place, and takes them back.
-ghost use Rattle.std.specs.Prelude.{◌≡◌, ◌≤◌, ◌<◌, ◌+◌, ℕ, Bool, IsTrue, IfOk, OnOk, OnErr};
+ghost use Rattle.std.specs.Prelude.{◌≡◌, ◌<◌, ◌+◌, ℕ, Bool, IsTrue, IfOk, OnOk, OnErr};
 ghost use Rattle.outside_io.specs.Told.{IsEmpty};
 ghost use Rattle.outside_io.specs.Shelf.{Shelf, Stays, HandsOut, TakesBack, HasHostCause};
 
@@ -82,17 +82,17 @@ pub trait Host {
     fn back_source(&mut self, name: &str, object: Self::Input)
         ensures state { IsTrue tells → TakesBack (shelf self.old).sources (shelf self.new).sources name.now object }
         ensures same { IsTrue tells → shelf self.new ≡ record (shelf self.old) { sources = (shelf self.new).sources } }
-        ensures cause { faults self.old ≤ faults self.new };
+        ensures cause { faults self.new ≡ faults self.old };
 
     /// Takes back the sink of this name. Under a name that isn't out it lets the sink go.
     fn back_sink(&mut self, name: &str, object: Self::Output)
         ensures state { IsTrue tells → TakesBack (shelf self.old).sinks (shelf self.new).sinks name.now object }
         ensures same { IsTrue tells → shelf self.new ≡ record (shelf self.old) { sinks = (shelf self.new).sinks } }
-        ensures cause { faults self.old ≤ faults self.new };
+        ensures cause { faults self.new ≡ faults self.old };
 
     /// Takes back the source of random words of this place. At a place that isn't out it lets the source go.
     fn back_entropy(&mut self, place: u8, object: Self::Random)
         ensures state { IsTrue tells → TakesBack (shelf self.old).entropies (shelf self.new).entropies place object }
         ensures same { IsTrue tells → shelf self.new ≡ record (shelf self.old) { entropies = (shelf self.new).entropies } }
-        ensures cause { faults self.old ≤ faults self.new };
+        ensures cause { faults self.new ≡ faults self.old };
 }

@@ -1,5 +1,5 @@
 // A host in memory.
-ghost use Rattle.std.specs.Prelude.{◌≡◌, ◌≤◌, ◌<◌, ◌+◌, ◌⊎◌, true, Some, IfSome, IfNone, IfOk, IfErr, IsTrue, OnOk, OnErr};
+ghost use Rattle.std.specs.Prelude.{◌≡◌, ◌<◌, ◌+◌, ◌⊎◌, true, Some, IfSome, IfNone, IfOk, IfErr, IsTrue, OnOk, OnErr};
 ghost use Rattle.outside_io.specs.Calls.{no_calls, FailsNext, CountsCall};
 ghost use Rattle.outside_io.specs.Told.{IsEmpty};
 ghost use Rattle.outside_io.specs.Shelf.{Stays, HandsOut, TakesBack, IsAway, HasHostCause};
@@ -169,7 +169,7 @@ impl Host for MemHost {
     fn back_source(&mut self, name: &str, object: MemSource)
         ensures state { IsTrue true → TakesBack (mem_shelf self.old).sources (mem_shelf self.new).sources name.now object }
         ensures same { IsTrue true → mem_shelf self.new ≡ record (mem_shelf self.old) { sources = (mem_shelf self.new).sources } }
-        ensures cause { (mem_calls self.old).faults ≤ (mem_calls self.new).faults }
+        ensures cause { (mem_calls self.new).faults ≡ (mem_calls self.old).faults }
         // It counts as no call.
         ensures calls { mem_calls self.new ≡ mem_calls self.old }
     {
@@ -179,7 +179,7 @@ impl Host for MemHost {
     fn back_sink(&mut self, name: &str, object: Store8)
         ensures state { IsTrue true → TakesBack (mem_shelf self.old).sinks (mem_shelf self.new).sinks name.now object }
         ensures same { IsTrue true → mem_shelf self.new ≡ record (mem_shelf self.old) { sinks = (mem_shelf self.new).sinks } }
-        ensures cause { (mem_calls self.old).faults ≤ (mem_calls self.new).faults }
+        ensures cause { (mem_calls self.new).faults ≡ (mem_calls self.old).faults }
         // It counts as no call.
         ensures calls { mem_calls self.new ≡ mem_calls self.old }
     {
@@ -189,7 +189,7 @@ impl Host for MemHost {
     fn back_entropy(&mut self, place: u8, object: Words)
         ensures state { IsTrue true → TakesBack (mem_shelf self.old).entropies (mem_shelf self.new).entropies place object }
         ensures same { IsTrue true → mem_shelf self.new ≡ record (mem_shelf self.old) { entropies = (mem_shelf self.new).entropies } }
-        ensures cause { (mem_calls self.old).faults ≤ (mem_calls self.new).faults }
+        ensures cause { (mem_calls self.new).faults ≡ (mem_calls self.old).faults }
         // It counts as no call.
         ensures calls { mem_calls self.new ≡ mem_calls self.old }
     {

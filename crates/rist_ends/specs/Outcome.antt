@@ -1,5 +1,5 @@
 -- What the outcome of a step says.
-use Rattle.std.specs.Prelude.{◌≡◌, ℕ, List, Option, None, Some}
+use Rattle.std.specs.Prelude.{◌≡◌, ℕ, List, Option, None, Some, Bool, true, false}
 use Rattle.receiver_rules.specs.declared.limits.Limits.{Limits}
 use Rattle.receiver_rules.specs.declared.verdict.Verdict.{Verdict}
 use Rattle.receiver_rules.specs.History.{verdict}
@@ -45,3 +45,11 @@ Answers outcomes.Memory limits history step = Unit {0}
 abbrev pub outcome_of : Option Verdict → Outcome
 outcome_of None = outcomes.Nothing
 outcome_of (Some v) = outcomes.Verdict v
+
+-- a write failed in the step
+abbrev pub is_write_fault : Outcome → Bool
+is_write_fault outcomes.Stopped = false
+is_write_fault outcomes.WriteFault = true
+is_write_fault (outcomes.Verdict v) = false
+is_write_fault outcomes.Nothing = false
+is_write_fault outcomes.Memory = false

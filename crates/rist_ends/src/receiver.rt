@@ -32,14 +32,14 @@ impl Model for Receiver {
 
 impl Receiver {
     ghost use Rattle.std.specs.Prelude.{◌≡◌, ◌≢◌, ◌≤◌, ◌∷◌, [], List, IfOk};
-    ghost use Rattle.outside_io.specs.Causes.{Rose};
+    ghost use Rattle.outside_io.specs.Causes.{RoseWhere};
     ghost use Rattle.receiver_rules.specs.History.{released_bytes};
     ghost use Rattle.receiver_rules.specs.ReceiverSteps.{ReceiverStep, buffer_history};
     ghost use Rattle.reorder_buffer.specs.Release.{Writes, WritesPart};
     ghost use Rattle.reorder_buffer.specs.declared.phase.Phase.TheVariants.{Open, Failed};
     ghost use Rattle.rist_ends.specs.Receiver.{IsReceiverAfter, limits_of};
     ghost use Rattle.rist_ends.specs.Told.{IsFit, input_of, step_of, ended_at};
-    ghost use Rattle.rist_ends.specs.Outcome.{IfStepped, IsSilent, Answers, outcome_of};
+    ghost use Rattle.rist_ends.specs.Outcome.{IfStepped, IsSilent, Answers, outcome_of, is_write_fault};
     ghost use Rattle.rist_ends.specs.Counts.{counts_with};
     ghost use Rattle.rist_ends.specs.declared.outcome.Outcome.TheVariants.{Stopped, WriteFault, Memory};
 
@@ -80,8 +80,7 @@ impl Receiver {
         ensures failed { result ≡ WriteFault → self.new.buffer.phase ≡ Failed }
         ensures counts { result ≡ WriteFault → self.new.counts ≡ self.old.counts }
         ensures part { result ≡ WriteFault → (history : List ReceiverStep) → IsReceiverAfter self.old history → WritesPart (K.contents sink.old) (K.contents sink.new) (released_bytes self.old.buffer.limits (buffer_history history)) (released_bytes self.old.buffer.limits (buffer_history (step_of told.now ∷ history))) }
-        ensures cause { result ≡ WriteFault → Rose (K.faults sink.old) (K.faults sink.new) }
-        ensures later { K.faults sink.old ≤ K.faults sink.new }
+        ensures cause { RoseWhere (is_write_fault result) (K.faults sink.old) (K.faults sink.new) }
         ensures same { result ≡ Stopped → (self.new ≡ self.old) × (sink.new ≡ sink.old) }
 
         // Where memory is refused nothing changes. Only a media packet takes any.

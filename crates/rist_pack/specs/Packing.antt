@@ -1,8 +1,8 @@
 -- What a packing answers, by the octets that a source had and has left, and those that a capture held and holds, where
 -- these are told.
-use Rattle.std.specs.Prelude.{ℕ, ◌^◌, ◌<◌, ◌≤◌, List, length, Result, Ok, Err, IsErrOf}
+use Rattle.std.specs.Prelude.{ℕ, ◌^◌, ◌<◌, ◌≤◌, List, length, Bool, true, false, Result, Ok, Err}
 use Rattle.std.specs.Prelude.{Option}
-use Rattle.outside_io.specs.Causes.{Rose}
+use Rattle.outside_io.specs.Causes.{RoseWhere}
 use Rattle.outside_io.specs.Told.{Takes, IsEmpty, Appends, AppendsPart}
 use Rattle.capture_file.specs.Capture.{Record}
 use Rattle.rist_pack.specs.Pieces.{pieces_of, whole_pieces_of}
@@ -22,14 +22,25 @@ Packs record_of had left old new (Err ReadFault) = Reads had left (λ b. (length
 Packs record_of had left old new (Err TooLong) = Reads had left (λ b. (2 ^ 40 < length b) × Appends old new (capture_of record_of (whole_pieces_of b)))
 Packs record_of had left old new (Err WriteFault) = Reads had left (λ b. (length b ≤ 2 ^ 40) × AppendsPart old new (capture_of record_of (pieces_of b)))
 
--- the count did not fall, and rose where the answer is a read fault
-pub record HasReadCause {T : Type 0} (before now : ℕ) (result : Result T PackBad) : Type 0 where
-  pub later : before ≤ now
-  pub failed : IsErrOf result ReadFault → Rose before now
+-- a read failed
+abbrev pub is_read_fault : {T : Type 0} → Result T PackBad → Bool
+is_read_fault (Ok x) = false
+is_read_fault (Err ReadFault) = true
+is_read_fault (Err WriteFault) = false
+is_read_fault (Err TooLong) = false
 
--- neither count fell; the source's rose where the answer is a read fault, the sink's where it is a write fault
+-- a write failed
+abbrev pub is_write_fault : {T : Type 0} → Result T PackBad → Bool
+is_write_fault (Ok x) = false
+is_write_fault (Err ReadFault) = false
+is_write_fault (Err WriteFault) = true
+is_write_fault (Err TooLong) = false
+
+-- the count rose exactly where a read failed
+abbrev pub HasReadCause : {T : Type 0} → ℕ → ℕ → Result T PackBad → Type 0
+HasReadCause before now result = RoseWhere (is_read_fault result) before now
+
+-- the source's count rose exactly where a read failed, and the sink's exactly where a write failed
 pub record HasCauses {T : Type 0} (source_before source_now sink_before sink_now : ℕ) (result : Result T PackBad) : Type 0 where
-  pub source_later : source_before ≤ source_now
-  pub sink_later : sink_before ≤ sink_now
-  pub read : IsErrOf result ReadFault → Rose source_before source_now
-  pub write : IsErrOf result WriteFault → Rose sink_before sink_now
+  pub read : RoseWhere (is_read_fault result) source_before source_now
+  pub write : RoseWhere (is_write_fault result) sink_before sink_now

@@ -1,7 +1,7 @@
-ghost use Rattle.std.specs.Prelude.{◌≡◌, ◌≤◌, ℕ, List, [], false, Option, IsErrOf};
-ghost use Rattle.outside_io.specs.Causes.{Rose};
+ghost use Rattle.std.specs.Prelude.{◌≡◌, ℕ, List, [], false, Option, IsErrOf};
+ghost use Rattle.capture_walk.specs.Causes.{HasReadCause, HasWriteCause};
 ghost use Rattle.capture_walk.specs.Leaves.{Leaves};
-ghost use Rattle.capture_walk.specs.declared.walk_bad.WalkBad.TheVariants.{ReadFault, WriteFault};
+ghost use Rattle.capture_walk.specs.declared.walk_bad.WalkBad.TheVariants.{ReadFault};
 ghost use Rattle.rist_wire.specs.Session.{IsSession};
 ghost use Rattle.rist_ends.specs.Receiver.{limits_of};
 ghost use Rattle.rist_replay.specs.Replay.{released_so_far, replayed, AreSettings};
@@ -28,9 +28,8 @@ pub fn replay<S: Source, K: Sink>(
     requires running { reader.old.spent ≡ false }
     ensures work { (first : Option (List ℕ)) → first ≡ reader.old.remaining → Leaves (released_so_far session.now (limits_of settings.now)) (replayed session.now (limits_of settings.now)) first reader.new.remaining (K.contents sink.old) (K.contents sink.new) result }
     ensures ahead { IsErrOf result ReadFault → reader.new.ahead ≡ [] }
-    ensures read { IsErrOf result ReadFault → Rose reader.old.faults reader.new.faults }
-    ensures write { IsErrOf result WriteFault → Rose (K.faults sink.old) (K.faults sink.new) }
-    ensures later { (reader.old.faults ≤ reader.new.faults) × (K.faults sink.old ≤ K.faults sink.new) }
+    ensures read { HasReadCause reader.old.faults reader.new.faults result }
+    ensures write { HasWriteCause (K.faults sink.old) (K.faults sink.new) result }
 {
     let opener = match Opener::with(alloc, session) {
         Ok(opener) => opener,

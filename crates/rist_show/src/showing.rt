@@ -1,7 +1,7 @@
-ghost use Rattle.std.specs.Prelude.{◌≡◌, ◌≤◌, ℕ, List, [], false, Option, IsErrOf};
-ghost use Rattle.outside_io.specs.Causes.{Rose};
+ghost use Rattle.std.specs.Prelude.{◌≡◌, ℕ, List, [], false, Option, IsErrOf};
+ghost use Rattle.capture_walk.specs.Causes.{HasReadCause, HasWriteCause};
 ghost use Rattle.capture_walk.specs.Leaves.{Leaves};
-ghost use Rattle.capture_walk.specs.declared.walk_bad.WalkBad.TheVariants.{ReadFault, WriteFault};
+ghost use Rattle.capture_walk.specs.declared.walk_bad.WalkBad.TheVariants.{ReadFault};
 ghost use Rattle.rist_wire.specs.Session.{IsSession};
 ghost use Rattle.rist_show.specs.Lines.{lines};
 
@@ -26,9 +26,8 @@ pub fn show<S: Source, K: Sink>(
     requires running { reader.old.spent ≡ false }
     ensures work { (first : Option (List ℕ)) → first ≡ reader.old.remaining → Leaves (lines session.now) (lines session.now) first reader.new.remaining (K.contents sink.old) (K.contents sink.new) result }
     ensures ahead { IsErrOf result ReadFault → reader.new.ahead ≡ [] }
-    ensures read { IsErrOf result ReadFault → Rose reader.old.faults reader.new.faults }
-    ensures write { IsErrOf result WriteFault → Rose (K.faults sink.old) (K.faults sink.new) }
-    ensures later { (reader.old.faults ≤ reader.new.faults) × (K.faults sink.old ≤ K.faults sink.new) }
+    ensures read { HasReadCause reader.old.faults reader.new.faults result }
+    ensures write { HasWriteCause (K.faults sink.old) (K.faults sink.new) result }
 {
     let opener = match Opener::with(alloc, session) {
         Ok(opener) => opener,

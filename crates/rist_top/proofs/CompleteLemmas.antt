@@ -15,6 +15,7 @@ use Rattle.rist_pack.specs.declared.bad.PackBad.{PackBad}
 use Rattle.rist_pack.specs.declared.bad.PackBad.TheVariants as packs
 use Rattle.rist_words.specs.CommandLine.{CommandLine, Replay, Show, Pack}
 use Rattle.rist_top.specs.Sessions.{session_with, pack_settings}
+use Rattle.rist_top.specs.Causes.{HasReadCause, HasWriteCause}
 use Rattle.rist_top.specs.Works.{Works, Walks, walk_status, pack_status}
 use Rattle.rist_top.specs.Ran.{Ran, source_name}
 use Rattle.rist_top.specs.Complete.{IsWholeCapture, IsWholeInput, NoneFailed, Completes}
@@ -72,8 +73,8 @@ ran_done : {I O E : Type 0} (remaining : I → Option (List ℕ)) (read_faults :
 ran_done remaining read_faults contents write_faults words word_faults old new c status source b here told input none memory ran =
     work_ends _ c b (remaining ran.source) (remaining ran.spent) (contents ran.sink) (contents ran.filled) status input
     (ap remaining (same_source ran.source source (sym ran.took_source ∙ here)) ∙ told)
-    (λ e. none.reads ran.source ran.spent ran.took_source ran.gave_source (ran.read e))
-    (λ e. none.writes ran.sink ran.filled ran.took_sink ran.gave_sink (ran.write e))
+    (λ e. none.reads ran.source ran.spent ran.took_source ran.gave_source (subst (HasReadCause (read_faults ran.source) (read_faults ran.spent)) e ran.read))
+    (λ e. none.writes ran.sink ran.filled ran.took_sink ran.gave_sink (subst (HasWriteCause (write_faults ran.sink) (write_faults ran.filled)) e ran.write))
     (λ e. none.words (ran.random e)) memory ran.work
 
 done_or_memory : (status : Status) → (status ≡ statuses.Memory) ⊎ (status ≡ statuses.Memory → ⊥) → ((status ≡ statuses.Memory → ⊥) → status ≡ statuses.Done) → (status ≡ statuses.Done) ⊎ (status ≡ statuses.Memory)

@@ -1,10 +1,10 @@
 -- What a run says of the objects of its host.
 use Rattle.std.specs.Prelude.{◌≡◌, ℕ, List, Option, codes}
-use Rattle.outside_io.specs.Causes.{Rose}
 use Rattle.outside_io.specs.Told.{IsEmpty}
 use Rattle.outside_io.specs.Shelf.{Shelf}
 use Rattle.outside_io.specs.declared.host.Place.TheVariants.{Here, Back}
 use Rattle.rist_words.specs.CommandLine.{CommandLine, Replay, Show, Pack}
+use Rattle.rist_top.specs.Causes.{HasReadCause, HasWriteCause}
 use Rattle.rist_top.specs.Works.{Works}
 use Rattle.rist_top.specs.Sealing.{FailedAt, DrawnFirst}
 use Rattle.rist_top.specs.declared.status.Status.{Status}
@@ -33,8 +33,8 @@ pub record Ran {I O E : Type 0} (remaining : I → Option (List ℕ)) (read_faul
   pub took_sink : old.sinks (sink_name c) ≡ Here sink
   pub gave_sink : new.sinks (sink_name c) ≡ Back filled
   pub fresh : IsEmpty (contents sink)
-  pub work : Works (DrawnFirst words old.entropies new.entropies) c (remaining source) (remaining spent) (contents sink) (contents filled) status
-  pub read : status ≡ statuses.ReadFault → Rose (read_faults source) (read_faults spent)
-  pub write : status ≡ statuses.WriteFault → Rose (write_faults sink) (write_faults filled)
+  pub work : Works (DrawnFirst words word_faults old.entropies new.entropies) c (remaining source) (remaining spent) (contents sink) (contents filled) status
+  pub read : HasReadCause (read_faults source) (read_faults spent) status
+  pub write : HasWriteCause (write_faults sink) (write_faults filled) status
   -- where random words failed they came from the first place
   pub random : status ≡ statuses.EntropyFault → FailedAt word_faults old new

@@ -19,13 +19,14 @@ pub record KeepsObjects {I O E : Type 0} (old new : Shelf I O E) (draws : Bool) 
   pub first : old.next_entropy ≡ 0 → CameBack (old.entropies 0) (new.entropies 0)
   pub undrawn : draws ≡ false → (place : ℕ) → new.entropies place ≡ old.entropies place
 
--- the nonces of a sealer are drawn from the first source of random words, which was handed out and came back
-pub record DrawnFirst {E : Type 0} (remaining : E → Option (List ℕ)) (old new : ℕ → Place E) (sealer : SealerState) : Type 0 where
+-- the nonces of a sealer are drawn from the first source of random words, which was handed out, did not fail, and came back
+pub record DrawnFirst {E : Type 0} (remaining : E → Option (List ℕ)) (faults : E → ℕ) (old new : ℕ → Place E) (sealer : SealerState) : Type 0 where
   pub words : E
   pub drawn : E
   pub took : old 0 ≡ Here words
   pub gave : new 0 ≡ Back drawn
   pub nonces : Draws (remaining words) (remaining drawn) sealer.nonces 16
+  pub none : faults drawn ≡ faults words
 
 -- the first source of random words was handed out, failed, and came back
 pub record FailedAt {I O E : Type 0} (faults : E → ℕ) (old new : Shelf I O E) : Type 0 where

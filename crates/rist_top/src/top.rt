@@ -1,8 +1,9 @@
-ghost use Rattle.std.specs.Prelude.{◌≡◌, ◌≢◌, ◌≤◌, ◌⊎◌, IsTrue, Some, None, map, string_bytes};
+ghost use Rattle.std.specs.Prelude.{◌≡◌, ◌≢◌, ◌⊎◌, IsTrue, Some, None, map, string_bytes};
 ghost use Rattle.outside_io.specs.Causes.{Rose};
 ghost use Rattle.rist_words.specs.CommandLine.{CommandLine, Replay, ReplayCommand, line_of};
 ghost use Rattle.rist_words.specs.Shown.{shown};
 ghost use Rattle.rist_words.specs.Ranges.{IsInRange};
+ghost use Rattle.rist_top.specs.Causes.{HasOpenCause};
 ghost use Rattle.rist_top.specs.Ran.{Ran, source_name, sink_name};
 ghost use Rattle.rist_top.specs.Frame.{KeepsOthers};
 ghost use Rattle.rist_top.specs.Untouched.{Untouched, LeavesAtMemory};
@@ -21,9 +22,8 @@ pub fn run<H: Host>(alloc: Global, words: &[String], host: &mut H) -> Status
     ensures usage { result ≡ Status.Usage → line_of (map string_bytes words.now) ≡ None }
     ensures refused { line_of (map string_bytes words.now) ≡ None → (result ≡ Status.Usage) ⊎ (result ≡ Status.Memory) }
 
-    // A fault at opening comes only where a call of the host failed.
-    ensures opened { result ≡ Status.OpenFault → Rose (H.faults host.old) (H.faults host.new) }
-    ensures later { H.faults host.old ≤ H.faults host.new }
+    // A fault at opening comes exactly where a call of the host failed.
+    ensures opened { HasOpenCause (H.faults host.old) (H.faults host.new) result }
 
     // What is no line touches nothing, and a line only what it speaks of.
     ensures same { IsTrue H.tells → line_of (map string_bytes words.now) ≡ None → H.shelf host.new ≡ H.shelf host.old }
@@ -57,8 +57,7 @@ pub fn run<H: Host>(alloc: Global, words: &[String], host: &mut H) -> Status
 fn run_line<H: Host>(alloc: Global, host: &mut H, line: &Line<'_>) -> Status
     requires range { IsInRange (shown line.now) }
     ensures line { result ≢ Status.Usage }
-    ensures opened { result ≡ Status.OpenFault → Rose (H.faults host.old) (H.faults host.new) }
-    ensures later { H.faults host.old ≤ H.faults host.new }
+    ensures opened { HasOpenCause (H.faults host.old) (H.faults host.new) result }
     ensures others { IsTrue H.tells → (H.shelf host.old).next_entropy ≡ 0 → KeepsOthers (H.shelf host.old) (H.shelf host.new) (shown line.now) }
     ensures ran { IsTrue H.tells → (H.shelf host.old).next_entropy ≡ 0 → result ≢ Status.OpenFault → result ≢ Status.Memory
         → Ran H.Input.remaining H.Input.faults H.Output.contents H.Output.faults H.Random.remaining H.Random.faults (H.shelf host.old) (H.shelf host.new) (shown line.now) result }

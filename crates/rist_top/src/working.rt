@@ -1,12 +1,11 @@
 // The work of each command over its source and its sink.
-ghost use Rattle.std.specs.Prelude.{◌≡◌, ◌≢◌, ◌≤◌, ◌⊎◌, IsTrue};
-ghost use Rattle.outside_io.specs.Causes.{Rose};
+ghost use Rattle.std.specs.Prelude.{◌≡◌, ◌≢◌, ◌⊎◌, IsTrue};
 ghost use Rattle.rist_words.specs.Shown.{shown, shown_session, shown_replay, shown_show, shown_pack};
 ghost use Rattle.rist_words.specs.Ranges.{IsInRange, IsInSession, IsInReplay, IsInPack};
 ghost use Rattle.rist_top.specs.Frame.{draws_words};
 ghost use Rattle.rist_top.specs.Works.{Works, Replays, Shows, PacksAs, IsFreshFor};
 ghost use Rattle.rist_top.specs.Sealing.{KeepsObjects, DrawnFirst, FailedAt};
-ghost use Rattle.rist_top.specs.Causes.{HasCauses, IsOwn};
+ghost use Rattle.rist_top.specs.Causes.{HasCauses, HasOpenCause, IsOwn};
 ghost use Rattle.rist_top.specs.Untouched.{IsUnbegun};
 
 use crate::sealing::sealer_for;
@@ -116,14 +115,13 @@ pub fn work<H: Host>(
     requires range { IsInRange (shown line.now) }
     ensures line { result.status ≢ Status.Usage }
     ensures work { IsTrue H.tells → (H.shelf host.old).next_entropy ≡ 0 → result.status ≢ Status.OpenFault → result.status ≢ Status.Memory
-        → Works (DrawnFirst H.Random.remaining (H.shelf host.old).entropies (H.shelf host.new).entropies) (shown line.now) (H.Input.remaining source) (H.Input.remaining result.source) (H.Output.contents sink) (H.Output.contents result.sink) result.status }
+        → Works (DrawnFirst H.Random.remaining H.Random.faults (H.shelf host.old).entropies (H.shelf host.new).entropies) (shown line.now) (H.Input.remaining source) (H.Input.remaining result.source) (H.Output.contents sink) (H.Output.contents result.sink) result.status }
     ensures causes { HasCauses (H.Input.faults source) (H.Input.faults result.source) (H.Output.faults sink) (H.Output.faults result.sink) result.status }
     ensures closed { IsTrue H.tells → result.status ≡ Status.OpenFault → IsUnbegun source result.source sink result.sink (H.shelf host.old) (H.shelf host.new) }
     ensures memory { IsTrue H.tells → (H.shelf host.old).next_entropy ≡ 0 → result.status ≡ Status.Memory → IsUnbegun source result.source sink result.sink (H.shelf host.old) (H.shelf host.new)
-        ⊎ Works (DrawnFirst H.Random.remaining (H.shelf host.old).entropies (H.shelf host.new).entropies) (shown line.now) (H.Input.remaining source) (H.Input.remaining result.source) (H.Output.contents sink) (H.Output.contents result.sink) result.status }
+        ⊎ Works (DrawnFirst H.Random.remaining H.Random.faults (H.shelf host.old).entropies (H.shelf host.new).entropies) (shown line.now) (H.Input.remaining source) (H.Input.remaining result.source) (H.Output.contents sink) (H.Output.contents result.sink) result.status }
     ensures others { IsTrue H.tells → KeepsObjects (H.shelf host.old) (H.shelf host.new) (draws_words (shown line.now)) }
-    ensures opened { result.status ≡ Status.OpenFault → Rose (H.faults host.old) (H.faults host.new) }
-    ensures later { H.faults host.old ≤ H.faults host.new }
+    ensures opened { HasOpenCause (H.faults host.old) (H.faults host.new) result.status }
     ensures random { IsTrue H.tells → (H.shelf host.old).next_entropy ≡ 0 → result.status ≡ Status.EntropyFault → FailedAt H.Random.faults (H.shelf host.old) (H.shelf host.new) }
 {
     match line {

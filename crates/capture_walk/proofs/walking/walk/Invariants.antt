@@ -10,8 +10,8 @@ invariant-loop-bad g l = record {
   so_far : g.V.Visitor.so_far l.visitor ≡ g.V.Visitor.so_far l.fn.visitor;
   whole : g.V.Visitor.whole l.visitor ≡ g.V.Visitor.whole l.fn.visitor;
   bound : l.reader.at ≤ 2 ^ 40;
-  later_source : l.fn.reader.faults ≤ l.reader.faults;
-  later_sink : g.K.Sink.faults l.fn.sink ≤ g.K.Sink.faults l.sink;
+  source_faults : l.reader.faults ≡ l.fn.reader.faults;
+  sink_faults : g.K.Sink.faults l.sink ≡ g.K.Sink.faults l.fn.sink;
 }
 
 abbrev pub decreases-loop-bad : goal.decreases-loop-bad

@@ -1,4 +1,4 @@
-use Rattle.std.proofs.Common.{◌≡◌, ◌≤◌, take, drop, length, arith, ◌-◌, length-drop, ap}
+use Rattle.std.proofs.Common.{◌≡◌, ◌≤◌, take, drop, length, arith, ◌-◌, length-drop, ap, ◌∙◌}
 use Rattle.std.proofs.lemmas.Slice.{between_to_end}
 use Rattle.outside_io.proofs.FillingLemmas.{filled_more, length_kept}
 use Rattle.outside_io.proofs.filling.read_full.Goals as goal
@@ -14,5 +14,5 @@ loop-filled-preserved g c =
     record {
       inside = omega (arith, length_kept at xs ys c.loop-filled.invariant.inside size);
       told = filled_more _ _ _ at c.in-Ok.count _ xs ys c.loop-filled.invariant.inside bound c.loop-filled.invariant.told c.in-Ok.ensures.ok;
-      later = omega (arith, c.loop-filled.invariant.later, c.in-Ok.ensures.cause.later);
+      faults = c.in-Ok.ensures.cause ∙ c.loop-filled.invariant.faults;
     }

@@ -1,4 +1,4 @@
-use Rattle.std.proofs.Common.{length, take, ◌-◌, ◌≤◌}
+use Rattle.std.proofs.Common.{length, take, ◌-◌, ◌≤◌, ◌≡◌}
 use Rattle.outside_io.specs.Told.{Takes}
 use Rattle.outside_io.proofs.filling.read_full.Given as goal
 
@@ -6,7 +6,7 @@ abbrev pub invariant-loop-filled : goal.invariant-loop-filled
 invariant-loop-filled g l = record {
   inside : l.filled ≤ length l.buf;
   told : Takes (g.S.Source.remaining l.fn.source) (g.S.Source.remaining l.source) (take l.filled l.buf);
-  later : g.S.Source.faults l.fn.source ≤ g.S.Source.faults l.source;
+  faults : g.S.Source.faults l.source ≡ g.S.Source.faults l.fn.source;
 }
 
 abbrev pub decreases-loop-filled : goal.decreases-loop-filled

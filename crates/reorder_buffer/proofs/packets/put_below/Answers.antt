@@ -19,7 +19,7 @@ loop-packet-preserved g c =
     let fits : FitsSigned w64 c.in-Some.packet.deadline = search rules in
     let gone = simp to_z-of_z at c.forget_due.ensures.gone in (
       pops_more c.args.floor _ _ _ _ _ _ c.in-Some.packet _ c.loop-packet.invariant.0 c.in-Some.ensures.some c.in_ok-put.ensures.ok,
-      omega (arith, c.put.ensures.cause.later, c.loop-packet.invariant.1),
+      c.in_ok-put.ensures.cause ∙ c.loop-packet.invariant.1,
       λ m. c.forget_due.ensures.same m ∙ c.loop-packet.invariant.2 m,
       λ d f known. c.loop-packet.invariant.3 d f (c.forget_due.ensures.fewer d f known),
       left_more c.args.floor _ _ _ _ _ c.in-Some.packet c.loop-packet.invariant.4 c.in-Some.ensures.some gone c.forget_due.ensures.fewer,

@@ -26,8 +26,8 @@ loop-k-init g c =
       nonces = refl;
       paired = ap (λ (s : ShutterState). is_some s.sealer) is ∙ c.requires.paired;
       given = subst (λ (s : ShutterState). HasGiven 0 s.sealer) (sym is) c.requires.given;
-      source_later = omega arith;
-      sink_later = c.begin.ensures.cause.later;
+      source_faults = refl;
+      sink_faults = c.in-Ok.ensures.cause;
     }
 
 pub loop-k-preserved : goal.loop-k-preserved
@@ -47,8 +47,8 @@ loop-k-preserved g c =
       nonces = ap nonces_of sealer ∙ after-nonces c.loop-k.shutter.sealer ∙ inv.nonces;
       paired = ap (λ (s : Option SealerState). is_some s) sealer ∙ after-some c.loop-k.shutter.sealer ∙ inv.paired;
       given = subst (HasGiven (c.loop-k.k + 1)) (sym sealer) (after-given c.loop-k.shutter.sealer c.loop-k.k inv.given);
-      source_later = omega (arith, c.pack_piece.ensures.cause.source_later);
-      sink_later = omega (arith, c.pack_piece.ensures.cause.sink_later);
+      source_faults = c.in-Ok-On.ensures.cause.read ∙ inv.source_faults;
+      sink_faults = c.in-Ok-On.ensures.cause.write ∙ inv.sink_faults;
     }
 
 pub returns-in-Ok-Over-clause-work : goal.returns-in-Ok-Over-clause-work

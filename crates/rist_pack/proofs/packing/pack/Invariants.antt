@@ -13,8 +13,8 @@ invariant-loop-k g l = record {
   nonces : nonces_of l.shutter.sealer ≡ nonces_of l.initial.shutter.sealer;
   paired : is_some l.shutter.sealer ≡ is_some l.session.pass;
   given : HasGiven l.k l.shutter.sealer;
-  source_later : g.S.Source.faults l.fn.source ≤ g.S.Source.faults l.source;
-  sink_later : l.fn.capture.faults ≤ l.capture.faults;
+  source_faults : g.S.Source.faults l.source ≡ g.S.Source.faults l.fn.source;
+  sink_faults : l.capture.faults ≡ l.fn.capture.faults;
 }
 
 abbrev pub decreases-loop-k : goal.decreases-loop-k

@@ -2,6 +2,7 @@
 use Rattle.std.proofs.Common.{◌≡◌, ◌∙◌, sym, subst, Some}
 use Rattle.rist_words.proofs.RangeLemmas.{line_range}
 use Rattle.rist_words.specs.CommandLine.{CommandLine, Replay}
+use Rattle.rist_top.specs.Causes.{HasOpenCause}
 use Rattle.rist_top.specs.Ran.{Ran}
 use Rattle.rist_top.specs.Untouched.{Untouched}
 use Rattle.rist_top.specs.declared.status.Status.TheVariants as statuses
@@ -42,7 +43,7 @@ returns-in-Ok-clause-reached g c r is tells zero done =
 pub returns-in-Ok-clause-complete : goal.returns-in-Ok-clause-complete
 returns-in-Ok-clause-complete g c k is tells zero opened =
     ran_completes g.H.Input.Source.remaining g.H.Input.Source.faults g.H.Output.Sink.contents g.H.Output.Sink.faults g.H.Random.Entropy.remaining g.H.Random.Entropy.faults (g.H.Host.shelf c.args.host.now) (g.H.Host.shelf c.run_line.new.host) k c.run_line.result
-    (λ e. opened (c.run_line.ensures.opened e))
+    (λ e. opened (subst (HasOpenCause (g.H.Host.faults c.args.host.now) (g.H.Host.faults c.run_line.new.host)) e c.run_line.ensures.opened))
     (subst (λ (x : CommandLine). (c.run_line.result ≡ statuses.OpenFault → ⊥) → (c.run_line.result ≡ statuses.Memory → ⊥) → Ran g.H.Input.Source.remaining g.H.Input.Source.faults g.H.Output.Sink.contents g.H.Output.Sink.faults g.H.Random.Entropy.remaining g.H.Random.Entropy.faults (g.H.Host.shelf c.args.host.now) (g.H.Host.shelf c.run_line.new.host) x c.run_line.result)
     (same_line _ _ (sym c.in-Ok.ensures.ok ∙ is))
     (c.run_line.ensures.ran tells zero))
