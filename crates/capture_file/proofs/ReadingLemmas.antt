@@ -5,10 +5,10 @@ use Rattle.std.proofs.lemmas.Bool.Decides.{nat_tests}
 use Rattle.std.specs.declared.option.Option.{Option}
 use mathlib.Core.Logic.{inr}
 use Rattle.outside_io.specs.Told.{Takes, IsEmpty}
-use Rattle.outside_io.specs.ToldLaws.{takes_both}
+use Rattle.outside_io.proofs.ToldLemmas.{takes_both}
 use Rattle.capture_file.specs.Capture.{magic}
 use Rattle.capture_file.specs.Tests.{fault_at, fault_of_body, length_said, or_else}
-use Rattle.capture_file.specs.Laws.{no_record_cut}
+use Rattle.capture_file.proofs.FormatLemmas.{no_record_cut}
 use Rattle.capture_file.specs.Heads.{head_octets}
 use Rattle.capture_file.specs.Reading.{ReadsHead, ReadsBody, Enters, ReadsRecord, ReadsNext, name_at}
 use Rattle.capture_file.specs.declared.head.Head.{Head}

@@ -1,6 +1,5 @@
 -- What a contract sees of a source that is read in large pieces through a block.
-use Rattle.std.specs.Prelude.{ℕ, ◌-◌, List, ◌++◌, take, drop}
-use Rattle.std.specs.Prelude.{Option}
+use Rattle.std.specs.Prelude.{ℕ, ◌-◌, List, ◌++◌, take, drop, Option}
 use Rattle.std.specs.Option.{option_map}
 
 -- `remaining`: the octets that stand in the block, and then what remains of the source; `ahead`: those in the block

@@ -5,5 +5,4 @@ pub mod Block
 pub mod Reader
 pub mod Reading
 pub mod Writer
-pub mod Laws
 pub mod Text

@@ -1,6 +1,5 @@
 -- What a contract sees of a reader.
-use Rattle.std.specs.Prelude.{ℕ, List, [], Bool, false}
-use Rattle.std.specs.Prelude.{Option}
+use Rattle.std.specs.Prelude.{ℕ, List, [], Bool, false, Option}
 
 -- `remaining`: the octets that it has still to read, where the source tells them; the first of them are those that it took
 -- from the source ahead of need. `at`: 0 before the name is read, and then the next record's offset.

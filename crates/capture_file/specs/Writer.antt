@@ -1,6 +1,5 @@
 -- What a contract sees of a writer.
-use Rattle.std.specs.Prelude.{ℕ, List, Bool, false}
-use Rattle.std.specs.Prelude.{Option}
+use Rattle.std.specs.Prelude.{ℕ, List, Bool, false, Option}
 
 -- `contents`: the octets that its sink holds, where that tells them; `begun`: the name was given to it
 pub record WriterState : Type 0 where

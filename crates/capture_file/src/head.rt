@@ -11,8 +11,9 @@ use outside_io::Channel;
 /// A record but for its octets.
 #[derive(Clone, Copy, Debug, PartialEq, Eq)]
 pub struct Head {
-    /// Below 16.
+    /// The network path that the datagram came on, below 16.
     pub link: u8,
+    /// What the datagram carries.
     pub channel: Channel,
     /// In octets, at most 2,048.
     pub length: u16,

@@ -1,5 +1,5 @@
 // Reads the records of a capture.
-ghost use Rattle.std.specs.Prelude.{◌≡◌, ◌≤◌, ◌<◌, ◌+◌, ◌^◌, IsTrue, false, true, IfOk, IsErrOf, IfSome, OnErr, take, length, []};
+ghost use Rattle.std.specs.Prelude.{◌≡◌, ◌≤◌, ◌<◌, ◌+◌, ◌^◌, false, true, IfOk, IsErrOf, IfSome, take, length, []};
 ghost use Rattle.capture_file.specs.declared.reader.CapBad.TheVariants.{ReadFault};
 ghost use Rattle.outside_io.specs.Told.{Takes};
 ghost use Rattle.capture_file.specs.Reader.{ReaderState, new_reader};
@@ -191,6 +191,7 @@ impl<S: Source> Model for Reader<S> {
 }
 
 impl<S: Source> Reader<S> {
+    /// A reader of what the source gives. The name stands first.
     pub fn over(source: S) -> Reader<S>
         ensures value { result ≡ new_reader (S.remaining source) (S.faults source) }
     {

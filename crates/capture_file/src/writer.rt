@@ -88,12 +88,14 @@ impl<K: Sink> Model for Writer<K> {
 }
 
 impl<K: Sink> Writer<K> {
+    /// A writer to the sink, which has written nothing yet.
     pub fn over(sink: K) -> Writer<K>
         ensures value { result ≡ new_writer (K.contents sink) (K.faults sink) }
     {
         Writer { sink, begun: false }
     }
 
+    /// Gives the sink back.
     pub fn back(self) -> K
         ensures value { K.contents result ≡ self.contents }
         ensures same { K.faults result ≡ self.faults }

@@ -10,7 +10,7 @@ use Rattle.outside_io.specs.declared.channel.Channel.{Channel}
 use Rattle.outside_io.specs.declared.channel.Channel.TheVariants as channels
 use Rattle.capture_file.specs.Capture.{Record, Fits, IsCapture, magic, spelling, channel_code}
 use Rattle.capture_file.specs.Tests.{BadAt, FaultIn, fault_at, fault_of_head, fault_of_body, or_else}
-use Rattle.capture_file.specs.Laws.{one_spelling, no_capture}
+use Rattle.capture_file.proofs.FormatLemmas.{one_spelling, no_capture}
 use Rattle.capture_file.specs.declared.reader.CapKind.TheVariants.{Truncated, Link, Long, TooLong}
 use Rattle.capture_file.specs.declared.reader.CapKind.TheVariants.{Channel as ChannelBad}
 use Rattle.capture_walk.specs.Leaves.{Leaves}

@@ -5,10 +5,10 @@ use Rattle.std.specs.Prelude.{Result, Ok, Err, IsErrOf}
 use Rattle.std.proofs.lemmas.List.{nil_from_length}
 use Rattle.std.proofs.lemmas.List.Elements.{All-push}
 use Rattle.outside_io.specs.Told.{Appends, Takes, IsEmpty, IsPrefix}
-use Rattle.outside_io.specs.ToldLaws.{appends_both, takes_both}
+use Rattle.outside_io.proofs.ToldLemmas.{appends_both, takes_both}
 use Rattle.capture_file.specs.Capture.{Record, Fits, magic, spelling}
 use Rattle.capture_file.specs.Tests.{BadAt}
-use Rattle.capture_file.specs.Laws.{no_record_at_fault}
+use Rattle.capture_file.proofs.FormatLemmas.{no_record_at_fault}
 use Rattle.capture_file.specs.Reading.{ReadsNext, IsBadAt, IsCutShort, IsUnfinished, name_at, offset_at}
 use Rattle.capture_file.specs.declared.reader.CapKind.{CapKind}
 use Rattle.capture_file.specs.declared.reader.CapKind.TheVariants as kinds

@@ -6,7 +6,7 @@ use Rattle.std.proofs.lemmas.List.{nil_from_length}
 use Rattle.std.proofs.lemmas.Grind.{flat_map-append}
 use Rattle.std.proofs.lemmas.Bool.Decides.{nat_tests}
 use Rattle.outside_io.specs.Told.{Appends, Takes}
-use Rattle.outside_io.specs.ToldLaws.{appends_none, appends_both, takes_none, takes_both}
+use Rattle.outside_io.proofs.ToldLemmas.{appends_none, appends_both, takes_none, takes_both}
 use Rattle.capture_file.specs.Capture.{Record, Fits, magic, spelling}
 use Rattle.capture_file.specs.Reading.{ReadsNext, name_at, offset_at}
 use Rattle.capture_file.specs.Heads.{record_of}

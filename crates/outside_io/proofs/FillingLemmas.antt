@@ -5,7 +5,7 @@ use Rattle.std.proofs.lemmas.List.{length-take-le, take-append-le}
 use Rattle.std.proofs.Math.Seq.{take-append-add}
 use borrow.Rule.Slice.PartMut.{put_mid, post_of}
 use Rattle.outside_io.specs.Told.{Takes}
-use Rattle.outside_io.specs.ToldLaws.{takes_both}
+use Rattle.outside_io.proofs.ToldLemmas.{takes_both}
 
 pub taken_more : (a n k : ℕ) (xs ys : List ℕ) → a ≤ length xs → n ≤ length ys → take (a + n) (put_mid a k xs ys) ≡ take a xs ++ take n ys
 taken_more a n k xs ys inside fits =

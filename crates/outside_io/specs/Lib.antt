@@ -8,5 +8,4 @@ pub mod ByPlace
 pub mod MemSource
 pub mod MemHost
 pub mod Real
-pub mod ToldLaws
 pub mod Text

@@ -1,6 +1,5 @@
 -- What a source in memory of either form tells, its calls, and what a read of it gives and leaves.
-use Rattle.std.specs.Prelude.{◌≡◌, ℕ, ◌+◌, List, length, min, drop, Some}
-use Rattle.std.specs.Prelude.{Option}
+use Rattle.std.specs.Prelude.{◌≡◌, ℕ, ◌+◌, List, length, min, drop, Some, Option}
 use Rattle.outside_io.specs.Calls.{Calls, call_done, call_failed}
 use Rattle.outside_io.specs.Memory.{ReadsToCut}
 use Rattle.outside_io.specs.declared.mem_source.MemSource.{MemSource}

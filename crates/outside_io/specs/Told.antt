@@ -1,6 +1,5 @@
 -- What a sink holds and what remains of a source, where they tell. A silent object is none, and stays silent.
-use Rattle.std.specs.Prelude.{◌≡◌, ℕ, List, [], ◌++◌, IfSome}
-use Rattle.std.specs.Prelude.{Option}
+use Rattle.std.specs.Prelude.{◌≡◌, ℕ, List, [], ◌++◌, IfSome, Option}
 use Rattle.std.specs.Option.{option_map}
 
 -- these octets were put behind what was held

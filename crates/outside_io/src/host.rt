@@ -9,7 +9,9 @@ use std::fmt::{self, Display, Formatter, Write};
 /// Why a host hands nothing out.
 #[derive(Clone, Copy, Debug, PartialEq, Eq)]
 pub enum HostBad {
+    /// The call failed.
     Failed,
+    /// Memory was refused.
     NoMemory,
 }
 
@@ -27,21 +29,28 @@ impl Display for HostBad {
     }
 }
 
-/// What stands under a name or at a place: nothing, an object to be handed out, one that is out, or one that came back.
+/// What stands under a name or at a place.
 #[derive(Drop)]
 pub enum Place<T> {
+    /// Nothing.
     Absent,
+    /// An object to be handed out.
     Here(T),
+    /// An object that was handed out.
     Out,
+    /// An object that came back.
     Back(T),
 }
 
 /// Hands out each object once, under its name or from its place, and takes it back there.
 pub trait Host {
+    /// What it hands out as a source.
     type Input: Source + Drop;
 
+    /// What it hands out as a sink.
     type Output: Sink + Drop;
 
+    /// What it hands out as a source of random words.
     type Random: Entropy + Drop;
 
     /// Whether a host of this type tells what stands under its names and at its places.

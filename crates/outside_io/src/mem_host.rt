@@ -7,19 +7,23 @@ ghost use Rattle.outside_io.specs.declared.host.HostBad.TheVariants.{Failed};
 ghost use Rattle.outside_io.specs.ByPlace.{object_at};
 ghost use Rattle.outside_io.specs.Slots.{place_of};
 ghost use Rattle.outside_io.specs.MemHost.{mem_shelf, mem_calls, HasNoEmptySink};
-ghost use Rattle.outside_io.specs.declared.host.Place.TheVariants.{Here, Back};
+ghost use Rattle.outside_io.specs.declared.host.Place.TheVariants.{Back};
 
 use crate::by_place::{put_place, returned_place, take_place};
 use crate::failing::FailingCalls;
 use crate::slots::{is_fresh, put_back, returned, take_out};
 use crate::{Host, HostBad, MemSource, Place, Slot, Store8, Words};
 
-/// What a host in memory is made of. The calls that are to fail are listed by their places, from 0.
+/// What a host in memory is made of.
 #[derive(Drop)]
 pub struct MemParts {
+    /// The sources by their names.
     pub sources: Vec<Slot<MemSource>>,
+    /// The sinks by their names.
     pub sinks: Vec<Slot<Store8>>,
+    /// The sources of random words in the order in which they are handed out.
     pub entropies: Vec<Place<Words>>,
+    /// The calls that are to fail, by their places from 0.
     pub failing: Vec<u64>,
 }
 

@@ -1,9 +1,10 @@
 // The profiles of the protocol.
 
-/// What datagrams a session sends (VSF TR-06-1 and, for the tunnel, this profile): RTP and RTCP on two ports, or both of
-/// them in one GRE tunnel.
+/// What datagrams a session sends.
 #[derive(Clone, Copy, Debug, PartialEq, Eq)]
 pub enum Profile {
+    /// RTP and RTCP on two ports (VSF TR-06-1).
     Simple,
+    /// Both of them in one GRE tunnel (VSF TR-06-2; the tunnel is this profile's).
     Main,
 }

@@ -1,12 +1,10 @@
 // Files and standard streams. What they give and take is not told: the trusted edge of the system.
-ghost use Rattle.std.specs.Prelude.{◌≡◌, ◌≤◌, ◌<◌, length, take, false, IfOk};
+ghost use Rattle.std.specs.Prelude.{◌≡◌, ◌≤◌, ◌<◌, length, take, false, IfOk, OnOk, OnErr};
 ghost use Rattle.outside_io.specs.Real.{silent, source_faults, sink_faults, ReadsBehind, WritesBehind, IsSourceNamed, IsSinkNamed};
 ghost use Rattle.std.specs.Io.{ReadsAtMost};
-ghost use Rattle.std.specs.Io.KnownBytes.{ReadConsumes};
-ghost use Rattle.outside_io.specs.Causes.{HasCause, Rose};
+ghost use Rattle.std.specs.Io.KnownBytes.{ReadConsumes, Appends as WriterAppends};
+ghost use Rattle.outside_io.specs.Causes.{HasCause};
 ghost use Rattle.outside_io.specs.Shelf.{nowhere};
-ghost use Rattle.std.specs.Prelude.{OnOk, OnErr};
-ghost use Rattle.std.specs.Io.KnownBytes.{Appends as WriterAppends};
 ghost use Rattle.outside_io.specs.Told.{Appends, AppendsPart, Takes, IsEmpty};
 
 use crate::{Failed, Host, HostBad, RealEntropy, Sink, Source};
@@ -194,6 +192,7 @@ impl<'a, R> Model for RealHost<'a, R> {
 }
 
 impl<'a, R> RealHost<'a, R> {
+    /// A host of which no call has failed.
     pub fn new(rt: &'a R) -> RealHost<'a, R>
         ensures value { result.faults ≡ 0 }
     {

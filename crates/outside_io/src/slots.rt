@@ -11,7 +11,9 @@ use std::mem;
 /// An object under a name.
 #[derive(Drop)]
 pub struct Slot<T> {
+    /// The name that it is asked for by.
     pub name: String,
+    /// What stands under it.
     pub place: Place<T>,
 }
 

@@ -38,12 +38,14 @@ impl Store8 {
         })
     }
 
+    /// What it took.
     pub fn octets(&self) -> &[u8]
         ensures value { result.now ≡ self.now.contents }
     {
         &self.octets
     }
 
+    /// Whether it took no octet.
     pub fn is_empty(&self) -> bool
         ensures value { IsTrue result ↔ (self.now.contents ≡ []) }
     {

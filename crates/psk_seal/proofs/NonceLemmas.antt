@@ -9,7 +9,7 @@ use Rattle.std.proofs.lemmas.Bool.Decides.{nat_tests}
 use native.Mathlib.Decide.{dec_lt}
 use Rattle.psk_seal.proofs.Pigeonhole.{pigeonhole}
 use Rattle.outside_io.specs.Told.{Takes}
-use Rattle.outside_io.specs.ToldLaws.{takes_both}
+use Rattle.outside_io.proofs.ToldLemmas.{takes_both}
 use Rattle.psk_seal.specs.Nonces.{IsFree, IsFirstFree, GiveNonces, Draws, AreNonces, steps_between}
 
 -- the first place of a number in a list, or the list's length

@@ -1,7 +1,6 @@
 -- The nonces that random words give (this profile): the nonce of a word is the first of it and the numbers after it, modulo 2^32,
 -- that isn't 0 and isn't one of the earlier nonces.
-use Rattle.std.specs.Prelude.{◌≡◌, ◌≢◌, ℕ, ◌+◌, ◌-◌, ◌%◌, ◌^◌, ◌<◌, List, length, take, get_or, Contains}
-use Rattle.std.specs.Prelude.{Option}
+use Rattle.std.specs.Prelude.{◌≡◌, ◌≢◌, ℕ, ◌+◌, ◌-◌, ◌%◌, ◌^◌, ◌<◌, List, length, take, get_or, Contains, Option}
 use Rattle.outside_io.specs.Told.{Takes}
 
 -- a number that can be the next nonce after these

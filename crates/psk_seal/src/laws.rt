@@ -1,5 +1,5 @@
 //! Laws of a sealer's pairs.
-ghost use Rattle.std.specs.Prelude.{◌≡◌, ◌≢◌, ◌<◌, ◌^◌, ℕ, List};
+ghost use Rattle.std.specs.Prelude.{◌≡◌, ◌<◌, ◌^◌, ℕ, List};
 ghost use Rattle.psk_seal.specs.Nonces.{AreNonces, GiveNonces};
 ghost use Rattle.psk_seal.specs.Pairs.{pair_at, counter_block};
 

@@ -20,7 +20,9 @@ pub const MAX_PAIRS: u64 = 1 << 36;
 /// the GRE header.
 #[derive(Clone, Copy, Debug, PartialEq, Eq)]
 pub struct Pair {
+    /// The key field.
     pub nonce: u32,
+    /// The sequence field.
     pub sequence: u32,
 }
 

@@ -2,7 +2,7 @@
 use Rattle.std.proofs.Common.{◌≡◌, ◌≢◌, ◌⊎◌, ◌||◌, ℕ, max, Bool, cond, List, refl, ◌∷◌, ◌++◌, sym, ap, subst, ◌∙◌, map, arith, Option, [], append_assoc, unwrap_or}
 use Rattle.std.specs.Prelude.{IsTrue, ◌↔◌, false}
 use Rattle.std.specs.List.{filter, concat}
-use Rattle.outside_io.specs.ToldLaws.{appends_both}
+use Rattle.outside_io.proofs.ToldLemmas.{appends_both}
 use Rattle.receiver_rules.specs.declared.limits.Limits.{Limits}
 use Rattle.receiver_rules.specs.Steps.{Arrival, Event, Step, effective_time, is_end, has_ended, time_step, end_step}
 use Rattle.receiver_rules.specs.Packets.{Packet, At, Ever, is_played_out, by_number, verdict_of}

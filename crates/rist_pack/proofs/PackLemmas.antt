@@ -2,7 +2,7 @@
 use Rattle.std.proofs.Common.{◌≡◌, ℕ, ◌+◌, ◌*◌, ◌<◌, List, [], ◌++◌, length, sym, ap, ◌∙◌, subst, arith, append-nil, append_assoc, length-append, Ok, Err, refl}
 use Rattle.std.specs.Prelude.{Option}
 use Rattle.outside_io.specs.Told.{Appends, AppendsPart}
-use Rattle.outside_io.specs.ToldLaws.{takes_none, takes_both, appends_both}
+use Rattle.outside_io.proofs.ToldLemmas.{takes_none, takes_both, appends_both}
 use Rattle.capture_file.specs.Capture.{Record, magic}
 use Rattle.rist_pack.specs.Pieces.{pieces_of, whole_pieces_of}
 use Rattle.rist_pack.specs.Capture.{capture_of}

@@ -3,7 +3,7 @@ use Rattle.std.proofs.Common.{◌≡◌, ℕ, ◌<◌, ◌≤◌, List, length, 
 use Rattle.std.specs.Prelude.{Option}
 use Rattle.std.proofs.lemmas.List.{length-take-le}
 use Rattle.outside_io.specs.Told.{Appends, AppendsPart}
-use Rattle.outside_io.specs.ToldLaws.{appends_none}
+use Rattle.outside_io.proofs.ToldLemmas.{appends_none}
 use Rattle.capture_file.specs.Capture.{Record, spelling}
 use Rattle.rist_pack.specs.Pieces.{pieces_of}
 use Rattle.rist_pack.specs.Steps.{ReadsPiece, PacksPiece, spelled_from}

@@ -6,7 +6,7 @@ use Rattle.capture_walk.specs.declared.visitor.VisitBad.TheVariants as bads
 use Rattle.std.specs.List.{concat}
 use Rattle.std.proofs.lemmas.List.{map_push, reverse-append}
 use Rattle.outside_io.specs.Told.{IsPrefix}
-use Rattle.outside_io.specs.ToldLaws.{appends_none}
+use Rattle.outside_io.proofs.ToldLemmas.{appends_none}
 use Rattle.capture_walk.specs.Writes.{WritesPart}
 use Rattle.capture_file.specs.Capture.{Record}
 use Rattle.receiver_rules.specs.declared.limits.Limits.{Limits}

@@ -2,7 +2,7 @@
 use Rattle.std.proofs.Common.{◌≡◌, ℕ, List, [], ◌∷◌, ◌++◌, map, Bool, false, ◌||◌, refl, sym, ap, ◌∙◌, append-nil, append_assoc}
 use Rattle.std.specs.Prelude.{Option, None, Result, Ok, Err, OnOk, OnErr}
 use Rattle.outside_io.specs.Told.{Appends, AppendsPart}
-use Rattle.outside_io.specs.ToldLaws.{appends_none}
+use Rattle.outside_io.proofs.ToldLemmas.{appends_none}
 use Rattle.capture_walk.specs.Writes.{Writes, WritesPart}
 use Rattle.rist_wire.specs.Item.{item_of}
 use Rattle.serde_json.specs.View.{items_of}

@@ -6,7 +6,7 @@ use Rattle.outside_io.specs.Told.{Appends}
 use Rattle.outside_io.specs.Shelf.{Shelf}
 use Rattle.outside_io.specs.declared.host.Place.TheVariants.{Here, Back}
 use Rattle.capture_file.specs.Capture.{Record, IsCapture, IsFront, magic}
-use Rattle.capture_file.specs.Laws.{one_reading, no_record_in_nothing}
+use Rattle.capture_file.proofs.FormatLemmas.{one_reading, no_record_in_nothing}
 use Rattle.capture_walk.specs.Leaves.{Leaves}
 use Rattle.capture_walk.specs.declared.walk_bad.WalkBad.{WalkBad}
 use Rattle.capture_walk.specs.declared.walk_bad.WalkBad.TheVariants as walks

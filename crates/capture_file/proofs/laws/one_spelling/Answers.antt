@@ -1,4 +1,4 @@
-use Rattle.capture_file.specs.Laws.{one_spelling}
+use Rattle.capture_file.proofs.FormatLemmas.{one_spelling}
 use Rattle.capture_file.proofs.laws.one_spelling.Goals as goal
 
 pub returns : goal.returns

@@ -22,7 +22,7 @@ returns-then-ne-clause-value g c =
     let whole : take c.in-Ok.count name ≡ name = take_all c.in-Ok.count name (omega (arith, c.if-count-lt8.false, c.read_full.auto.buf)) in
     let size : length (take c.in-Ok.count name) ≡ 8 = omega (arith, length-take-le c.in-Ok.count name e.within, c.if-count-lt8.false, c.read_full.auto.buf, e.within) in
     let other : take c.in-Ok.count name ≢ magic = λ same.
-        true≢false (sym c.if-ne.true ∙ c.ne.ensures ∙ ap (λ octets. not (pointwise eqb octets magic)) (sym whole ∙ same)) in (
+    true≢false (sym c.if-ne.true ∙ c.ne.ensures ∙ ap (λ octets. not (pointwise eqb octets magic)) (sym whole ∙ same)) in (
       refl,
       refl,
       no_name_other _ _ (take c.in-Ok.count name) e.ok size other,

@@ -1,7 +1,7 @@
 use Rattle.std.proofs.Common.{◌≡◌, ℕ, List, take, sym, ap, ◌∙◌}
 use mathlib.Core.Logic.{inl, inr}
 use Rattle.capture_file.specs.Capture.{Record, IsFront, magic}
-use Rattle.capture_file.specs.Laws.{one_reading}
+use Rattle.capture_file.proofs.FormatLemmas.{one_reading}
 use Rattle.capture_walk.specs.Leaves.{Fronts}
 use Rattle.capture_walk.proofs.laws.one_front.Goals as goal
 

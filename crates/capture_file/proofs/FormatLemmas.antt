@@ -7,8 +7,7 @@ use Rattle.std.proofs.lemmas.List.{take_at, drop_at}
 use Rattle.std.proofs.lemmas.List.Elements.{All-head, All-tail}
 use Rattle.capture_file.specs.Tests.{BadAt, fault_at, fault_of_head, fault_of_body, or_else}
 use Rattle.capture_file.specs.declared.reader.CapKind.{CapKind}
-use Rattle.capture_file.specs.declared.reader.CapKind.TheVariants.{Truncated, Link, Long, TooLong}
-use Rattle.capture_file.specs.declared.reader.CapKind.TheVariants.{Channel as ChannelBad}
+use Rattle.capture_file.specs.declared.reader.CapKind.TheVariants.{Truncated, Link, Long, TooLong, Channel as ChannelBad}
 use mathlib.Core.Logic.{inl, inr}
 use Rattle.std.proofs.lemmas.Bool.Decides.{nat_tests}
 use Rattle.outside_io.specs.declared.channel.Channel.{Channel}

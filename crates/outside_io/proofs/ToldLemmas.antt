@@ -1,6 +1,5 @@
 -- Laws of told octets, for the crates above.
-use Rattle.std.specs.Prelude.{ℕ, List, [], ◌++◌, None, Some}
-use Rattle.std.specs.Prelude.{Option}
+use Rattle.std.specs.Prelude.{ℕ, List, [], ◌++◌, None, Some, Option}
 use Rattle.std.specs.Option.{option_map}
 use Rattle.outside_io.specs.Told.{Appends, Takes}
 use Rattle.std.proofs.Common.{refl, sym, ap, ◌∙◌, append_assoc, append-nil}
