@@ -1,0 +1,12 @@
+//! The fields of a wire format: numbers at their places in network byte order (RFC 791, appendix B), and
+//! parts that are written one after another. A contract sees lists of octets.
+#![tactic(auto)]
+
+mod reading;
+mod writing;
+
+pub use reading::{u16_at, u32_at, u64_at};
+pub use writing::put_at;
+
+#[cfg(test)]
+mod tests;
