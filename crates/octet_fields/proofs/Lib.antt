@@ -1,1 +1,4 @@
 pub mod OctetLemmas
+pub mod NumberLemmas
+pub mod FlagLemmas
+pub mod TestLemmas

@@ -1,5 +1,14 @@
-ghost use Rattle.std.specs.Prelude.{◌≡◌, ◌+◌, ◌≤◌, length, take, drop};
-ghost use Rattle.std.specs.Int.{w16, w32, w64, from_be_bytes};
+ghost use Rattle.std.specs.Prelude.{◌≡◌, ◌+◌, ◌<◌, ◌≤◌, ◌==◌, length, take, drop};
+ghost use Rattle.std.specs.Int.{w16, w32, w64, from_be_bytes, bit_at};
+
+/// Whether a bit of a word is set, counted from the least significant.
+#[inline]
+pub fn is_set(word: u16, bit: u32) -> bool
+    requires within { bit < 16 }
+    ensures value { result ≡ (bit_at word bit == 1) }
+{
+    (word >> bit) & 1 == 1
+}
 
 /// The number of 16 bits whose octets begin at this place.
 #[inline]

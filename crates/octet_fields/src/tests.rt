@@ -10,6 +10,12 @@ fn the_highest_octet_of_a_number_comes_first(rt: HostRuntime) {
 }
 
 #[test]
+fn bits_are_counted_from_the_least_significant(rt: HostRuntime) {
+    assert!(rt; is_set(0x8001, 0) && is_set(0x8001, 15));
+    assert!(rt; !is_set(0x8001, 1) && !is_set(0x8001, 14));
+}
+
+#[test]
 fn parts_stand_one_after_another(rt: HostRuntime) {
     let mut block = [0xff; 7];
     let at = put_at(&mut block, 1, &[1, 2]);
