@@ -1,32 +1,8 @@
--- The bits of the first half word, both ways, and the octets of a list one by one.
-use Rattle.std.proofs.Common.{◌≡◌, ℕ, ◌+◌, ◌*◌, ◌/◌, ◌%◌, ◌^◌, ◌<◌, Bool, true, false, List, length, get_or, take, drop, arith, inl, inr}
-use Rattle.std.specs.Int.{bit_at}
-use Rattle.std.specs.Prelude.{All, ◌==◌}
-use Rattle.std.proofs.lemmas.Bool.{cases_lt, eq-eqb, ne_eqb, eqb-false}
-use Rattle.std.proofs.lemmas.Bool.Decides.{nat_tests}
-use Rattle.std.proofs.lemmas.Nat.Bits.{bit_at-lt}
-use Rattle.std.proofs.lemmas.List.{get_or_past, get_or-drop, get_or-take, length-take}
-use Rattle.gre_tunnel.specs.Gre.{bit_of}
-
--- each is an octet
-pub record AreOctets (octets : List ℕ) : Type 0 where
-  pub each : (i : ℕ) → get_or octets i 0 < 256
-
-pub AreOctets-from_all : (octets : List ℕ) → All (λ octet. octet < 256) octets → AreOctets octets
-AreOctets-from_all octets all = record {
-  each = λ i. elim (cases_lt i (length octets)) [ inl lt ↦ all i 0 lt | inr le ↦ rw (get_or_past octets i 0 le) (omega arith) ];
-}
-
-pub AreOctets-drop : (n : ℕ) (octets : List ℕ) → AreOctets octets → AreOctets (drop n octets)
-AreOctets-drop n octets are = record { each = λ i. rw get_or-drop (are.each (n + i)) }
-
-pub AreOctets-take : (n : ℕ) (octets : List ℕ) → AreOctets octets → AreOctets (take n octets)
-AreOctets-take n octets are = record {
-  each = λ i. elim (cases_lt i n) [
-    | inl lt ↦ rw (get_or-take n octets i 0 lt) (are.each i)
-    | inr le ↦ rw (get_or_past (take n octets) i 0 (omega (arith, length-take n octets))) (omega arith)
-  ];
-}
+-- The bits of the first half word, both ways.
+use Rattle.std.proofs.Common.{◌≡◌, ℕ, ◌+◌, ◌*◌, ◌/◌, ◌%◌, ◌^◌, ◌<◌, Bool, false, arith}
+use Rattle.std.specs.Int.{bit_at, from_bool}
+use Rattle.std.specs.Prelude.{◌==◌}
+use Rattle.octet_fields.proofs.FlagLemmas.{from_bool-most, flag-is, bit-is}
 
 -- what the half word says of a header
 pub record Says (word : ℕ) (keyed numbered : Bool) : Type 0 where
@@ -40,55 +16,23 @@ pub record Says (word : ℕ) (keyed numbered : Bool) : Type 0 where
   pub below : word < 2 ^ 16
 
 pub word-says : (keyed numbered : Bool) (ignored : ℕ) → ignored < 128
-    → Says (2 ^ 13 * bit_of keyed + 2 ^ 12 * bit_of numbered + 8 * ignored) keyed numbered
-word-says true true ignored lt = record {
-  version = omega arith;
-  checksum = ne_eqb _ _ (λ e. omega arith);
-  first = ne_eqb _ _ (λ e. omega arith);
-  second = ne_eqb _ _ (λ e. omega arith);
-  third = ne_eqb _ _ (λ e. omega arith);
-  key = eq-eqb _ _ (omega arith);
-  sequence = eq-eqb _ _ (omega arith);
-  below = omega arith;
-}
-word-says true false ignored lt = record {
-  version = omega arith;
-  checksum = ne_eqb _ _ (λ e. omega arith);
-  first = ne_eqb _ _ (λ e. omega arith);
-  second = ne_eqb _ _ (λ e. omega arith);
-  third = ne_eqb _ _ (λ e. omega arith);
-  key = eq-eqb _ _ (omega arith);
-  sequence = ne_eqb _ _ (λ e. omega arith);
-  below = omega arith;
-}
-word-says false true ignored lt = record {
-  version = omega arith;
-  checksum = ne_eqb _ _ (λ e. omega arith);
-  first = ne_eqb _ _ (λ e. omega arith);
-  second = ne_eqb _ _ (λ e. omega arith);
-  third = ne_eqb _ _ (λ e. omega arith);
-  key = ne_eqb _ _ (λ e. omega arith);
-  sequence = eq-eqb _ _ (omega arith);
-  below = omega arith;
-}
-word-says false false ignored lt = record {
-  version = omega arith;
-  checksum = ne_eqb _ _ (λ e. omega arith);
-  first = ne_eqb _ _ (λ e. omega arith);
-  second = ne_eqb _ _ (λ e. omega arith);
-  third = ne_eqb _ _ (λ e. omega arith);
-  key = ne_eqb _ _ (λ e. omega arith);
-  sequence = ne_eqb _ _ (λ e. omega arith);
-  below = omega arith;
-}
-
--- a bit is 0 or 1
-bit-is : (word k : ℕ) (flag : Bool) → (bit_at word k == 1) ≡ flag → bit_at word k ≡ bit_of flag
-bit-is word k true is = grind (arith, nat_tests)
-bit-is word k false is = let no = eqb-false (bit_at word k) 1 is in omega (arith, bit_at-lt word k, no)
+    → Says (2 ^ 13 * from_bool keyed + 2 ^ 12 * from_bool numbered + 8 * ignored) keyed numbered
+word-says keyed numbered ignored lt =
+    let key = from_bool-most keyed in
+    let sequence = from_bool-most numbered in
+    record {
+      version = omega (arith, key, sequence);
+      checksum = flag-is _ false (omega (arith, key, sequence));
+      first = flag-is _ false (omega (arith, key, sequence));
+      second = flag-is _ false (omega (arith, key, sequence));
+      third = flag-is _ false (omega (arith, key, sequence));
+      key = flag-is _ keyed (omega (arith, key, sequence));
+      sequence = flag-is _ numbered (omega (arith, key, sequence));
+      below = omega (arith, key, sequence);
+    }
 
 pub word-back : (word : ℕ) (keyed numbered : Bool) → Says word keyed numbered
-    → word ≡ 2 ^ 13 * bit_of keyed + 2 ^ 12 * bit_of numbered + 8 * (word / 8 % 128)
+    → word ≡ 2 ^ 13 * from_bool keyed + 2 ^ 12 * from_bool numbered + 8 * (word / 8 % 128)
 word-back word keyed numbered says =
     omega (
       arith,

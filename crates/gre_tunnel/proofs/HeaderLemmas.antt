@@ -1,29 +1,32 @@
 -- The header that stands in octets, from a spelling and back to it.
-use Rattle.std.proofs.Common.{◌≡◌, ◌⊎◌, ℕ, ◌+◌, ◌*◌, ◌/◌, ◌%◌, ◌^◌, ◌<◌, ◌≤◌, Bool, true, false, cond, ltb, List, [], ◌∷◌, ◌++◌, length, drop, Option, Some, None, Result, Ok, Err, refl, sym, ap, subst, ◌∙◌, arith, inl, inr}
+use Rattle.std.proofs.Common.{◌≡◌, ◌⊎◌, ℕ, ◌+◌, ◌*◌, ◌/◌, ◌%◌, ◌^◌, ◌<◌, ◌≤◌, Bool, true, false, cond, ltb, List, ◌++◌, length, drop, Option, Some, None, Result, Ok, Err, refl, sym, ap, subst, ◌∙◌, append_assoc, arith, inl, inr}
 use Rattle.std.specs.Prelude.{IfSome, IfOk, IsSome, is_some, ◌==◌, ◌&&◌, ◌||◌, not}
-use Rattle.std.specs.Int.{w16, w32, from_be_bytes, to_be_bytes}
+use Rattle.std.specs.Int.{w16, from_be_bytes, to_be_bytes, from_bool}
 use Rattle.std.proofs.lemmas.Bool.{eq-eqb, le-ltb, ltb-false, eqb-true, not-false, or_parts, or_from, or_left, or_right, or_cases, false≢true}
-use Rattle.std.proofs.lemmas.Nat.{from_be_bytes-to_be_bytes_2, from_be_bytes-to_be_bytes_4, be_bytes_2, be_bytes_4}
+use Rattle.std.proofs.lemmas.Nat.{from_be_bytes-to_be_bytes_2, from_be_bytes-to_be_bytes_4}
 use Rattle.gre_tunnel.specs.declared.gre.Gre.{Gre}
 use Rattle.gre_tunnel.specs.declared.gre.GreBad.{GreBad}
 use Rattle.gre_tunnel.specs.declared.gre.GreBad.TheVariants.{Short, Version, Checksum, Reserved, KeyedNoSequence, Protocol}
-use Rattle.gre_tunnel.specs.Gre.{Header, IsHeader, bit_of, keepalive_protocol, datagram_protocol, spelling, Spells}
+use Rattle.gre_tunnel.specs.Gre.{Header, IsHeader, keepalive_protocol, datagram_protocol, flags_word, optional_word, spelling, Spells}
 use Rattle.gre_tunnel.specs.Reading.{flags_of, protocol_of, is_set, has_key, has_sequence, has_reserved, header_len, number_at, gre_in, is_known_protocol, reading_of, value_of}
 use Rattle.gre_tunnel.specs.Writing.{header_with, ignored_with}
-use Rattle.gre_tunnel.proofs.FieldLemmas.{AreOctets, AreOctets-drop, AreOctets-take, Says, word-says, word-back}
+use Rattle.octet_fields.proofs.OctetLemmas.{AreOctets}
+use Rattle.octet_fields.proofs.NumberLemmas.{u16-back, u16-fits, u32-back, u32-fits}
+use Rattle.octet_fields.proofs.TestLemmas.{passed}
+use Rattle.gre_tunnel.proofs.FieldLemmas.{Says, word-says, word-back}
 
 -- the tests pass, at these flags
 pub record Passes (octets : List ℕ) (keyed numbered : Bool) : Type 0 where
   pub says : Says (flags_of octets) keyed numbered
   pub paired : (keyed && not numbered) ≡ false
-  pub long : 4 + 4 * bit_of keyed + 4 * bit_of numbered ≤ length octets
+  pub long : 4 + 4 * from_bool keyed + 4 * from_bool numbered ≤ length octets
   pub known : is_known_protocol (protocol_of octets) ≡ true
 
 -- the header that stands in the octets at these flags
 abbrev pub header_at : List ℕ → Bool → Bool → Header
 header_at octets keyed numbered = record {
   key = number_at keyed 4 octets;
-  sequence = number_at numbered (4 + 4 * bit_of keyed) octets;
+  sequence = number_at numbered (4 + 4 * from_bool keyed) octets;
   protocol = protocol_of octets;
 }
 
@@ -35,13 +38,13 @@ is_some-number false at octets = refl
 gre_in-value : (octets : List ℕ) (keyed numbered : Bool) → has_key octets ≡ keyed → has_sequence octets ≡ numbered
     → gre_in octets ≡ value_of (header_at octets keyed numbered)
 gre_in-value octets keyed numbered key sequence =
-    let at : gre_in octets ≡ record { key = number_at keyed 4 octets; sequence = number_at numbered (4 + 4 * bit_of keyed) octets; protocol = protocol_of octets; rest = 4 + 4 * bit_of keyed + 4 * bit_of numbered } =
-    λ i. record { key = number_at (key i) 4 octets; sequence = number_at (sequence i) (4 + 4 * bit_of (key i)) octets; protocol = protocol_of octets; rest = 4 + 4 * bit_of (key i) + 4 * bit_of (sequence i) } in
+    let at : gre_in octets ≡ record { key = number_at keyed 4 octets; sequence = number_at numbered (4 + 4 * from_bool keyed) octets; protocol = protocol_of octets; rest = 4 + 4 * from_bool keyed + 4 * from_bool numbered } =
+    λ i. record { key = number_at (key i) 4 octets; sequence = number_at (sequence i) (4 + 4 * from_bool (key i)) octets; protocol = protocol_of octets; rest = 4 + 4 * from_bool (key i) + 4 * from_bool (sequence i) } in
     at ∙ (λ i. record {
       key = number_at keyed 4 octets;
-      sequence = number_at numbered (4 + 4 * bit_of keyed) octets;
+      sequence = number_at numbered (4 + 4 * from_bool keyed) octets;
       protocol = protocol_of octets;
-      rest = 4 + 4 * bit_of (sym (is_some-number keyed 4 octets) i) + 4 * bit_of (sym (is_some-number numbered (4 + 4 * bit_of keyed) octets) i);
+      rest = 4 + 4 * from_bool (sym (is_some-number keyed 4 octets) i) + 4 * from_bool (sym (is_some-number numbered (4 + 4 * from_bool keyed) octets) i);
     })
 
 pub reading-passes : (octets : List ℕ) (keyed numbered : Bool) → Passes octets keyed numbered
@@ -51,7 +54,7 @@ reading-passes octets keyed numbered p =
     let fixed : ltb (length octets) 4 ≡ false = le-ltb (length octets) 4 (omega (arith, p.long)) in
     let reserved : has_reserved octets ≡ false = or_from _ _ p.says.first (or_from _ _ p.says.second p.says.third) in
     let paired : (has_key octets && not (has_sequence octets)) ≡ false = (λ i. p.says.key i && not (p.says.sequence i)) ∙ p.paired in
-    let len : header_len octets ≡ 4 + 4 * bit_of keyed + 4 * bit_of numbered = λ i. 4 + 4 * bit_of (p.says.key i) + 4 * bit_of (p.says.sequence i) in
+    let len : header_len octets ≡ 4 + 4 * from_bool keyed + 4 * from_bool numbered = λ i. 4 + 4 * from_bool (p.says.key i) + 4 * from_bool (p.says.sequence i) in
     let long : ltb (length octets) (header_len octets) ≡ false = le-ltb (length octets) (header_len octets) (omega (arith, p.long, len)) in
     rw (fixed, p.says.version, p.says.checksum, reserved, paired, long, p.known) (ap Ok (gre_in-value octets keyed numbered p.says.key p.says.sequence))
 
@@ -61,55 +64,46 @@ known-protocol : (protocol : ℕ) → (protocol ≡ keepalive_protocol) ⊎ (pro
 known-protocol protocol (inl e) = (or_left _ _ (eq-eqb _ _ e), omega (arith, e))
 known-protocol protocol (inr e) = (or_right _ _ (eq-eqb _ _ e), omega (arith, e))
 
+-- octets with these flags, this protocol, and room for what the flags announce pass the tests
+passes-with : (keyed numbered : Bool) (protocol ignored : ℕ) (octets : List ℕ) → ignored < 128
+    → (protocol ≡ keepalive_protocol) ⊎ (protocol ≡ datagram_protocol) → (keyed && not numbered) ≡ false
+    → flags_of octets ≡ from_be_bytes w16 (to_be_bytes w16 (2 ^ 13 * from_bool keyed + 2 ^ 12 * from_bool numbered + 8 * ignored))
+    → protocol_of octets ≡ protocol → 4 + 4 * from_bool keyed + 4 * from_bool numbered ≤ length octets → Passes octets keyed numbered
+passes-with keyed numbered protocol ignored octets few known paired flags kind long =
+    let says = word-says keyed numbered ignored few in
+    let word = flags ∙ from_be_bytes-to_be_bytes_2 _ says.below in
+    record {
+      says = subst (λ (w : ℕ). Says w keyed numbered) (sym word) says;
+      paired = paired;
+      long = long;
+      known = ap is_known_protocol kind ∙ (known-protocol protocol known).0;
+    }
+
 -- the octets pass, and the header stands in them
 record Holds (octets : List ℕ) (header : Header) : Type 0 where
   passes : Passes octets (is_some header.key) (is_some header.sequence)
   value : header_at octets (is_some header.key) (is_some header.sequence) ≡ header
 
-holds : (key sequence : Option ℕ) (protocol ignored : ℕ) (rest : List ℕ) → IsHeader (record { key = key; sequence = sequence; protocol = protocol })
-    → ignored < 128 → Holds (spelling (record { key = key; sequence = sequence; protocol = protocol }) ignored ++ rest) (record { key = key; sequence = sequence; protocol = protocol })
+holds : (key sequence : Option ℕ) (protocol ignored : ℕ) (rest : List ℕ) → IsHeader (header_with key sequence protocol) → ignored < 128
+    → Holds (spelling (header_with key sequence protocol) ignored ++ rest) (header_with key sequence protocol)
 holds None None protocol ignored rest fits few =
-    let says = word-says false false ignored few in
-    let known = known-protocol protocol fits.protocol in
-    let word = from_be_bytes-to_be_bytes_2 _ says.below in
-    let kind = from_be_bytes-to_be_bytes_2 protocol known.1 in
+    let kind = from_be_bytes-to_be_bytes_2 protocol (known-protocol protocol fits.protocol).1 in
     record {
-      passes = record {
-        says = subst (λ (w : ℕ). Says w false false) (sym word) says;
-        paired = refl;
-        long = omega arith;
-        known = ap is_known_protocol kind ∙ known.0;
-      };
-      value = λ i. record { key = None; sequence = None; protocol = kind i };
+      passes = passes-with false false protocol ignored _ few fits.protocol refl refl kind (omega arith);
+      value = λ i. header_with None None (kind i);
     }
 holds None (Some sequence) protocol ignored rest fits few =
-    let says = word-says false true ignored few in
-    let known = known-protocol protocol fits.protocol in
-    let word = from_be_bytes-to_be_bytes_2 _ says.below in
-    let kind = from_be_bytes-to_be_bytes_2 protocol known.1 in
+    let kind = from_be_bytes-to_be_bytes_2 protocol (known-protocol protocol fits.protocol).1 in
     record {
-      passes = record {
-        says = subst (λ (w : ℕ). Says w false true) (sym word) says;
-        paired = refl;
-        long = omega arith;
-        known = ap is_known_protocol kind ∙ known.0;
-      };
-      value = λ i. record { key = None; sequence = Some (from_be_bytes-to_be_bytes_4 sequence fits.sequence i); protocol = kind i };
+      passes = passes-with false true protocol ignored _ few fits.protocol refl refl kind (omega arith);
+      value = λ i. header_with None (Some (from_be_bytes-to_be_bytes_4 sequence fits.sequence i)) (kind i);
     }
 holds (Some key) None protocol ignored rest fits few = absurd (false≢true (fits.paired refl))
 holds (Some key) (Some sequence) protocol ignored rest fits few =
-    let says = word-says true true ignored few in
-    let known = known-protocol protocol fits.protocol in
-    let word = from_be_bytes-to_be_bytes_2 _ says.below in
-    let kind = from_be_bytes-to_be_bytes_2 protocol known.1 in
+    let kind = from_be_bytes-to_be_bytes_2 protocol (known-protocol protocol fits.protocol).1 in
     record {
-      passes = record {
-        says = subst (λ (w : ℕ). Says w true true) (sym word) says;
-        paired = refl;
-        long = omega arith;
-        known = ap is_known_protocol kind ∙ known.0;
-      };
-      value = λ i. record { key = Some (from_be_bytes-to_be_bytes_4 key fits.key i); sequence = Some (from_be_bytes-to_be_bytes_4 sequence fits.sequence i); protocol = kind i };
+      passes = passes-with true true protocol ignored _ few fits.protocol refl refl kind (omega arith);
+      value = λ i. header_with (Some (from_be_bytes-to_be_bytes_4 key fits.key i)) (Some (from_be_bytes-to_be_bytes_4 sequence fits.sequence i)) (kind i);
     }
 
 pub reading-spelled : (header : Header) (rest octets : List ℕ) → Spells header rest octets → reading_of octets ≡ Ok (value_of header)
@@ -120,7 +114,7 @@ reading-spelled header rest octets spells =
 
 -- octets begin with one header at most, and it says what follows
 rest-of : (key sequence : Option ℕ) (protocol ignored : ℕ) (rest : List ℕ) → (IsSome key → IsSome sequence)
-    → drop (4 + 4 * bit_of (is_some key) + 4 * bit_of (is_some sequence)) (spelling (record { key = key; sequence = sequence; protocol = protocol }) ignored ++ rest) ≡ rest
+    → drop (4 + 4 * from_bool (is_some key) + 4 * from_bool (is_some sequence)) (spelling (record { key = key; sequence = sequence; protocol = protocol }) ignored ++ rest) ≡ rest
 rest-of None None protocol ignored rest paired = refl
 rest-of None (Some sequence) protocol ignored rest paired = refl
 rest-of (Some key) None protocol ignored rest paired = absurd (false≢true (paired refl))
@@ -142,57 +136,53 @@ rest-spelled header rest octets spells =
 known-back : (protocol : ℕ) → is_known_protocol protocol ≡ true → (protocol ≡ keepalive_protocol) ⊎ (protocol ≡ datagram_protocol)
 known-back protocol known = elim (or_cases _ _ known) [ inl e ↦ inl (eqb-true _ _ e) | inr e ↦ inr (eqb-true _ _ e) ]
 
+-- a number that is read where its flag says so, and what follows it
+number-back : (flag : Bool) (at : ℕ) (octets : List ℕ) → AreOctets octets → at + 4 * from_bool flag ≤ length octets
+    → optional_word (number_at flag at octets) ++ drop (at + 4 * from_bool flag) octets ≡ drop at octets
+number-back true at octets are long = u32-back at octets are long
+number-back false at octets are long = let none : at + 0 ≡ at = omega arith in ap (λ (n : ℕ). drop n octets) none
+
+number-fits : (flag : Bool) (at : ℕ) (octets : List ℕ) → AreOctets octets → IfSome (number_at flag at octets) (λ n. n < 2 ^ 32)
+number-fits true at octets are = u32-fits at octets are
+number-fits false at octets are = tt
+
+paired-back : (keyed numbered : Bool) (at : ℕ) (octets : List ℕ) → (keyed && not numbered) ≡ false
+    → IsSome (number_at keyed 4 octets) → IsSome (number_at numbered at octets)
+paired-back true true at octets paired some = refl
+paired-back true false at octets paired some = absurd (false≢true (sym paired))
+paired-back false numbered at octets paired some = absurd (false≢true some)
+
 back : (octets : List ℕ) (keyed numbered : Bool) → AreOctets octets → Passes octets keyed numbered
-    → Spells (header_at octets keyed numbered) (drop (4 + 4 * bit_of keyed + 4 * bit_of numbered) octets) octets
-back (a ∷ b ∷ c ∷ d ∷ rest) false false are p =
-    let octets : List ℕ = a ∷ b ∷ c ∷ d ∷ rest in
-    let word-is = word-back (flags_of octets) false false p.says in
-    let word = be_bytes_2 (a ∷ b ∷ []) (flags_of octets) refl (AreOctets-take 2 octets are).each refl in
-    let kind = be_bytes_2 (c ∷ d ∷ []) (protocol_of octets) refl (AreOctets-take 2 (drop 2 octets) (AreOctets-drop 2 octets are)).each refl in
-    record {
-      fits = record { key = tt; sequence = tt; paired = λ e. e; protocol = known-back (protocol_of octets) p.known };
-      ignored = flags_of octets / 8 % 128;
-      ignored_fits = omega arith;
-      whole = λ i. (sym word ∙ ap (to_be_bytes w16) word-is) i ++ (sym kind i ++ rest);
-    }
-back (a ∷ b ∷ c ∷ d ∷ e ∷ f ∷ g ∷ h ∷ rest) false true are p =
-    let octets : List ℕ = a ∷ b ∷ c ∷ d ∷ e ∷ f ∷ g ∷ h ∷ rest in
-    let word-is = word-back (flags_of octets) false true p.says in
-    let word = be_bytes_2 (a ∷ b ∷ []) (flags_of octets) refl (AreOctets-take 2 octets are).each refl in
-    let kind = be_bytes_2 (c ∷ d ∷ []) (protocol_of octets) refl (AreOctets-take 2 (drop 2 octets) (AreOctets-drop 2 octets are)).each refl in
-    let sequence = be_bytes_4 (e ∷ f ∷ g ∷ h ∷ []) (from_be_bytes w32 (e ∷ f ∷ g ∷ h ∷ [])) refl (AreOctets-take 4 (drop 4 octets) (AreOctets-drop 4 octets are)).each refl in
-    record {
-      fits = record { key = tt; sequence = omega (arith, are.each 4, are.each 5, are.each 6, are.each 7); paired = λ e. refl; protocol = known-back (protocol_of octets) p.known };
-      ignored = flags_of octets / 8 % 128;
-      ignored_fits = omega arith;
-      whole = λ i. (sym word ∙ ap (to_be_bytes w16) word-is) i ++ (sym kind i ++ (sym sequence i ++ rest));
-    }
-back (a ∷ b ∷ c ∷ d ∷ e ∷ f ∷ g ∷ h ∷ j ∷ k ∷ l ∷ m ∷ rest) true true are p =
-    let octets : List ℕ = a ∷ b ∷ c ∷ d ∷ e ∷ f ∷ g ∷ h ∷ j ∷ k ∷ l ∷ m ∷ rest in
-    let word-is = word-back (flags_of octets) true true p.says in
-    let word = be_bytes_2 (a ∷ b ∷ []) (flags_of octets) refl (AreOctets-take 2 octets are).each refl in
-    let kind = be_bytes_2 (c ∷ d ∷ []) (protocol_of octets) refl (AreOctets-take 2 (drop 2 octets) (AreOctets-drop 2 octets are)).each refl in
-    let key = be_bytes_4 (e ∷ f ∷ g ∷ h ∷ []) (from_be_bytes w32 (e ∷ f ∷ g ∷ h ∷ [])) refl (AreOctets-take 4 (drop 4 octets) (AreOctets-drop 4 octets are)).each refl in
-    let sequence = be_bytes_4 (j ∷ k ∷ l ∷ m ∷ []) (from_be_bytes w32 (j ∷ k ∷ l ∷ m ∷ [])) refl (AreOctets-take 4 (drop 8 octets) (AreOctets-drop 8 octets are)).each refl in
+    → Spells (header_at octets keyed numbered) (drop (4 + 4 * from_bool keyed + 4 * from_bool numbered) octets) octets
+back octets keyed numbered are p =
+    let at : ℕ = 4 + 4 * from_bool keyed in
+    let ignored : ℕ = flags_of octets / 8 % 128 in
+    let rest : List ℕ = drop (at + 4 * from_bool numbered) octets in
+    let kind : List ℕ = to_be_bytes w16 (protocol_of octets) in
+    let key : List ℕ = optional_word (number_at keyed 4 octets) in
+    let sequence : List ℕ = optional_word (number_at numbered at octets) in
+    let flags : List ℕ = to_be_bytes w16 (flags_word (header_at octets keyed numbered) ignored) in
+    let word : flags_of octets ≡ flags_word (header_at octets keyed numbered) ignored =
+    word-back (flags_of octets) keyed numbered p.says
+    ∙ (λ i. 2 ^ 13 * from_bool (sym (is_some-number keyed 4 octets) i) + 2 ^ 12 * from_bool (sym (is_some-number numbered at octets) i) + 8 * ignored) in
+    let after-key : drop 4 octets ≡ key ++ (sequence ++ rest) =
+    sym (number-back keyed 4 octets are (omega (arith, p.long))) ∙ ap (λ (x : List ℕ). key ++ x) (sym (number-back numbered at octets are p.long)) in
+    let after-flags : drop 2 octets ≡ kind ++ (key ++ (sequence ++ rest)) =
+    sym (u16-back 2 octets are (omega (arith, p.long))) ∙ ap (λ (x : List ℕ). kind ++ x) after-key in
+    let all : octets ≡ flags ++ (kind ++ (key ++ (sequence ++ rest))) =
+    sym (u16-back 0 octets are (omega (arith, p.long))) ∙ (λ i. to_be_bytes w16 (word i) ++ after-flags i) in
+    let regrouped : (flags ++ (kind ++ (key ++ sequence))) ++ rest ≡ flags ++ (kind ++ (key ++ (sequence ++ rest))) = simp append_assoc in
     record {
       fits = record {
-        key = omega (arith, are.each 4, are.each 5, are.each 6, are.each 7);
-        sequence = omega (arith, are.each 8, are.each 9, are.each 10, are.each 11);
-        paired = λ e. refl;
+        key = number-fits keyed 4 octets are;
+        sequence = number-fits numbered at octets are;
+        paired = paired-back keyed numbered at octets p.paired;
         protocol = known-back (protocol_of octets) p.known;
       };
-      ignored = flags_of octets / 8 % 128;
+      ignored = ignored;
       ignored_fits = omega arith;
-      whole = λ i. (sym word ∙ ap (to_be_bytes w16) word-is) i ++ (sym kind i ++ (sym key i ++ (sym sequence i ++ rest)));
+      whole = all ∙ sym regrouped;
     }
-back octets true false are p = absurd (false≢true (sym p.paired))
-back octets false false are p = absurd (omega (arith, p.long))
-back octets false true are p = absurd (omega (arith, p.long))
-back octets true true are p = absurd (omega (arith, p.long))
-
-passed : {X : Type 0} (test : Bool) (bad : GreBad) (rest : Result X GreBad) (value : X) → cond test (Err bad) rest ≡ Ok value → (test ≡ false) × (rest ≡ Ok value)
-passed true bad rest value e = absurd cc
-passed false bad rest value e = (refl, e)
 
 record IsReadFrom (octets : List ℕ) (value : Gre) : Type 0 where
   passes : Passes octets (has_key octets) (has_sequence octets)
@@ -226,7 +216,7 @@ reading-ok octets value are e =
           third = later.1;
           key = refl;
           sequence = refl;
-          below = omega (arith, (AreOctets-take 2 octets are).each 0, (AreOctets-take 2 octets are).each 1);
+          below = u16-fits 0 octets are;
         };
         paired = five.0;
         long = ltb-false (length octets) (header_len octets) six.0;
@@ -253,7 +243,7 @@ found_from octets (Ok value) are e = reading-spells octets value are (sym e)
 found_from octets (Err bad) are e = tt
 
 -- ---- what is written is read
-ignored-few : (long : Bool) → ignored_with long < 128
+pub ignored-few : (long : Bool) → ignored_with long < 128
 ignored-few true = omega arith
 ignored-few false = omega arith
 

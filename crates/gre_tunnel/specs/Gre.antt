@@ -1,7 +1,7 @@
 -- GRE headers in UDP (RFC 2784, section 2; RFC 2890, section 2; RFC 8086, section 3), and which octets
 -- begin with one. No checksum stands in a header that is taken.
-use Rattle.std.specs.Prelude.{◌≡◌, ◌⊎◌, ℕ, ◌+◌, ◌*◌, ◌^◌, ◌<◌, Bool, List, [], ◌++◌, if◌then◌else◌, Option, Some, None, is_some, IfSome, IsSome}
-use Rattle.std.specs.Int.{w16, w32, to_be_bytes}
+use Rattle.std.specs.Prelude.{◌≡◌, ◌⊎◌, ℕ, ◌+◌, ◌*◌, ◌^◌, ◌<◌, List, [], ◌++◌, Option, Some, None, is_some, IfSome, IsSome}
+use Rattle.std.specs.Int.{w16, w32, to_be_bytes, from_bool}
 
 -- the protocols of the tunnel (this profile): IEEE's local experimental EtherTypes, for a keepalive
 -- and for a datagram with reduced overhead
@@ -24,15 +24,11 @@ pub record IsHeader (header : Header) : Type 0 where
   pub paired : IsSome header.key → IsSome header.sequence
   pub protocol : (header.protocol ≡ keepalive_protocol) ⊎ (header.protocol ≡ datagram_protocol)
 
--- a flag as its bit
-abbrev pub bit_of : Bool → ℕ
-bit_of flag = if flag then 1 else 0
-
 -- the first half of the first word: the flags of key and sequence number, seven bits that are ignored,
 -- and the version 0
 abbrev pub flags_word : Header → ℕ → ℕ
 flags_word header ignored =
-    2 ^ 13 * bit_of (is_some header.key) + 2 ^ 12 * bit_of (is_some header.sequence) + 8 * ignored
+    2 ^ 13 * from_bool (is_some header.key) + 2 ^ 12 * from_bool (is_some header.sequence) + 8 * ignored
 
 -- a number of 32 bits, where it is there
 abbrev pub optional_word : Option ℕ → List ℕ

@@ -1,16 +1,17 @@
 -- What is read of octets as a GRE header: the header and where the rest begins, or the first test that
 -- fails. Bits are counted from the least significant of the first two octets, a word of 16 bits.
 use Rattle.std.specs.Prelude.{ℕ, ◌+◌, ◌*◌, ◌%◌, Bool, ◌&&◌, ◌||◌, not, List, length, take, drop, if◌then◌else◌, ◌==◌, nat_lt, Option, Some, None, is_some, Result, Ok, Err}
-use Rattle.std.specs.Int.{w16, w32, from_be_bytes, bit_at}
+use Rattle.std.specs.Int.{w16, w32, from_be_bytes, bit_at, from_bool}
 use Rattle.gre_tunnel.specs.declared.gre.Gre.{Gre}
 use Rattle.gre_tunnel.specs.declared.gre.GreBad.{GreBad}
 use Rattle.gre_tunnel.specs.declared.gre.GreBad.TheVariants.{Short, Version, Checksum, Reserved, KeyedNoSequence, Protocol}
-use Rattle.gre_tunnel.specs.Gre.{Header, bit_of, keepalive_protocol, datagram_protocol}
+use Rattle.gre_tunnel.specs.Gre.{Header, keepalive_protocol, datagram_protocol}
 
 -- the flags and the version
 abbrev pub flags_of : List ℕ → ℕ
 flags_of octets = from_be_bytes w16 (take 2 octets)
 
+-- the EtherType of what follows the header
 abbrev pub protocol_of : List ℕ → ℕ
 protocol_of octets = from_be_bytes w16 (take 2 (drop 2 octets))
 
@@ -18,6 +19,7 @@ protocol_of octets = from_be_bytes w16 (take 2 (drop 2 octets))
 abbrev pub is_set : List ℕ → ℕ → Bool
 is_set octets k = bit_at (flags_of octets) k == 1
 
+-- the flags of a key and of a sequence number
 abbrev pub has_key : List ℕ → Bool
 has_key octets = is_set octets 13
 
@@ -30,7 +32,7 @@ has_reserved octets = is_set octets 14 || (is_set octets 11 || is_set octets 10)
 
 -- how long the header is
 abbrev pub header_len : List ℕ → ℕ
-header_len octets = 4 + 4 * bit_of (has_key octets) + 4 * bit_of (has_sequence octets)
+header_len octets = 4 + 4 * from_bool (has_key octets) + 4 * from_bool (has_sequence octets)
 
 -- the number of 32 bits at this place, where it is there
 abbrev pub number_at : Bool → ℕ → List ℕ → Option ℕ
@@ -40,11 +42,12 @@ number_at flag at octets = if flag then Some (from_be_bytes w32 (take 4 (drop at
 abbrev pub gre_in : List ℕ → Gre
 gre_in octets = record {
   key = number_at (has_key octets) 4 octets;
-  sequence = number_at (has_sequence octets) (4 + 4 * bit_of (has_key octets)) octets;
+  sequence = number_at (has_sequence octets) (4 + 4 * from_bool (has_key octets)) octets;
   protocol = protocol_of octets;
   rest = header_len octets;
 }
 
+-- one of the tunnel's two
 abbrev pub is_known_protocol : ℕ → Bool
 is_known_protocol protocol = (protocol == keepalive_protocol) || (protocol == datagram_protocol)
 
@@ -66,5 +69,5 @@ value_of header = record {
   key = header.key;
   sequence = header.sequence;
   protocol = header.protocol;
-  rest = 4 + 4 * bit_of (is_some header.key) + 4 * bit_of (is_some header.sequence);
+  rest = 4 + 4 * from_bool (is_some header.key) + 4 * from_bool (is_some header.sequence);
 }

@@ -1,9 +1,10 @@
-ghost use Rattle.std.specs.Prelude.{◌≡◌, ◌+◌, ◌*◌, ◌%◌, ◌<◌, ◌≤◌, ◌||◌, ◌==◌, ℕ, List, IfOk, Ok, length, take, drop};
-ghost use Rattle.std.specs.Int.{w16, w32, from_be_bytes, bit_at};
-ghost use Rattle.gre_tunnel.specs.Gre.{Header, Spells, bit_of};
+ghost use Rattle.std.specs.Prelude.{◌≡◌, ◌+◌, ◌*◌, ◌%◌, ◌<◌, ◌≤◌, ◌||◌, ◌==◌, ℕ, List, IfOk, Ok, length, drop};
+ghost use Rattle.std.specs.Int.{bit_at, from_bool};
+ghost use Rattle.gre_tunnel.specs.Gre.{Header, Spells};
 ghost use Rattle.gre_tunnel.specs.Reading.{number_at, is_known_protocol, reading_of, value_of};
 
 use crate::gre::{Gre, GreBad};
+use octet_fields::{is_set, u16_at, u32_at};
 
 /// The protocol of a keepalive (this profile).
 pub const KEEPALIVE: u16 = 0x88b5;
@@ -23,13 +24,6 @@ struct Flags {
     sequence: bool,
 }
 
-fn is_set(word: u16, bit: u32) -> bool
-    requires { bit < 16 }
-    ensures { result ≡ (bit_at word bit == 1) }
-{
-    (word >> bit) & 1 == 1
-}
-
 fn flags_of(word: u16) -> Flags
     ensures version { result.version ≡ word % 8 }
     ensures checksum { result.checksum ≡ (bit_at word 15 == 1) }
@@ -46,22 +40,15 @@ fn flags_of(word: u16) -> Flags
     }
 }
 
-fn u16_at(octets: &[u8], at: usize) -> u16
-    requires { at + 2 ≤ length octets.now }
-    ensures { result ≡ from_be_bytes w16 (take 2 (drop at octets.now)) }
-{
-    u16::from_be_bytes([octets[at], octets[at + 1]])
-}
-
 // The number at this place, where the flag says that it is there.
 fn number_at(flag: bool, at: usize, octets: &[u8]) -> Option<u32>
-    requires { at + 4 * bit_of flag ≤ length octets.now }
+    requires { at + 4 * from_bool flag ≤ length octets.now }
     ensures { result ≡ number_at flag at octets.now }
 {
     if !flag {
         return None;
     }
-    Some(u32::from_be_bytes([octets[at], octets[at + 1], octets[at + 2], octets[at + 3]]))
+    Some(u32_at(octets, at))
 }
 
 fn is_known(protocol: u16) -> bool

@@ -1,7 +1,10 @@
-ghost use Rattle.std.specs.Prelude.{◌≡◌, ◌⊎◌, ◌+◌, ◌*◌, ◌^◌, ◌<◌, ◌≤◌, ◌++◌, ℕ, List, Ok, IfSome, IsSome, IsTrue, length, take, drop};
-ghost use Rattle.gre_tunnel.specs.Gre.{bit_of, optional_word, spelling, keepalive_protocol, datagram_protocol};
+ghost use Rattle.std.specs.Prelude.{◌≡◌, ◌⊎◌, ◌+◌, ◌^◌, ◌<◌, ◌≤◌, ◌++◌, ℕ, List, Ok, IfSome, IsSome, IsTrue, length, take, drop};
+ghost use Rattle.octet_fields.specs.Writing.{KeepsFrom};
+ghost use Rattle.gre_tunnel.specs.Gre.{optional_word, spelling, keepalive_protocol, datagram_protocol};
 ghost use Rattle.gre_tunnel.specs.Reading.{reading_of, value_of};
-ghost use Rattle.gre_tunnel.specs.Writing.{header_with, ignored_with, KeepsFrom};
+ghost use Rattle.gre_tunnel.specs.Writing.{header_with, ignored_with};
+
+use octet_fields::put_at;
 
 const KEY: u16 = 0x2000;
 
@@ -9,18 +12,6 @@ const SEQUENCE: u16 = 0x1000;
 
 // An ignored bit: the key has 32 octets (this profile).
 const LONG_KEY: u16 = 0x0040;
-
-// Copies a part to its place, and says where it ends.
-fn put(out: &mut [u8], at: usize, part: &[u8]) -> usize
-    requires room { at + length part.now ≤ length out.old }
-    ensures end { result ≡ at + length part.now }
-    ensures octets { take result out.new ≡ take at out.old ++ part.now }
-    ensures rest { KeepsFrom result out.old out.new }
-{
-    let end = at + part.len();
-    out[at..end].copy_from_slice(part);
-    end
-}
 
 // Writes a number of 32 bits, where it is there.
 fn put_number(out: &mut [u8], at: usize, number: Option<u32>) -> usize
@@ -31,15 +22,9 @@ fn put_number(out: &mut [u8], at: usize, number: Option<u32>) -> usize
     ensures rest { KeepsFrom result out.old out.new }
 {
     match number {
-        Some(number) => put(out, at, &number.to_be_bytes()),
+        Some(number) => put_at(out, at, &number.to_be_bytes()),
         None => at,
     }
-}
-
-fn flag(is_set: bool, mask: u16) -> u16
-    ensures { result ≡ mask * bit_of is_set }
-{
-    if is_set { mask } else { 0 }
 }
 
 /// Writes a header at the front of `out`, and says how many octets it has. `long` says that the key has
@@ -61,11 +46,11 @@ pub fn write(
     // What is written is read back as it was given, whatever follows it.
     ensures read_back { (more : List ℕ) → reading_of (take result out.new ++ more) ≡ Ok (value_of (header_with key sequence protocol)) }
 {
-    let flags = flag(key.is_some(), KEY)
-        + flag(sequence.is_some(), SEQUENCE)
-        + flag(long, LONG_KEY);
-    let at = put(out, 0, &flags.to_be_bytes());
-    let at = put(out, at, &protocol.to_be_bytes());
+    let flags = KEY * u16::from(key.is_some())
+        + SEQUENCE * u16::from(sequence.is_some())
+        + LONG_KEY * u16::from(long);
+    let at = put_at(out, 0, &flags.to_be_bytes());
+    let at = put_at(out, at, &protocol.to_be_bytes());
     let at = put_number(out, at, key);
     put_number(out, at, sequence)
 }

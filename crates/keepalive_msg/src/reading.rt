@@ -1,4 +1,4 @@
-ghost use Rattle.std.specs.Prelude.{◌≡◌, ℕ, List, IfOk, Ok};
+ghost use Rattle.std.specs.Prelude.{◌≡◌, IfOk, Ok};
 ghost use Rattle.keepalive_msg.specs.Keepalive.{Message, Spells};
 ghost use Rattle.keepalive_msg.specs.Reading.{reading_of, value_of};
 

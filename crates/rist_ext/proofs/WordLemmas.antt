@@ -1,16 +1,17 @@
 -- The word that stands in octets, from a spelling and back to it.
 use Rattle.std.proofs.Common.{◌≡◌, ℕ, zero, suc, ◌+◌, ◌-◌, ◌*◌, ◌/◌, ◌%◌, ◌^◌, ◌<◌, ◌≤◌, Bool, true, false, cond, List, [], ◌∷◌, length, get_or, Option, Some, None, Result, Ok, Err, refl, sym, ap, subst, ◌∙◌, arith}
 use Rattle.std.specs.Prelude.{IfSome, IfOk, is_some, ◌==◌, ◌&&◌, not}
-use Rattle.std.specs.Int.{w16, from_be_bytes, to_be_bytes, bit_at}
+use Rattle.std.specs.Int.{w16, from_be_bytes, to_be_bytes, bit_at, from_bool}
 use Rattle.std.proofs.lemmas.Bool.{eq-eqb, ne_eqb, eqb-true, not-false, false≢true}
-use Rattle.std.proofs.lemmas.Bool.Decides.{nat_tests}
 use Rattle.std.proofs.lemmas.Nat.{shr_split, mod_low, pow_pos, mod_below, from_be_bytes-to_be_bytes_2, be_bytes_2}
-use Rattle.std.proofs.lemmas.Nat.Bits.{bit_at-lt}
+use Rattle.octet_fields.proofs.OctetLemmas.{AreOctets}
+use Rattle.octet_fields.proofs.FlagLemmas.{from_bool-most, flag-is, bit-is, high_flag-says}
+use Rattle.octet_fields.proofs.TestLemmas.{passed}
 use Rattle.ts_nulls.specs.Shape.{Shape, IsShape}
 use Rattle.rist_ext.specs.declared.ext_word.ExtWord.{ExtWord}
 use Rattle.rist_ext.specs.declared.ext_word.ExtBad.{ExtBad}
 use Rattle.rist_ext.specs.declared.ext_word.ExtBad.TheVariants.{Profile, Length, Size}
-use Rattle.rist_ext.specs.Extension.{unread_in, bit_of, size_of, second_octet, upper_of, spelling, Spells, nothing_unread}
+use Rattle.rist_ext.specs.Extension.{unread_in, size_of, second_octet, upper_of, spelling, Spells, nothing_unread}
 use Rattle.rist_ext.specs.Reading.{units_in, has_strip, nulls_in, strip_in, upper_in, word_in, reading_of}
 
 -- the bits without those past the last packet are a multiple of the last packet's
@@ -32,17 +33,14 @@ record Says (first : ℕ) (stripped wide : Bool) (units : ℕ) : Type 0 where
   upper : (bit_at first 6 == 1) ≡ wide
   units_are : units_in first ≡ units
 
-first-says : (stripped wide : Bool) (units reserved : ℕ) → units < 8 → reserved < 8 → Says (128 * bit_of stripped + 64 * bit_of wide + 8 * units + reserved) stripped wide units
-first-says true true units reserved lt few = record { strip = eq-eqb _ _ (omega arith); upper = eq-eqb _ _ (omega arith); units_are = omega arith }
-first-says true false units reserved lt few = record { strip = eq-eqb _ _ (omega arith); upper = ne_eqb _ _ (λ e. omega arith); units_are = omega arith }
-first-says false true units reserved lt few = record { strip = ne_eqb _ _ (λ e. omega arith); upper = eq-eqb _ _ (omega arith); units_are = omega arith }
-first-says false false units reserved lt few = record { strip = ne_eqb _ _ (λ e. omega arith); upper = ne_eqb _ _ (λ e. omega arith); units_are = omega arith }
+first-says : (stripped wide : Bool) (units reserved : ℕ) → units < 8 → reserved < 8 → Says (128 * from_bool stripped + 64 * from_bool wide + 8 * units + reserved) stripped wide units
+first-says stripped wide units reserved lt few =
+    let strip = from_bool-most stripped in
+    let upper = from_bool-most wide in
+    record { strip = flag-is _ stripped (omega (arith, strip, upper)); upper = flag-is _ wide (omega (arith, strip, upper)); units_are = omega (arith, strip, upper) }
 
-bit-is : (octet k : ℕ) → bit_of (bit_at octet k == 1) ≡ bit_at octet k
-bit-is octet k = grind (arith, nat_tests, bit_at-lt octet k)
-
-first-back : (first : ℕ) → first < 256 → first ≡ 128 * bit_of (has_strip first) + 64 * bit_of (bit_at first 6 == 1) + 8 * units_in first + first % 8
-first-back first lt = rw (bit-is first 7, bit-is first 6) (omega arith)
+first-back : (first : ℕ) → first < 256 → first ≡ 128 * from_bool (has_strip first) + 64 * from_bool (bit_at first 6 == 1) + 8 * units_in first + first % 8
+first-back first lt = omega (arith, bit-is first 7 _ refl, bit-is first 6 _ refl)
 
 -- the bits with unread ones past the last packet
 record Masks (units nulls unread : ℕ) : Type 0 where
@@ -60,10 +58,6 @@ masks (suc (suc (suc (suc (suc (suc zero)))))) nulls unread s lt = record { fits
 masks (suc (suc (suc (suc (suc (suc (suc zero))))))) nulls unread s lt = record { fits = omega (arith, s.clear, s.below, lt); masked = omega (arith, s.clear, s.below, lt) }
 masks (suc (suc (suc (suc (suc (suc (suc (suc units)))))))) nulls unread s lt = absurd (omega (arith, s.few))
 
-long-says : (long : Bool) (low : ℕ) → low < 128 → ((bit_at (128 * bit_of long + low) 7 == 1) ≡ long) × ((128 * bit_of long + low) % 128 ≡ low)
-long-says true low lt = (eq-eqb _ _ (omega arith), omega arith)
-long-says false low lt = (ne_eqb _ _ (λ e. omega arith), omega arith)
-
 -- ---- what is spelled is read
 
 strip-spelled : (strip : Option Shape) (first second size unread : ℕ) → has_strip first ≡ is_some strip → units_in first ≡ size_of strip size
@@ -72,8 +66,8 @@ strip-spelled None first second size unread has units-are e fits lt =
     λ i. cond (has i) (Some (record { units = units_in first; long = bit_at second 7 == 1; nulls = nulls_in (units_in first) second })) None
 strip-spelled (Some shape) first second size unread has units-are e fits lt =
     let m = masks shape.units shape.nulls unread fits lt in
-    let same : second ≡ 128 * bit_of shape.long + (shape.nulls + unread) = omega (arith, e) in
-    let says = long-says shape.long (shape.nulls + unread) m.fits in
+    let same : second ≡ 128 * from_bool shape.long + (shape.nulls + unread) = omega (arith, e) in
+    let says = high_flag-says shape.long (shape.nulls + unread) m.fits in
     let long-is : (bit_at second 7 == 1) ≡ shape.long = ap (λ (n : ℕ). bit_at n 7 == 1) same ∙ says.0 in
     let low : second % 128 ≡ shape.nulls + unread = ap (λ (n : ℕ). n % 128) same ∙ says.1 in
     let nulls-are : nulls_in (units_in first) second ≡ shape.nulls = (λ i. low i - low i % 2 ^ (7 - units-are i)) ∙ m.masked in
@@ -102,7 +96,7 @@ reading-spelled word octets spells =
     let u = spells.unread in
     let says = first-says (is_some word.strip) (is_some word.upper) (size_of word.strip u.size) u.reserved (size-fits word.strip u.size spells.fits.strip spells.unread_fits.size) spells.unread_fits.reserved in
     let all : List ℕ = spelling word u in
-    let first : ℕ = 128 * bit_of (is_some word.strip) + 64 * bit_of (is_some word.upper) + 8 * size_of word.strip u.size + u.reserved in
+    let first : ℕ = 128 * from_bool (is_some word.strip) + 64 * from_bool (is_some word.upper) + 8 * size_of word.strip u.size + u.reserved in
     let strip = strip-spelled word.strip first (second_octet word.strip u.second) u.size u.second says.strip says.units_are refl spells.fits.strip spells.unread_fits.second in
     let upper = upper-spelled word.upper first u.upper says.upper spells.fits.upper in
     let same : word_in octets ≡ word = ap word_in spells.whole ∙ (λ i. record { strip = strip i; upper = upper i }) in
@@ -123,7 +117,7 @@ strip-back true first second lt lt2 has some =
     × (second ≡ second_octet s unread) × (is_some s ≡ true) × (size_of s units ≡ units) in
     let pow = pow_pos (7 - units) in
     let le = shr_split (second % 128) (7 - units) in
-    let bit = bit-is second 7 in
+    let bit = bit-is second 7 _ refl in
     subst P is (second % 128 % 2 ^ (7 - units), nulls_in-shape units second (let h = some refl in omega (arith, h)) (omega arith), mod_below (second % 128) (2 ^ (7 - units)) pow, omega (arith, bit, le), refl, refl)
 strip-back false first second lt lt2 has some =
     let is : None ≡ strip_in first second = λ i. cond (sym has i) (Some (record { units = units_in first; long = bit_at second 7 == 1; nulls = nulls_in (units_in first) second })) None in
@@ -162,14 +156,10 @@ word-back a b c d lta ltb ltc ltd good =
       fits = record { strip = strip.1; upper = upper.0 };
       unread = record { reserved = a % 8; size = units_in a; second = strip.0; upper = from_be_bytes w16 (c ∷ d ∷ []) };
       unread_fits = record { reserved = omega arith; size = omega arith; second = strip.2; upper = omega (arith, ltc, ltd) };
-      whole = λ i. (first-back a lta ∙ (λ j. 128 * bit_of (sym strip.4 j) + 64 * bit_of (sym upper.2 j) + 8 * sym strip.5 j + a % 8)) i ∷ strip.3 i ∷ upper.1 i;
+      whole = λ i. (first-back a lta ∙ (λ j. 128 * from_bool (sym strip.4 j) + 64 * from_bool (sym upper.2 j) + 8 * sym strip.5 j + a % 8)) i ∷ strip.3 i ∷ upper.1 i;
     }
 
-passed : {X : Type 0} (test : Bool) (bad : ExtBad) (rest : Result X ExtBad) (value : X) → cond test (Err bad) rest ≡ Ok value → (test ≡ false) × (rest ≡ Ok value)
-passed true bad rest value e = absurd cc
-passed false bad rest value e = (refl, e)
-
-four : (octets : List ℕ) (word : ExtWord) → ((i : ℕ) → get_or octets i 0 < 256) → length octets ≡ 4
+four : (octets : List ℕ) (word : ExtWord) → AreOctets octets → length octets ≡ 4
     → (has_strip (get_or octets 0 0) && (units_in (get_or octets 0 0) == 0)) ≡ false → word_in octets ≡ word → Spells word octets
 four [] word are len good is = absurd (omega (arith, len))
 four (a ∷ []) word are len good is = absurd (omega (arith, len))
@@ -179,7 +169,7 @@ four (a ∷ b ∷ c ∷ d ∷ []) word are len good is =
     subst (λ (w : ExtWord). Spells w (a ∷ b ∷ c ∷ d ∷ [])) is (word-back a b c d (are 0) (are 1) (are 2) (are 3) good)
 four (a ∷ b ∷ c ∷ d ∷ e ∷ octets) word are len good is = absurd (omega (arith, len))
 
-reading-spells : (profile : ℕ) (octets : List ℕ) (word : ExtWord) → ((i : ℕ) → get_or octets i 0 < 256) → reading_of profile octets ≡ Ok word → Spells word octets
+reading-spells : (profile : ℕ) (octets : List ℕ) (word : ExtWord) → AreOctets octets → reading_of profile octets ≡ Ok word → Spells word octets
 unfolding reading_of
 reading-spells profile octets word are e =
     let sized : Result ExtWord ExtBad = cond (has_strip (get_or octets 0 0) && (units_in (get_or octets 0 0) == 0)) (Err Size) (Ok (word_in octets)) in
@@ -190,7 +180,7 @@ reading-spells profile octets word are e =
     let same : word_in octets ≡ word = cc in
     four octets word are (eqb-true (length octets) 4 (not-false (length octets == 4) two.0)) three.0 same
 
-pub found_from : (profile : ℕ) (octets : List ℕ) (answer : Result ExtWord ExtBad) → ((i : ℕ) → get_or octets i 0 < 256) → answer ≡ reading_of profile octets
+pub found_from : (profile : ℕ) (octets : List ℕ) (answer : Result ExtWord ExtBad) → AreOctets octets → answer ≡ reading_of profile octets
     → IfOk answer (λ word. Spells word octets)
 found_from profile octets (Ok word) are e = reading-spells profile octets word are (sym e)
 found_from profile octets (Err bad) are e = tt

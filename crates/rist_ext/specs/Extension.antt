@@ -1,7 +1,7 @@
 -- The RIST extension of an RTP header (this profile), and which octets spell it: one word of 32 bits under
 -- the profile word 0x5249.
-use Rattle.std.specs.Prelude.{◌≡◌, ℕ, ◌+◌, ◌-◌, ◌*◌, ◌^◌, ◌<◌, Bool, List, ◌∷◌, if◌then◌else◌, Option, Some, None, is_some, IfSome}
-use Rattle.std.specs.Int.{w16, to_be_bytes}
+use Rattle.std.specs.Prelude.{◌≡◌, ℕ, ◌+◌, ◌-◌, ◌*◌, ◌^◌, ◌<◌, List, ◌∷◌, Option, Some, None, is_some, IfSome}
+use Rattle.std.specs.Int.{w16, to_be_bytes, from_bool}
 use Rattle.ts_nulls.specs.Shape.{Shape, IsShape}
 use Rattle.rist_ext.specs.declared.ext_word.ExtWord.{ExtWord}
 
@@ -30,10 +30,6 @@ pub record IsUnread (word : ExtWord) (unread : Unread) : Type 0 where
   pub second : unread.second < unread_in word.strip
   pub upper : unread.upper < 2 ^ 16
 
--- a flag as its bit
-abbrev pub bit_of : Bool → ℕ
-bit_of flag = if flag then 1 else 0
-
 -- the size, in three bits: how many packets there were
 abbrev pub size_of : Option Shape → ℕ → ℕ
 size_of None unread = unread
@@ -42,7 +38,7 @@ size_of (Some shape) unread = shape.units
 -- the flag of packets of 204 octets, and a bit for each packet that was null
 abbrev pub second_octet : Option Shape → ℕ → ℕ
 second_octet None unread = unread
-second_octet (Some shape) unread = 128 * bit_of shape.long + shape.nulls + unread
+second_octet (Some shape) unread = 128 * from_bool shape.long + shape.nulls + unread
 
 -- the upper half of the number
 abbrev pub upper_of : Option ℕ → ℕ → ℕ
@@ -52,7 +48,7 @@ upper_of (Some upper) unread = upper
 -- the flags N and E, the size, the reserved bits; then the nulls, then the upper half
 abbrev pub spelling : ExtWord → Unread → List ℕ
 spelling word unread =
-    (128 * bit_of (is_some word.strip) + 64 * bit_of (is_some word.upper) + 8 * size_of word.strip unread.size + unread.reserved)
+    (128 * from_bool (is_some word.strip) + 64 * from_bool (is_some word.upper) + 8 * size_of word.strip unread.size + unread.reserved)
     ∷ second_octet word.strip unread.second ∷ to_be_bytes w16 (upper_of word.upper unread.upper)
 
 -- The octets spell the word, with some bits that aren't read.

@@ -1,17 +1,10 @@
-ghost use Rattle.std.specs.Prelude.{◌≡◌, ◌-◌, ◌%◌, ◌^◌, ◌<◌, ◌≤◌, ◌==◌, ◌*◌, [], ◌∷◌, true};
-ghost use Rattle.std.specs.Int.{bit_at};
+ghost use Rattle.std.specs.Prelude.{◌≡◌, ◌-◌, ◌%◌, ◌<◌, ◌≤◌, ◌==◌, ◌*◌, [], ◌∷◌, true};
 ghost use Rattle.ts_nulls.specs.Shape.{IsShape};
 ghost use Rattle.rist_ext.specs.Reading.{has_strip, nulls_in, units_in, strip_in, upper_in, reading_of};
 
 use crate::ext_word::{ExtBad, ExtWord, RIST_PROFILE};
+use octet_fields::is_set;
 use ts_nulls::Strip;
-
-fn is_set(octet: u8, bit: u32) -> bool
-    requires { bit < 8 }
-    ensures { result ≡ (bit_at octet bit == 1) }
-{
-    (octet >> bit) & 1 == 1
-}
 
 fn kept_bits(units: u8, second: u8) -> u8
     requires { units ≤ 7 }
@@ -35,14 +28,14 @@ fn strip_in(first: u8, second: u8) -> Option<Strip>
     requires { has_strip first ≡ true → 0 < units_in first }
     ensures { result ≡ strip_in first second }
 {
-    if !is_set(first, 7) {
+    if !is_set(u16::from(first), 7) {
         return None;
     }
     let units = (first >> 3) & 7;
     let nulls = nulls_in(units, second);
     Some(Strip {
         units,
-        long: is_set(second, 7),
+        long: is_set(u16::from(second), 7),
         nulls,
     })
 }
@@ -50,7 +43,7 @@ fn strip_in(first: u8, second: u8) -> Option<Strip>
 fn upper_in(first: u8, high: u8, low: u8) -> Option<u16>
     ensures { result ≡ upper_in first (high ∷ low ∷ []) }
 {
-    if is_set(first, 6) {
+    if is_set(u16::from(first), 6) {
         Some(u16::from_be_bytes([high, low]))
     } else {
         None
@@ -67,7 +60,7 @@ fn value_of(profile: u16, words: &[u8]) -> Result<ExtWord, ExtBad>
     let [first, second, high, low] = words else {
         return Err(ExtBad::Length);
     };
-    if is_set(*first, 7) && (*first >> 3) & 7 == 0 {
+    if is_set(u16::from(*first), 7) && (*first >> 3) & 7 == 0 {
         return Err(ExtBad::Size);
     }
     Ok(ExtWord {

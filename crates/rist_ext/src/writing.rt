@@ -1,26 +1,21 @@
 ghost use Rattle.std.specs.Prelude.{◌≡◌, ◌*◌, ◌+◌, ◌^◌, ◌<◌, Ok, is_some, IfSome};
-ghost use Rattle.rist_ext.specs.Extension.{bit_of, size_of, second_octet, upper_of};
+ghost use Rattle.std.specs.Int.{from_bool};
+ghost use Rattle.rist_ext.specs.Extension.{size_of, second_octet, upper_of};
 ghost use Rattle.ts_nulls.specs.Shape.{IsShape};
 
 use crate::ext_word::ExtWord;
 
-fn flag(is_set: bool, mask: u8) -> u8
-    ensures { result ≡ mask * bit_of is_set }
-{
-    if is_set { mask } else { 0 }
-}
-
 // The first two octets: the flags and the size, then the nulls.
 fn halves(word: &ExtWord) -> (u8, u8)
-    ensures first { result.0 ≡ 128 * bit_of (is_some word.now.strip) + 64 * bit_of (is_some word.now.upper) + 8 * size_of word.now.strip 0 }
+    ensures first { result.0 ≡ 128 * from_bool (is_some word.now.strip) + 64 * from_bool (is_some word.now.upper) + 8 * size_of word.now.strip 0 }
     ensures second { result.1 ≡ second_octet word.now.strip 0 }
     ensures fits { IfSome word.now.strip (λ shape. IsShape shape.units shape.nulls) }
 {
-    let wide = flag(word.upper.is_some(), 0x40);
+    let wide = 0x40 * u8::from(word.upper.is_some());
     match word.strip {
         Some(strip) => (
             0x80 + wide + 8 * strip.units,
-            flag(strip.long, 0x80) + strip.nulls,
+            0x80 * u8::from(strip.long) + strip.nulls,
         ),
         None => (wide, 0),
     }

@@ -7,7 +7,7 @@ use Rattle.std.proofs.lemmas.List.{length-take, length-drop, take_all, take-appe
 use Rattle.std.proofs.lemmas.Nat.{be_bytes_2}
 use Rattle.rtp_packet.specs.Rtp.{IsExtension, extension_octets, padding_octets}
 use Rattle.rtp_packet.specs.Reading.{extension_len, is_cut_extension, extension_at, after_extension, padding_len, is_bad_padding, payload_at}
-use Rattle.rtp_packet.proofs.FieldLemmas.{AreOctets, AreOctets-take, AreOctets-drop}
+use Rattle.octet_fields.proofs.OctetLemmas.{AreOctets, AreOctets-take, AreOctets-drop}
 
 -- ---- an extension
 pub record IsBack (flag : Bool) (rest : List ℕ) : Type 0 where
@@ -24,15 +24,15 @@ extension-back true (a ∷ b ∷ c ∷ d ∷ more) are whole =
     let count : ℕ = extension_len true rest - 4 in
     let words : List ℕ = take count more in
     let len : length words ≡ count = omega (arith, length-take count more) in
-    let profile = be_bytes_2 (a ∷ b ∷ []) (from_be_bytes w16 (a ∷ b ∷ [])) refl (AreOctets-take 2 rest are).each refl in
-    let counted = be_bytes_2 (c ∷ d ∷ []) (length words / 4) refl (AreOctets-take 2 (drop 2 rest) (AreOctets-drop 2 rest are)).each (omega (arith, len)) in
+    let profile = be_bytes_2 (a ∷ b ∷ []) (from_be_bytes w16 (a ∷ b ∷ [])) refl (AreOctets-take 2 rest are) refl in
+    let counted = be_bytes_2 (c ∷ d ∷ []) (length words / 4) refl (AreOctets-take 2 (drop 2 rest) (AreOctets-drop 2 rest are)) (omega (arith, len)) in
     let after-is : after_extension true rest ≡ drop count more =
     ap (λ (n : ℕ). drop n rest) (let e : extension_len true rest ≡ 4 + count = omega arith in e) ∙ sym (drop-drop count 4 rest) in
     let more-is : more ≡ words ++ after_extension true rest =
     sym (take-append-drop count more) ∙ ap (λ (x : List ℕ). words ++ x) (sym after-is) in
     record {
       whole = λ i. sym profile i ++ (sym counted i ++ more-is i);
-      fits = record { profile = omega (arith, are.each 0, are.each 1); words = record { whole = omega (arith, len); few = omega (arith, len, are.each 2, are.each 3) } };
+      fits = record { profile = omega (arith, are 0, are 1); words = record { whole = omega (arith, len); few = omega (arith, len, are 2, are 3) } };
       has = refl;
     }
 extension-back true rest are whole =
@@ -73,6 +73,6 @@ padding-back true rest are good =
     sym (take_all (count - 1 + 1) tail (omega arith)) ∙ take_more tail (count - 1) 0 (omega arith) ∙ ap (λ (x : ℕ). fill ++ x ∷ []) last in
     record {
       whole = sym (take-append-drop start rest) ∙ ap (λ (t : List ℕ). take start rest ++ t) (tail-is ∙ ap (λ (x : ℕ). fill ++ x ∷ []) fill-len);
-      fits = omega (arith, are.each (length rest - 1), fill-len);
+      fits = omega (arith, are (length rest - 1), fill-len);
       has = refl;
     }

@@ -1,15 +1,19 @@
 -- The packet that stands in octets, from a spelling and back to it.
-use Rattle.std.proofs.Common.{◌≡◌, ℕ, ◌+◌, ◌*◌, ◌/◌, ◌%◌, ◌≤◌, Bool, true, false, cond, ltb, List, [], ◌∷◌, ◌++◌, length, get_or, take, drop, Option, Result, Ok, Err, refl, sym, ap, ◌∙◌, arith}
+use Rattle.std.proofs.Common.{◌≡◌, ℕ, ◌+◌, ◌*◌, ◌/◌, ◌%◌, ◌≤◌, false, cond, ltb, List, ◌∷◌, ◌++◌, length, get_or, take, drop, Option, Result, Ok, Err, refl, sym, ap, ◌∙◌, arith}
 use Rattle.std.specs.Prelude.{IfOk, is_some, ◌==◌, not}
-use Rattle.std.specs.Int.{w16, w32, from_be_bytes, bit_at}
+use Rattle.std.specs.Int.{w16, w32, from_be_bytes, to_be_bytes, bit_at, from_bool}
 use Rattle.std.proofs.lemmas.Bool.{le-ltb, ltb-false, eqb-true, not-false}
-use Rattle.std.proofs.lemmas.List.{length-append, length-take, take_at, drop_at, drop-drop, take-append-drop}
-use Rattle.std.proofs.lemmas.Nat.{from_be_bytes-to_be_bytes_2, from_be_bytes-to_be_bytes_4, be_bytes_2, be_bytes_4}
+use Rattle.std.proofs.lemmas.List.{length-append, length-take, length-drop, take_at, drop_at, drop-drop, take-append-drop}
+use Rattle.std.proofs.lemmas.Nat.{from_be_bytes-to_be_bytes_2, from_be_bytes-to_be_bytes_4}
 use Rattle.rtp_packet.specs.declared.bad.RtpBad.{RtpBad}
 use Rattle.rtp_packet.specs.declared.bad.RtpBad.TheVariants.{Short, Version, Sources, Extension, Padding, Long}
-use Rattle.rtp_packet.specs.Rtp.{RtpPacket, bit_of, IsPacket, extension_octets, padding_octets, first_octet, spelling, Spells}
+use Rattle.rtp_packet.specs.Rtp.{RtpPacket, IsPacket, extension_octets, padding_octets, first_octet, spelling, Spells}
 use Rattle.rtp_packet.specs.Reading.{RtpValue, value_of, version_of, has_padding, has_extension, header_len, extension_len, is_cut_extension, extension_at, after_extension, is_bad_padding, payload_at, after_sources, after_header, payload_of, value_in, reading_of}
-use Rattle.rtp_packet.proofs.FieldLemmas.{AreOctets, AreOctets-drop, AreOctets-take, first-says, first-back, marker-says, marker-back}
+use Rattle.octet_fields.proofs.OctetLemmas.{AreOctets, AreOctets-drop}
+use Rattle.octet_fields.proofs.NumberLemmas.{u16-back, u16-fits, u32-back, u32-fits}
+use Rattle.octet_fields.proofs.FlagLemmas.{high_flag-says, high_flag-back}
+use Rattle.octet_fields.proofs.TestLemmas.{passed}
+use Rattle.rtp_packet.proofs.FieldLemmas.{first-says, first-back}
 use Rattle.rtp_packet.proofs.SpelledLemmas.{extension-read, padding-read}
 use Rattle.rtp_packet.proofs.ReadLemmas.{padding_at, extension-back, padding-back}
 
@@ -53,7 +57,7 @@ spelling-holds packet padding fits =
     let rest : List ℕ = packet.payload ++ padding_octets padding in
     let tail : List ℕ = extension_octets packet.extension ++ rest in
     let says = first-says (is_some padding) (is_some packet.extension) (length packet.sources / 4) (omega (arith, fits.sources.few)) in
-    let kind = marker-says packet.marker packet.payload_type fits.payload_type in
+    let kind = high_flag-says packet.marker packet.payload_type fits.payload_type in
     let extension = extension-read packet.extension rest fits.extension in
     let end = padding-read padding packet.payload in
     let len : header_len all ≡ 12 + length packet.sources = omega (arith, says.sources, fits.sources.whole) in
@@ -104,45 +108,46 @@ packet-spelled packet octets spells =
 
 packet-back : (octets : List ℕ) → AreOctets octets → Passes octets → Spells (packet_in octets) octets
 unfolding spelling
-packet-back (a ∷ b ∷ c ∷ d ∷ e ∷ f ∷ g ∷ h ∷ j ∷ k ∷ l ∷ m ∷ rest) are p =
-    let octets : List ℕ = a ∷ b ∷ c ∷ d ∷ e ∷ f ∷ g ∷ h ∷ j ∷ k ∷ l ∷ m ∷ rest in
+packet-back (a ∷ b ∷ more) are p =
+    let octets : List ℕ = a ∷ b ∷ more in
+    let rest : List ℕ = drop 12 octets in
     let count : ℕ = 4 * (a % 16) in
     let sources : List ℕ = take count rest in
-    let few : count ≤ length rest = omega (arith, p.sources) in
+    let few : count ≤ length rest = omega (arith, p.sources, length-drop 12 octets) in
     let len : length sources ≡ count = omega (arith, length-take count rest) in
     let at = AreOctets-drop (header_len octets) octets are in
     let extension = extension-back (has_extension octets) (after_sources octets) at p.extension in
     let past = AreOctets-drop (extension_len (has_extension octets) (after_sources octets)) (after_sources octets) at in
     let padding = padding-back (has_padding octets) (after_header octets) past p.padding in
-    let number = be_bytes_2 (c ∷ d ∷ []) (from_be_bytes w16 (c ∷ d ∷ [])) refl (AreOctets-take 2 (drop 2 octets) (AreOctets-drop 2 octets are)).each refl in
-    let stamp = be_bytes_4 (e ∷ f ∷ g ∷ h ∷ []) (from_be_bytes w32 (e ∷ f ∷ g ∷ h ∷ [])) refl (AreOctets-take 4 (drop 4 octets) (AreOctets-drop 4 octets are)).each refl in
-    let ssrc = be_bytes_4 (j ∷ k ∷ l ∷ m ∷ []) (from_be_bytes w32 (j ∷ k ∷ l ∷ m ∷ [])) refl (AreOctets-take 4 (drop 8 octets) (AreOctets-drop 8 octets are)).each refl in
+    let number : List ℕ = to_be_bytes w16 (from_be_bytes w16 (take 2 (drop 2 octets))) in
+    let stamp : List ℕ = to_be_bytes w32 (from_be_bytes w32 (take 4 (drop 4 octets))) in
+    let ssrc : List ℕ = to_be_bytes w32 (from_be_bytes w32 (take 4 (drop 8 octets))) in
     let tail-is : rest ≡ sources ++ after_sources octets =
     sym (take-append-drop count rest) ∙ ap (λ (x : List ℕ). sources ++ x) (drop-drop count 12 octets) in
     let first-is : a ≡ first_octet (packet_in octets) (padding_at (has_padding octets) (after_header octets)) =
-    first-back a (are.each 0) p.version ∙ (λ i. 128 + 32 * bit_of (sym padding.has i) + 16 * bit_of (sym extension.has i) + (let q : a % 16 ≡ length sources / 4 = omega (arith, len) in q) i) in
+    first-back a (are 0) p.version ∙ (λ i. 128 + 32 * from_bool (sym padding.has i) + 16 * from_bool (sym extension.has i) + (let q : a % 16 ≡ length sources / 4 = omega (arith, len) in q) i) in
     let after-is : after_sources octets ≡ extension_octets (extension_at (has_extension octets) (after_sources octets))
     ++ (payload_of octets ++ padding_octets (padding_at (has_padding octets) (after_header octets))) =
     extension.whole ∙ ap (λ (x : List ℕ). extension_octets (extension_at (has_extension octets) (after_sources octets)) ++ x) padding.whole in
     let rest-is = tail-is ∙ ap (λ (x : List ℕ). sources ++ x) after-is in
+    let more-is =
+    sym (u16-back 2 octets are (omega (arith, p.fixed)))
+    ∙ ap (λ (x : List ℕ). number ++ x) (sym (u32-back 4 octets are (omega (arith, p.fixed)))
+    ∙ ap (λ (x : List ℕ). stamp ++ x) (sym (u32-back 8 octets are p.fixed) ∙ ap (λ (x : List ℕ). ssrc ++ x) rest-is)) in
     record {
       packet_fits = record {
         payload_type = omega arith;
-        number = omega (arith, are.each 2, are.each 3);
-        stamp = omega (arith, are.each 4, are.each 5, are.each 6, are.each 7);
-        ssrc = omega (arith, are.each 8, are.each 9, are.each 10, are.each 11);
+        number = u16-fits 2 octets are;
+        stamp = u32-fits 4 octets are;
+        ssrc = u32-fits 8 octets are;
         sources = record { whole = omega (arith, len); few = omega (arith, len) };
         extension = extension.fits;
       };
       padding = padding_at (has_padding octets) (after_header octets);
       padding_fits = padding.fits;
-      whole = λ i. first-is i ∷ marker-back b (are.each 1) i ∷ (sym number i ++ (sym stamp i ++ (sym ssrc i ++ rest-is i)));
+      whole = λ i. first-is i ∷ high_flag-back b (are 1) i ∷ more-is i;
     }
 packet-back octets are p = absurd (omega (arith, p.fixed))
-
-passed : {X : Type 0} (test : Bool) (bad : RtpBad) (rest : Result X RtpBad) (value : X) → cond test (Err bad) rest ≡ Ok value → (test ≡ false) × (rest ≡ Ok value)
-passed true bad rest value e = absurd cc
-passed false bad rest value e = (refl, e)
 
 -- what was read: the tests passed, and the value is of the packet that stands there
 pub record IsReadFrom (octets : List ℕ) (value : RtpValue) : Type 0 where

@@ -2,12 +2,12 @@
 use Rattle.std.proofs.Common.{◌≡◌, ℕ, ◌+◌, ◌*◌, ◌^◌, ◌<◌, ◌≤◌, Ok, length, List, ◌∷◌, ◌++◌, Option, Some, None, refl, sym, ap, ◌∙◌, append_assoc, arith}
 use Rattle.std.specs.Borrow.{Bor}
 use Rattle.std.specs.Prelude.{is_some, IfSome}
-use Rattle.std.specs.Int.{w16, w32, to_be_bytes}
+use Rattle.std.specs.Int.{w16, w32, to_be_bytes, from_bool}
 use Rattle.std.specs.Option.{ForSome}
 use Rattle.std.proofs.lemmas.Bool.{le-ltb}
 use Rattle.std.proofs.lemmas.List.{append-nil}
 use Rattle.rtp_packet.specs.declared.writing.RtpHead.{RtpHead}
-use Rattle.rtp_packet.specs.Rtp.{bit_of, AreWords, IsExtension, extension_octets, spelling}
+use Rattle.rtp_packet.specs.Rtp.{AreWords, IsExtension, extension_octets, spelling}
 use Rattle.rtp_packet.specs.Reading.{extension_shown, reading_of, value_of}
 use Rattle.rtp_packet.specs.Writing.{packet_with, header_octets, IsHead}
 use Rattle.rtp_packet.proofs.WholeLemmas.{reading-spelled}
@@ -20,7 +20,7 @@ pub spelling-written : (head : RtpHead) (e : Option (ℕ × List ℕ)) (payload 
     → middle ≡ front ++ extension_octets e → front ≡ header_octets head (is_some e) → all ≡ spelling (packet_with head e payload) None
 unfolding spelling
 spelling-written head e payload all front middle end extended begun =
-    let first : 128 + 16 * bit_of (is_some e) ≡ 128 + 16 * bit_of (is_some e) + 0 = omega arith in
+    let first : 128 + 16 * from_bool (is_some e) ≡ 128 + 16 * from_bool (is_some e) + 0 = omega arith in
     end ∙ ap (λ (m : List ℕ). m ++ payload) (extended ∙ ap (λ (f : List ℕ). f ++ extension_octets e) begun)
     ∙ append_assoc (header_octets head (is_some e)) (extension_octets e) payload
     ∙ (λ i. first i ∷ 33 ∷ (to_be_bytes w16 head.number ++ (to_be_bytes w32 head.stamp ++ (to_be_bytes w32 head.ssrc

@@ -57,10 +57,12 @@ extension_len flag rest = if flag then 4 + 4 * from_be_bytes w16 (take 2 (drop 2
 abbrev pub is_cut_extension : Bool → List ℕ → Bool
 is_cut_extension flag rest = flag && (nat_lt (length rest) 4 || nat_lt (length rest) (extension_len flag rest))
 
+-- its profile word and the octets of its words, where it isn't cut
 abbrev pub extension_at : Bool → List ℕ → Option (ℕ × List ℕ)
 extension_at flag rest =
     if flag then Some (from_be_bytes w16 (take 2 rest), take (extension_len flag rest - 4) (drop 4 rest)) else None
 
+-- what follows it
 abbrev pub after_extension : Bool → List ℕ → List ℕ
 after_extension flag rest = drop (extension_len flag rest) rest
 
@@ -74,18 +76,21 @@ padding_len flag rest = if flag then slice_index rest (length rest - 1) else 0
 abbrev pub is_bad_padding : Bool → List ℕ → Bool
 is_bad_padding flag rest = flag && (padding_len flag rest == 0 || nat_lt (length rest) (padding_len flag rest))
 
+-- what stands before it, where it isn't bad
 abbrev pub payload_at : Bool → List ℕ → List ℕ
 payload_at flag rest = take (length rest - padding_len flag rest) rest
 
 -- ---- the whole
 
--- what follows the sources, and what follows the extension
+-- what follows the sources
 abbrev pub after_sources : List ℕ → List ℕ
 after_sources octets = drop (header_len octets) octets
 
+-- what follows the extension, or the sources where there is none
 abbrev pub after_header : List ℕ → List ℕ
 after_header octets = after_extension (has_extension octets) (after_sources octets)
 
+-- the payload without padding
 abbrev pub payload_of : List ℕ → List ℕ
 payload_of octets = payload_at (has_padding octets) (after_header octets)
 

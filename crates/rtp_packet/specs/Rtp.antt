@@ -1,6 +1,6 @@
 -- RTP data packets (RFC 3550, sections 5.1 and 5.3.1), and which octets spell them.
-use Rattle.std.specs.Prelude.{◌≡◌, ℕ, ◌+◌, ◌*◌, ◌/◌, ◌%◌, ◌^◌, ◌<◌, ◌≤◌, Bool, List, [], ◌∷◌, ◌++◌, length, if◌then◌else◌, Option, Some, None, is_some, IfSome}
-use Rattle.std.specs.Int.{w16, w32, to_be_bytes}
+use Rattle.std.specs.Prelude.{◌≡◌, ℕ, ◌+◌, ◌*◌, ◌/◌, ◌%◌, ◌^◌, ◌<◌, ◌≤◌, Bool, List, [], ◌∷◌, ◌++◌, length, Option, Some, None, is_some, IfSome}
+use Rattle.std.specs.Int.{w16, w32, to_be_bytes, from_bool}
 
 -- A packet without its padding. The sources (CSRC) and the words of an extension, behind its profile
 -- word, are octets of whole 32-bit words.
@@ -33,10 +33,6 @@ pub record IsPacket (packet : RtpPacket) : Type 0 where
   pub sources : AreWords 15 packet.sources
   pub extension : IfSome packet.extension IsExtension
 
--- a flag as its bit
-abbrev pub bit_of : Bool → ℕ
-bit_of flag = if flag then 1 else 0
-
 -- an extension: its profile word, the count of its words, and these
 abbrev pub extension_octets : Option (ℕ × List ℕ) → List ℕ
 extension_octets None = []
@@ -51,12 +47,12 @@ padding_octets (Some fill) = fill ++ (length fill + 1) ∷ []
 -- version 2 in two bits, the flags of padding and extension, and the count of sources in four
 abbrev pub first_octet : RtpPacket → Option (List ℕ) → ℕ
 first_octet packet padding =
-    128 + 32 * bit_of (is_some padding) + 16 * bit_of (is_some packet.extension) + length packet.sources / 4
+    128 + 32 * from_bool (is_some padding) + 16 * from_bool (is_some packet.extension) + length packet.sources / 4
 
 -- all octets of a packet with this padding
 unfoldable pub spelling : RtpPacket → Option (List ℕ) → List ℕ
 spelling packet padding =
-    first_octet packet padding ∷ (128 * bit_of packet.marker + packet.payload_type) ∷
+    first_octet packet padding ∷ (128 * from_bool packet.marker + packet.payload_type) ∷
     (to_be_bytes w16 packet.number ++ (to_be_bytes w32 packet.stamp ++ (to_be_bytes w32 packet.ssrc
     ++ (packet.sources ++ (extension_octets packet.extension
     ++ (packet.payload ++ padding_octets padding))))))

@@ -1,9 +1,9 @@
 -- The packets that are written: payload type 33, an MPEG-2 transport stream (RFC 3551, section 6), with
 -- no marker, no sources and no padding.
-use Rattle.std.specs.Prelude.{◌≡◌, ℕ, ◌+◌, ◌*◌, ◌^◌, ◌<◌, ◌≤◌, List, [], ◌∷◌, ◌++◌, drop, Bool, false, Option}
-use Rattle.std.specs.Int.{w16, w32, to_be_bytes}
+use Rattle.std.specs.Prelude.{ℕ, ◌+◌, ◌*◌, ◌^◌, ◌<◌, List, [], ◌∷◌, ◌++◌, Bool, false, Option}
+use Rattle.std.specs.Int.{w16, w32, to_be_bytes, from_bool}
 use Rattle.rtp_packet.specs.declared.writing.RtpHead.{RtpHead}
-use Rattle.rtp_packet.specs.Rtp.{RtpPacket, bit_of}
+use Rattle.rtp_packet.specs.Rtp.{RtpPacket}
 
 -- each field fits its bits
 pub record IsHead (head : RtpHead) : Type 0 where
@@ -27,9 +27,5 @@ packet_with head extension payload = record {
 -- the twelve octets of its header
 abbrev pub header_octets : RtpHead → Bool → List ℕ
 header_octets head extended =
-    (128 + 16 * bit_of extended) ∷ 33 ∷
+    (128 + 16 * from_bool extended) ∷ 33 ∷
     (to_be_bytes w16 head.number ++ (to_be_bytes w32 head.stamp ++ to_be_bytes w32 head.ssrc))
-
--- nothing changed from this place on
-abbrev pub KeepsFrom : ℕ → List ℕ → List ℕ → Type 0
-KeepsFrom end old new = (n : ℕ) → end ≤ n → drop n new ≡ drop n old

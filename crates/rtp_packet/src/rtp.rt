@@ -1,9 +1,10 @@
-ghost use Rattle.std.specs.Prelude.{◌≡◌, ◌+◌, ◌/◌, ◌%◌, ◌*◌, ◌≤◌, ◌==◌, nat_lt, length, take, drop, is_none, IfSome, IfOk};
-ghost use Rattle.std.specs.Int.{w16, w32, from_be_bytes, bit_at};
+ghost use Rattle.std.specs.Prelude.{◌≡◌, ◌+◌, ◌/◌, ◌%◌, ◌*◌, ◌≤◌, ◌==◌, nat_lt, length, drop, is_none, IfSome, IfOk};
+ghost use Rattle.std.specs.Int.{bit_at};
 ghost use Rattle.rtp_packet.specs.Reading.{extension_shown, extension_at, after_extension, is_cut_extension, payload_at, is_bad_padding, reading_of, value_of};
 ghost use Rattle.rtp_packet.specs.Rtp.{RtpPacket, Spells};
 
 use crate::bad::RtpBad;
+use octet_fields::{is_set, u16_at, u32_at};
 use std::marker::Model;
 
 /// The most octets that a payload has (this profile).
@@ -52,24 +53,10 @@ fn flags_of(first: u8) -> Flags
 {
     Flags {
         version: first >> 6,
-        padding: first & 0x20 != 0,
-        extension: first & 0x10 != 0,
+        padding: is_set(u16::from(first), 5),
+        extension: is_set(u16::from(first), 4),
         sources: first & 0x0f,
     }
-}
-
-fn u16_at(octets: &[u8], at: usize) -> u16
-    requires { at + 2 ≤ length octets.now }
-    ensures { result ≡ from_be_bytes w16 (take 2 (drop at octets.now)) }
-{
-    u16::from_be_bytes([octets[at], octets[at + 1]])
-}
-
-fn u32_at(octets: &[u8], at: usize) -> u32
-    requires { at + 4 ≤ length octets.now }
-    ensures { result ≡ from_be_bytes w32 (take 4 (drop at octets.now)) }
-{
-    u32::from_be_bytes([octets[at], octets[at + 1], octets[at + 2], octets[at + 3]])
 }
 
 // What follows so many sources. None where they pass the end.

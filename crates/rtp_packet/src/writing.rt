@@ -1,8 +1,11 @@
 ghost use Rattle.std.specs.Prelude.{◌≡◌, ◌+◌, ◌^◌, ◌<◌, ◌≤◌, IfSome, ◌++◌, Ok, Some, None, length, take, drop};
 ghost use Rattle.std.specs.Option.{ForSome};
+ghost use Rattle.octet_fields.specs.Writing.{KeepsFrom};
 ghost use Rattle.rtp_packet.specs.Reading.{extension_shown, reading_of, value_of};
 ghost use Rattle.rtp_packet.specs.Rtp.{AreWords, extension_octets, spelling};
-ghost use Rattle.rtp_packet.specs.Writing.{packet_with, header_octets, IsHead, KeepsFrom};
+ghost use Rattle.rtp_packet.specs.Writing.{packet_with, header_octets, IsHead};
+
+use octet_fields::put_at;
 
 /// What the header of a packet to be written says.
 #[derive(Clone, Copy, Debug, PartialEq, Eq)]
@@ -20,18 +23,6 @@ pub const PAYLOAD_TYPE_MP2T: u8 = 33;
 
 const HEADER_LEN: usize = 12;
 
-// Copies a part to its place, and says where it ends.
-fn put(out: &mut [u8], at: usize, part: &[u8]) -> usize
-    requires room { at + length part.now ≤ length out.old }
-    ensures end { result ≡ at + length part.now }
-    ensures octets { take result out.new ≡ take at out.old ++ part.now }
-    ensures rest { KeepsFrom result out.old out.new }
-{
-    let end = at + part.len();
-    out[at..end].copy_from_slice(part);
-    end
-}
-
 fn put_header(out: &mut [u8], head: RtpHead, extended: bool)
     requires room { 12 ≤ length out.old }
     ensures fits { IsHead head }
@@ -39,10 +30,10 @@ fn put_header(out: &mut [u8], head: RtpHead, extended: bool)
     ensures rest { KeepsFrom 12 out.old out.new }
 {
     let first = if extended { 0x90 } else { 0x80 };
-    let at = put(out, 0, &[first, PAYLOAD_TYPE_MP2T]);
-    let at = put(out, at, &head.number.to_be_bytes());
-    let at = put(out, at, &head.stamp.to_be_bytes());
-    put(out, at, &head.ssrc.to_be_bytes());
+    let at = put_at(out, 0, &[first, PAYLOAD_TYPE_MP2T]);
+    let at = put_at(out, at, &head.number.to_be_bytes());
+    let at = put_at(out, at, &head.stamp.to_be_bytes());
+    put_at(out, at, &head.ssrc.to_be_bytes());
 }
 
 fn put_words(out: &mut [u8], at: usize, profile: u16, words: &[u8]) -> usize
@@ -54,9 +45,9 @@ fn put_words(out: &mut [u8], at: usize, profile: u16, words: &[u8]) -> usize
     ensures rest { KeepsFrom result out.old out.new }
 {
     let count = (words.len() / 4) as u16;
-    let at = put(out, at, &profile.to_be_bytes());
-    let at = put(out, at, &count.to_be_bytes());
-    put(out, at, words)
+    let at = put_at(out, at, &profile.to_be_bytes());
+    let at = put_at(out, at, &count.to_be_bytes());
+    put_at(out, at, words)
 }
 
 // Writes the extension, if there is one, behind the twelve octets of a header.
@@ -95,5 +86,5 @@ pub fn write(
     let head = *head;
     put_header(out, head, extension.is_some());
     let at = put_extension(out, extension);
-    put(out, at, payload)
+    put_at(out, at, payload)
 }

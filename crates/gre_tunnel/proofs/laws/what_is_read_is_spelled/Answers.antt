@@ -1,4 +1,4 @@
-use Rattle.gre_tunnel.proofs.FieldLemmas.{AreOctets-from_all}
+use Rattle.octet_fields.proofs.OctetLemmas.{AreOctets-from_all}
 use Rattle.gre_tunnel.proofs.HeaderLemmas.{reading-spells}
 use Rattle.gre_tunnel.proofs.laws.what_is_read_is_spelled.Goals as goal
 

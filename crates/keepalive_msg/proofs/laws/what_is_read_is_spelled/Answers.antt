@@ -1,4 +1,5 @@
-use Rattle.keepalive_msg.proofs.MessageLemmas.{AreOctets-from_all, reading-spells}
+use Rattle.octet_fields.proofs.OctetLemmas.{AreOctets-from_all}
+use Rattle.keepalive_msg.proofs.MessageLemmas.{reading-spells}
 use Rattle.keepalive_msg.proofs.laws.what_is_read_is_spelled.Goals as goal
 
 pub returns : goal.returns

@@ -4,7 +4,7 @@ use Rattle.keepalive_msg.proofs.reading.read.Goals as goal
 
 pub returns-clause-found : goal.returns-clause-found
 returns-clause-found c =
-    found_from c.args.octets.now _ (record { each = λ i. omega (arith, c.type_inv.octets i) }) c.value_of.ensures.value
+    found_from c.args.octets.now _ (λ i. omega (arith, c.type_inv.octets i)) c.value_of.ensures.value
 
 pub returns-clause-only : goal.returns-clause-only
 returns-clause-only c = λ message spells. c.value_of.ensures.value ∙ reading-spelled message c.args.octets.now spells

@@ -1,4 +1,4 @@
-use Rattle.rtp_packet.proofs.FieldLemmas.{AreOctets-from_all}
+use Rattle.octet_fields.proofs.OctetLemmas.{AreOctets-from_all}
 use Rattle.rtp_packet.proofs.WholeLemmas.{reading-spells}
 use Rattle.rtp_packet.proofs.laws.what_is_read_is_spelled.Goals as goal
 
