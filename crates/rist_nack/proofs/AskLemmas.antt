@@ -1,5 +1,5 @@
 -- Masks, words and packets, one after another.
-use Rattle.std.proofs.Common.{◌≡◌, ℕ, zero, suc, ◌+◌, ◌-◌, ◌/◌, ◌%◌, ◌^◌, ◌<◌, ◌≤◌, Bool, true, false, cond, List, [], ◌∷◌, ◌++◌, length, take, drop, get_or, map, Option, Some, None, refl, sym, ap, ◌∙◌, arith, length-drop}
+use Rattle.std.proofs.Common.{◌≡◌, ℕ, zero, suc, ◌+◌, ◌-◌, ◌/◌, ◌%◌, ◌^◌, ◌<◌, ◌≤◌, Bool, true, false, cond, List, [], ◌∷◌, ◌++◌, length, take, drop, map, Option, Some, None, refl, sym, ap, ◌∙◌, arith, length-drop}
 use Rattle.std.specs.Prelude.{◌==◌, if◌then◌else◌}
 use Rattle.std.specs.List.{flat_map, AllByRecursion}
 use Rattle.std.specs.Int.{w16, from_be_bytes, to_be_bytes}
@@ -35,7 +35,7 @@ places_end place mask le =
 -- ---- words
 
 pub words_step : (mask : Bool) (upper : Option ℕ) (flow : ℕ) (b : List ℕ) → 4 ≤ length b
-    → words_asks mask upper flow b ≡ word_asks mask upper flow (from_be_bytes w16 (get_or b 0 0 ∷ get_or b 1 0 ∷ [])) (from_be_bytes w16 (get_or b 2 0 ∷ get_or b 3 0 ∷ [])) ++ words_asks mask upper flow (drop 4 b)
+    → words_asks mask upper flow b ≡ word_asks mask upper flow (from_be_bytes w16 (take 2 b)) (from_be_bytes w16 (take 2 (drop 2 b))) ++ words_asks mask upper flow (drop 4 b)
 words_step mask upper flow [] h = absurd (omega arith)
 words_step mask upper flow (a ∷ []) h = absurd (omega arith)
 words_step mask upper flow (a ∷ b ∷ []) h = absurd (omega arith)
@@ -112,12 +112,12 @@ step_wanted wanted before p total r upper words e f u w =
 
 -- the first ask of a mask word
 pub word_masked : (is_mask : Bool) (upper : Option ℕ) (flow : ℕ) (rest rest' : List ℕ) (front all : List Ask) (first second : ℕ) (a : Ask) → is_mask ≡ true → front ≡ [] → rest' ≡ drop 4 rest → 4 ≤ length rest
-    → first ≡ from_be_bytes w16 (get_or rest 0 0 ∷ get_or rest 1 0 ∷ []) → second ≡ from_be_bytes w16 (get_or rest 2 0 ∷ get_or rest 3 0 ∷ []) → a ≡ numbered upper flow first 0
+    → first ≡ from_be_bytes w16 (take 2 rest) → second ≡ from_be_bytes w16 (take 2 (drop 2 rest)) → a ≡ numbered upper flow first 0
     → front ++ words_asks is_mask upper flow rest ≡ all → all ≡ a ∷ (map (λ i. numbered upper flow (first + i) 0) (set_places 16 second 1) ++ words_asks is_mask upper flow rest')
 word_masked false upper flow rest rest' front all first second a m none r h f s e whole = absurd cc
 word_masked true upper flow rest rest' front all first second a m none r h f s e whole =
     let parts : words_asks true upper flow rest ≡ mask_asks upper flow first second ++ words_asks true upper flow rest' =
-    words_step true upper flow rest h ∙ ap (λ (n : ℕ). mask_asks upper flow n (from_be_bytes w16 (get_or rest 2 0 ∷ get_or rest 3 0 ∷ [])) ++ words_asks true upper flow (drop 4 rest)) (sym f)
+    words_step true upper flow rest h ∙ ap (λ (n : ℕ). mask_asks upper flow n (from_be_bytes w16 (take 2 (drop 2 rest))) ++ words_asks true upper flow (drop 4 rest)) (sym f)
     ∙ ap (λ (n : ℕ). mask_asks upper flow first n ++ words_asks true upper flow (drop 4 rest)) (sym s) ∙ ap (λ (l : List ℕ). mask_asks upper flow first second ++ words_asks true upper flow l) (sym r) in
     sym whole ∙ ap (λ (l : List Ask). l ++ words_asks true upper flow rest) none ∙ parts ∙ ap (λ (x : Ask). x ∷ (map (λ i. numbered upper flow (first + i) 0) (set_places 16 second 1) ++ words_asks true upper flow rest')) (sym e)
 

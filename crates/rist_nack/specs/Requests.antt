@@ -1,6 +1,6 @@
 -- The requests of a compound: generic NACK (RFC 4585, section 6.2.1), range NACK (VSF TR-06-1), and the
 -- sequence extension (this profile).
-use Rattle.std.specs.Prelude.{ℕ, zero, suc, ◌+◌, ◌*◌, ◌/◌, ◌%◌, ◌^◌, List, [], ◌∷◌, ◌++◌, length, map, Option, Some, None, Bool, true, false, ◌&&◌, if◌then◌else◌, ◌==◌, nat_le, slice_index}
+use Rattle.std.specs.Prelude.{ℕ, zero, suc, ◌+◌, ◌*◌, ◌/◌, ◌%◌, ◌^◌, List, [], ◌∷◌, ◌++◌, length, take, map, Option, Some, None, Bool, true, false, ◌&&◌, if◌then◌else◌, ◌==◌, nat_le}
 use Rattle.std.specs.Int.{w16, from_be_bytes}
 use Rattle.seq_unwrap.specs.declared.width.Width.TheVariants.{W16, W32}
 use Rattle.rtcp_compound.specs.Compound.{Content, sender_report, receiver_report, description, goodbye, application, feedback, other}
@@ -58,7 +58,7 @@ request_in (other kind count body) = None
 -- the upper half that a packet sets for a flow: a body of less than a word is skipped
 abbrev pub upper_in : ℕ → Content → Option ℕ
 upper_in flow (application subtype ssrc name words) =
-    if (subtype == 1 && is_rist name) && (flow_of ssrc == flow && nat_le 4 (length words)) then Some (from_be_bytes w16 (slice_index words 0 ∷ slice_index words 1 ∷ [])) else None
+    if (subtype == 1 && is_rist name) && (flow_of ssrc == flow && nat_le 4 (length words)) then Some (from_be_bytes w16 (take 2 words)) else None
 upper_in flow (feedback kind format sender media words) = None
 upper_in flow (sender_report ssrc seconds fraction rtp_time packets octets blocks) = None
 upper_in flow (receiver_report ssrc blocks) = None

@@ -4,6 +4,7 @@ use Rattle.rist_nack.specs.Requests.{Request}
 use Rattle.rist_nack.specs.declared.ask.Ask.{Ask}
 use Rattle.rist_nack.specs.declared.requests.Found.{Found}
 
+-- the request, without where its words lie
 abbrev pub request_seen : Found → Request
 request_seen f = record { flow = f.media; mask = f.is_mask; words = f.words.now }
 

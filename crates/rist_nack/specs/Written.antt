@@ -7,6 +7,7 @@ use Rattle.std.specs.Int.{w16, to_be_bytes}
 abbrev pub word_spelling : ℕ × ℕ → List ℕ
 word_spelling w = to_be_bytes w16 w.0 ++ to_be_bytes w16 w.1
 
+-- words one after another
 abbrev pub words_spelling : List (ℕ × ℕ) → List ℕ
 words_spelling words = flat_map word_spelling words
 

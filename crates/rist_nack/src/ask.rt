@@ -11,7 +11,7 @@ pub struct Ask {
     pub flow: u32,
     /// How many bits its numbers have.
     pub width: Width,
-    /// The first number.
+    /// The first number, of so many bits.
     pub first: u32,
     /// How many more, one after another; after the greatest number 0 comes.
     pub more: u16,

@@ -1,11 +1,12 @@
 //! The packets of a compound, one after another, with the requests among them.
 ghost use Rattle.std.specs.Prelude.{◌≡◌, ◌≤◌, ◌<◌, ◌+◌, ◌^◌, [], ◌++◌, length, take, drop, None, Some, MatchOption, option_map};
 ghost use Rattle.rtcp_compound.specs.Seen.{seen};
-ghost use Rattle.rist_nack.specs.Requests.{Request, flow_of, request_in, upper_in};
+ghost use Rattle.rist_nack.specs.Requests.{flow_of, request_in, upper_in};
 ghost use Rattle.rist_nack.specs.Asked.{newer, upper_after, is_wanted};
 ghost use Rattle.rist_nack.specs.Seen.{request_seen, asks_given};
 
 use crate::words::Words;
+use octet_fields::u16_at;
 use rtcp_compound::{Compound, Packet, Packets, is_rist};
 use std::marker::Model;
 
@@ -44,34 +45,22 @@ fn request_of(packet: Packet<'_>) -> Option<Found<'_>>
             ssrc,
             name,
             words,
-        } => {
-            if subtype == 0 && is_rist(&name) {
-                Some(Found {
-                    media: flow(ssrc),
-                    is_mask: false,
-                    words,
-                })
-            } else {
-                None
-            }
-        }
+        } if subtype == 0 && is_rist(&name) => Some(Found {
+            media: flow(ssrc),
+            is_mask: false,
+            words,
+        }),
         Packet::Feedback {
             kind,
             format,
             media,
             words,
             ..
-        } => {
-            if kind == 205 && format == 1 {
-                Some(Found {
-                    media: flow(media),
-                    is_mask: true,
-                    words,
-                })
-            } else {
-                None
-            }
-        }
+        } if kind == 205 && format == 1 => Some(Found {
+            media: flow(media),
+            is_mask: true,
+            words,
+        }),
         _ => None,
     }
 }
@@ -86,12 +75,8 @@ fn upper_of(packet: Packet<'_>, media: u32) -> Option<u16>
             ssrc,
             name,
             words,
-        } => {
-            if subtype == 1 && is_rist(&name) && flow(ssrc) == media && 4 <= words.len() {
-                Some(u16::from_be_bytes([words[0], words[1]]))
-            } else {
-                None
-            }
+        } if subtype == 1 && is_rist(&name) && flow(ssrc) == media && 4 <= words.len() => {
+            Some(u16_at(words, 0))
         }
         _ => None,
     }

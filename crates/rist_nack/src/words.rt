@@ -4,6 +4,7 @@ ghost use Rattle.rist_nack.specs.Requests.{words_asks};
 
 use crate::ask::{Ask, ask_of};
 use crate::places::next_place;
+use octet_fields::u16_at;
 use std::marker::Model;
 
 /// The asks of one request that are left to give: the rest of a mask, and then the words behind it.
@@ -63,8 +64,8 @@ impl<'a> Iterator for Words<'a> {
         if self.rest.len() < 4 {
             return None;
         }
-        let first = u16::from_be_bytes([self.rest[0], self.rest[1]]);
-        let second = u16::from_be_bytes([self.rest[2], self.rest[3]]);
+        let first = u16_at(self.rest, 0);
+        let second = u16_at(self.rest, 2);
         self.rest = &self.rest[4..];
         if !self.is_mask {
             return Some(ask_of(self.flow, self.upper, first as u32, second));

@@ -5,7 +5,8 @@ ghost use Rattle.rtcp_compound.specs.Name.{rist_name};
 ghost use Rattle.rtcp_compound.specs.Writing.{with_packet, app_octets, feedback_octets};
 ghost use Rattle.rist_nack.specs.Written.{words_spelling, upper_spelling};
 
-use rtcp_compound::{CompoundOut, Full, OUT_LEN, RIST_NAME, put_at};
+use octet_fields::put_at;
+use rtcp_compound::{CompoundOut, Full, OUT_LEN, RIST_NAME};
 
 // More words than these fit no compound.
 const MAX_WORDS: usize = 350;

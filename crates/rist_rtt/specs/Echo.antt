@@ -16,13 +16,15 @@ pub record EchoOf : Type 0 where
   pub delay : ℕ
   pub more : List ℕ
 
+-- the echo without that
 abbrev pub echo_seen : Echo → EchoOf
 echo_seen e = record { answer = e.answer; flow = e.flow; stamp = e.stamp; delay = e.delay; more = e.more.now }
 
--- the stamp and the delay that a body begins with
+-- the stamp that a body begins with
 unfoldable pub stamp_in : List ℕ → ℕ
 stamp_in words = from_be_bytes w64 (take 8 words)
 
+-- the processing delay behind it
 unfoldable pub delay_in : List ℕ → ℕ
 delay_in words = from_be_bytes w32 (take 4 (drop 8 words))
 
@@ -53,16 +55,18 @@ echo_words stamp delay more = to_be_bytes w64 stamp ++ (to_be_bytes w32 delay ++
 abbrev pub copied : List ℕ → List ℕ
 copied more = take (4 * min (length more / 4) 64) more
 
--- a request's and an answer's content
+-- a request's content
 abbrev pub request : ℕ → ℕ → Content
 request media stamp = application 2 media rist_name (echo_words stamp 0 [])
 
+-- an answer's content: the request's SSRC and stamp, and the words that it copies
 abbrev pub response : EchoOf → ℕ → Content
 response echo delay = application 3 echo.flow rist_name (echo_words echo.stamp delay (copied echo.more))
 
--- their octets
+-- a request's octets
 abbrev pub request_octets : ℕ → ℕ → List ℕ
 request_octets media stamp = app_octets 2 media rist_name (echo_words stamp 0 [])
 
+-- an answer's octets
 abbrev pub response_octets : EchoOf → ℕ → List ℕ
 response_octets echo delay = app_octets 3 echo.flow rist_name (echo_words echo.stamp delay (copied echo.more))

@@ -3,6 +3,7 @@ ghost use Rattle.std.specs.Prelude.{◌≡◌, ◌≤◌, length, option_map};
 ghost use Rattle.rtcp_compound.specs.Seen.{seen};
 ghost use Rattle.rist_rtt.specs.Echo.{stamp_in, delay_in, echo_seen, echo_in, echoes_in};
 
+use octet_fields::{u32_at, u64_at};
 use rtcp_compound::{Packet, Packets, is_rist};
 use std::marker::Model;
 
@@ -26,9 +27,7 @@ fn stamp_of(words: &[u8]) -> u64
     requires { 12 ≤ length words.now }
     ensures { result ≡ stamp_in words.now }
 {
-    u64::from_be_bytes([
-        words[0], words[1], words[2], words[3], words[4], words[5], words[6], words[7],
-    ])
+    u64_at(words, 0)
 }
 
 #[tactic(auto, unfolding(crate::specs::Echo::delay_in))]
@@ -36,7 +35,7 @@ fn delay_of(words: &[u8]) -> u32
     requires { 12 ≤ length words.now }
     ensures { result ≡ delay_in words.now }
 {
-    u32::from_be_bytes([words[8], words[9], words[10], words[11]])
+    u32_at(words, 8)
 }
 
 // The echo that a packet is, if it is one.
@@ -49,19 +48,13 @@ fn echo_of(packet: Packet<'_>) -> Option<Echo<'_>>
             ssrc,
             name,
             words,
-        } => {
-            if (subtype == 2 || subtype == 3) && is_rist(&name) && words.len() >= 12 {
-                Some(Echo {
-                    answer: subtype == 3,
-                    flow: ssrc,
-                    stamp: stamp_of(words),
-                    delay: delay_of(words),
-                    more: &words[12..],
-                })
-            } else {
-                None
-            }
-        }
+        } if (subtype == 2 || subtype == 3) && is_rist(&name) && words.len() >= 12 => Some(Echo {
+            answer: subtype == 3,
+            flow: ssrc,
+            stamp: stamp_of(words),
+            delay: delay_of(words),
+            more: &words[12..],
+        }),
         _ => None,
     }
 }

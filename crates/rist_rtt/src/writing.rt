@@ -4,7 +4,8 @@ ghost use Rattle.rtcp_compound.specs.Writing.{with_packet};
 ghost use Rattle.rist_rtt.specs.Echo.{echo_seen, echo_words, copied, request, response, request_octets, response_octets};
 
 use crate::echo::Echo;
-use rtcp_compound::{CompoundOut, Full, OUT_LEN, RIST_NAME, put_at};
+use octet_fields::put_at;
+use rtcp_compound::{CompoundOut, Full, OUT_LEN, RIST_NAME};
 
 // An answer copies at most so many octets of further words.
 const COPIED_LEN: usize = 256;

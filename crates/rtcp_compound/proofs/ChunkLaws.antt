@@ -2,12 +2,13 @@
 use Rattle.std.proofs.Common.{◌≡◌, ℕ, zero, suc, ◌+◌, ◌-◌, ◌%◌, ◌<◌, ◌≤◌, true, List, [], ◌∷◌, ◌++◌, length, take, drop, Option, Some, None, refl, sym, ap, subst, ◌∙◌, append_assoc, arith, length-append, length-drop, inl, inr}
 use Rattle.std.specs.Prelude.{option_map, option_and_then, is_some}
 use Rattle.std.specs.List.{flat_map, AllByRecursion}
-use Rattle.std.proofs.lemmas.List.{take-append-drop, drop_at, length-take, get_or-drop}
+use Rattle.std.proofs.lemmas.List.{take-append-drop, drop_at, length-take}
 use Rattle.std.proofs.lemmas.List.Concat.{flat_map-cons}
 use Rattle.std.proofs.lemmas.Option.{same_Some, none-some}
 use Rattle.std.proofs.lemmas.Bool.{le-ltb, lt-ltb, cases_lt}
+use Rattle.octet_fields.proofs.OctetLemmas.{AreOctets, AreOctets-drop, AreOctets-behind}
 use Rattle.rtcp_compound.specs.Chunks.{Item, item_spelling, Chunk, IsChunk, chunk_spelling, AreChunks, after_items, whole_words, after_chunk, after_chunks, has_chunks}
-use Rattle.rtcp_compound.proofs.ChunkLemmas.{IsBytes, items_read, items_spelled}
+use Rattle.rtcp_compound.proofs.ChunkLemmas.{items_read, items_spelled}
 
 -- a chunk that is spelled is stepped over
 chunk_read : (c : Chunk) (next : List ℕ) → IsChunk c → length next % 4 ≡ 0 → after_chunk (chunk_spelling c ++ next) ≡ Some next
@@ -48,10 +49,7 @@ pub record Begins (body next : List ℕ) : Type 0 where
   pub fits : IsChunk chunk
   pub parts : body ≡ chunk_spelling chunk ++ next
   pub words : length next % 4 ≡ 0
-  pub next_fits : IsBytes next
-
-drop_bytes : (n : ℕ) (b : List ℕ) → IsBytes b → IsBytes (drop n b)
-drop_bytes n b h i = rw get_or-drop (h (n + i))
+  pub next_fits : AreOctets next
 
 mapped : (o : Option (List ℕ)) (next : List ℕ) → option_map whole_words o ≡ Some next → (r : List ℕ) × (o ≡ Some r) × (whole_words r ≡ next)
 mapped None next e = absurd (none-some next e)
@@ -61,21 +59,17 @@ nothing : (l : List ℕ) → length l ≡ 0 → l ≡ []
 nothing [] e = refl
 nothing (x ∷ l) e = absurd (omega arith)
 
-append_bytes : (a b : List ℕ) → IsBytes (a ++ b) → IsBytes b
-append_bytes [] b h = h
-append_bytes (x ∷ a) b h = append_bytes a b (λ i. h (suc i))
+octets_behind : (body r : List ℕ) (items : List Item) → AreOctets body → drop 4 body ≡ flat_map item_spelling items ++ 0 ∷ r → AreOctets r
+octets_behind body r items fits tail = AreOctets-behind (0 ∷ []) r (AreOctets-behind (flat_map item_spelling items) (0 ∷ r) (subst AreOctets tail (AreOctets-drop 4 body fits)))
 
-behind_bytes : (body r : List ℕ) (items : List Item) → IsBytes body → drop 4 body ≡ flat_map item_spelling items ++ 0 ∷ r → IsBytes r
-behind_bytes body r items fits tail = append_bytes (0 ∷ []) r (append_bytes (flat_map item_spelling items) (0 ∷ r) (subst IsBytes tail (drop_bytes 4 body fits)))
-
-chunk_spelled : (body next : List ℕ) → IsBytes body → length body % 4 ≡ 0 → after_chunk body ≡ Some next → Begins body next
+chunk_spelled : (body next : List ℕ) → AreOctets body → length body % 4 ≡ 0 → after_chunk body ≡ Some next → Begins body next
 chunk_spelled body next fits words e =
     elim (cases_lt (length body) 4) [
       | inl lt ↦ absurd (none-some next (rw (lt-ltb (length body) 4 lt) at e))
       | inr le ↦ (
           let m = mapped (after_items 0 (drop 4 body)) next (rw (le-ltb (length body) 4 le) at e) in
           let r = m.0 in
-          let ends = items_spelled 0 (drop 4 body) r (drop_bytes 4 body fits) m.1 in
+          let ends = items_spelled 0 (drop 4 body) r (AreOctets-drop 4 body fits) m.1 in
           let fill = take (length r % 4) r in
           let c : Chunk = record { source = take 4 body; items = ends.items; fill = fill } in
           let empty : ends.text ≡ [] = nothing ends.text ends.size in
@@ -95,7 +89,7 @@ chunk_spelled body next fits words e =
             fits = record { source = source; items = ends.each; fill = short; whole = whole };
             parts = parts;
             words = words';
-            next_fits = subst IsBytes m.2 (drop_bytes (length r % 4) r (behind_bytes body r ends.items fits tail));
+            next_fits = subst AreOctets m.2 (AreOctets-drop (length r % 4) r (octets_behind body r ends.items fits tail));
           }
           )
     ]
@@ -104,7 +98,7 @@ then_some : (o : Option (List ℕ)) (count : ℕ) (rest : List ℕ) → option_a
 then_some None count rest e = absurd (none-some rest e)
 then_some (Some next) count rest e = (next, refl, e)
 
-chunks_spelled : (count : ℕ) (body rest : List ℕ) → IsBytes body → length body % 4 ≡ 0 → after_chunks count body ≡ Some rest → AreChunks count body
+chunks_spelled : (count : ℕ) (body rest : List ℕ) → AreOctets body → length body % 4 ≡ 0 → after_chunks count body ≡ Some rest → AreChunks count body
 chunks_spelled zero body rest fits words e = record { chunks = []; rest = body; all = refl; each = tt; parts = refl }
 chunks_spelled (suc count) body rest fits words e =
     let s = then_some (after_chunk body) count rest e in
@@ -122,7 +116,7 @@ some_is : (o : Option (List ℕ)) → is_some o ≡ true → (r : List ℕ) × (
 some_is None e = absurd cc
 some_is (Some r) e = (r, refl)
 
-pub chunks_from : (count : ℕ) (body : List ℕ) → IsBytes body → length body % 4 ≡ 0 → has_chunks count body ≡ true → AreChunks count body
+pub chunks_from : (count : ℕ) (body : List ℕ) → AreOctets body → length body % 4 ≡ 0 → has_chunks count body ≡ true → AreChunks count body
 chunks_from count body fits words e =
     let s = some_is (after_chunks count body) e in
     chunks_spelled count body s.0 fits words s.1

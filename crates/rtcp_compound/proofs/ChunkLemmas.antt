@@ -6,6 +6,7 @@ use Rattle.std.proofs.lemmas.Option.{same_Some, none-some}
 use Rattle.std.proofs.lemmas.List.{take_rest, drop_at}
 use Rattle.std.proofs.lemmas.Bool.{ne_eqb, cases_eq}
 use Rattle.std.proofs.lemmas.List.Concat.{flat_map-cons}
+use Rattle.octet_fields.proofs.OctetLemmas.{AreOctets, AreOctets-behind}
 use Rattle.rtcp_compound.specs.Chunks.{Item, IsItem, item_spelling, after_items, after_chunk, after_chunks}
 
 -- a text is stepped over at once
@@ -97,17 +98,11 @@ pub record Ends (k : ℕ) (b rest : List ℕ) : Type 0 where
   pub each : AllByRecursion IsItem items
   pub parts : b ≡ text ++ (flat_map item_spelling items ++ 0 ∷ rest)
 
-abbrev pub IsBytes : List ℕ → Type 0
-IsBytes b = (i : ℕ) → get_or b i 0 < 256
-
-pub tail_bytes : (x : ℕ) (b : List ℕ) → IsBytes (x ∷ b) → IsBytes b
-tail_bytes x b h i = h (suc i)
-
-pub items_spelled : (k : ℕ) (b rest : List ℕ) → IsBytes b → after_items k b ≡ Some rest → Ends k b rest
+pub items_spelled : (k : ℕ) (b rest : List ℕ) → AreOctets b → after_items k b ≡ Some rest → Ends k b rest
 items_spelled zero [] rest fits e = absurd cc
 items_spelled (suc k) [] rest fits e = absurd cc
 items_spelled (suc k) (x ∷ b) rest fits e =
-    let r = items_spelled k b rest (tail_bytes x b fits) e in
+    let r = items_spelled k b rest (AreOctets-behind (x ∷ []) b fits) e in
     record { text = x ∷ r.text; items = r.items; size = ap suc r.size; each = r.each; parts = ap (λ (l : List ℕ). x ∷ l) r.parts }
 items_spelled zero (kind ∷ []) rest fits e =
     elim (cases_eq kind 0) [
@@ -118,7 +113,7 @@ items_spelled zero (kind ∷ size ∷ b) rest fits e =
     elim (cases_eq kind 0) [
       | inl z ↦ record { text = []; items = []; size = refl; each = tt; parts = ap (λ (n : ℕ). n ∷ size ∷ b) z ∙ ap (λ (l : List ℕ). 0 ∷ l) (same_Some (size ∷ b) rest (rw z at e)) }
       | inr n ↦ (
-          let r = items_spelled size b rest (tail_bytes size b (tail_bytes kind (size ∷ b) fits)) (rw (ne_eqb kind 0 n) at e) in
+          let r = items_spelled size b rest (AreOctets-behind (kind ∷ size ∷ []) b fits) (rw (ne_eqb kind 0 n) at e) in
           let one : Item = record { kind = kind; text = r.text } in
           record {
             text = [];

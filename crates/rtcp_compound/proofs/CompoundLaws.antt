@@ -2,12 +2,12 @@
 use Rattle.std.proofs.Common.{◌≡◌, ℕ, zero, suc, ◌+◌, ◌<◌, ◌≤◌, Bool, true, false, List, [], ◌∷◌, ◌++◌, length, drop, map, None, refl, sym, ap, ◌∙◌, arith, length-append, length-drop, inl, inr}
 use Rattle.std.specs.Prelude.{◌⊎◌, nat_lt, ◌==◌, if◌then◌else◌}
 use Rattle.std.specs.List.{flat_map, AllByRecursion}
-use Rattle.std.proofs.lemmas.List.{drop_at, drop_all, append-nil, get_or-drop}
+use Rattle.std.proofs.lemmas.List.{drop_at, drop_all, append-nil}
 use Rattle.std.proofs.lemmas.List.Concat.{flat_map-cons}
 use Rattle.std.proofs.lemmas.Bool.{eqb-true, lt-ltb, le-ltb, cases_lt}
+use Rattle.octet_fields.proofs.OctetLemmas.{AreOctets, AreOctets-drop}
 use Rattle.rtcp_compound.specs.Compound.{Content, content_of, Wire, content, IsWire, spelling, IsReport, BeginsWithReport, PadsLast, IsCompound}
 use Rattle.rtcp_compound.specs.Reading.{kind_in, count_in, body_in, length_in, fault_at, fault_within, fault_of, packets_in}
-use Rattle.rtcp_compound.proofs.ChunkLemmas.{IsBytes}
 use Rattle.rtcp_compound.proofs.PacketLemmas.{passed, passing, header_within}
 use Rattle.rtcp_compound.proofs.PacketLaws.{wire_in, Front, front, Again, again, spelling_size}
 use Rattle.rtcp_compound.proofs.CompoundLemmas.{packets_step, packets_none, no_refusal}
@@ -25,9 +25,6 @@ record Spelt (first : Bool) (b : List ℕ) : Type 0 where
 pads_more : (w : Wire) (ws : List Wire) → w.padding ≡ [] → PadsLast ws → PadsLast (w ∷ ws)
 pads_more w [] none last = tt
 pads_more w (v ∷ ws) none last = (none, last)
-
-drop_bytes : (n : ℕ) (b : List ℕ) → IsBytes b → IsBytes (drop n b)
-drop_bytes n b fits i = rw get_or-drop (fits (n + i))
 
 positive : (place n : ℕ) → 0 < n → (place + n == 0) ≡ true → ⊥
 positive place n some e = omega (arith, eqb-true _ _ e)
@@ -60,7 +57,7 @@ spelt_last first b f some le =
 spelt_later : (first : Bool) (b : List ℕ) → (first ≡ true → ⊥) → Spelt first b → Spelt false b
 spelt_later first b later s = record { packets = s.packets; each = s.each; report = λ e. absurd cc; last = s.last; whole = s.whole; contents = s.contents }
 
-spelt : (most place : ℕ) (b : List ℕ) → IsBytes b → length b < most → fault_within most place b ≡ None → Spelt (place == 0) b
+spelt : (most place : ℕ) (b : List ℕ) → AreOctets b → length b < most → fault_within most place b ≡ None → Spelt (place == 0) b
 spelt zero place b fits h e = absurd (omega arith)
 spelt (suc most) place b fits h e =
     let four = header_within b in
@@ -73,12 +70,12 @@ spelt (suc most) place b fits h e =
     elim (cases_lt (length_in b) (length b)) [
       | inl lt ↦ spelt_more (place == 0) b f some lt
           (spelt_later (place + length_in b == 0) (drop (length_in b) b) (positive place (length_in b) (omega (arith, four)))
-          (spelt most (place + length_in b) (drop (length_in b) b) (drop_bytes (length_in b) b fits) (omega (arith, four, left)) (rw (lt-ltb (length_in b) (length b) lt) at parts.1)))
+          (spelt most (place + length_in b) (drop (length_in b) b) (AreOctets-drop (length_in b) b fits) (omega (arith, four, left)) (rw (lt-ltb (length_in b) (length b) lt) at parts.1)))
       | inr le ↦ spelt_last (place == 0) b f some le
     ]
 
 -- octets that no test refuses spell the packets that are read
-pub compound_from : (b : List ℕ) → IsBytes b → fault_of b ≡ None → IsCompound (packets_in b) b
+pub compound_from : (b : List ℕ) → AreOctets b → fault_of b ≡ None → IsCompound (packets_in b) b
 unfolding fault_of
 compound_from b fits e =
     let s = spelt (suc (length b)) 0 b fits (omega arith) e in

@@ -3,11 +3,11 @@ use Rattle.std.proofs.Common.{◌≡◌, ℕ, zero, suc, ◌+◌, ◌-◌, ◌*�
 use Rattle.std.specs.Prelude.{not, ◌&&◌, ◌⊎◌, nat_le}
 use Rattle.std.specs.Int.{w16, from_be_bytes, to_be_bytes}
 use Rattle.std.proofs.lemmas.Nat.{be_bytes_2, from_be_bytes-to_be_bytes_2}
-use Rattle.std.proofs.lemmas.List.{take-append-drop, take_at, length-take, take-take, drop-take, drop-drop, get_or-drop, get_or-take, get_or-append-add, append-nil, nil_from_length, get_or_past}
-use Rattle.std.proofs.lemmas.Bool.{eqb-true, eqb-false, ne_eqb, eq-eqb, leb-true, le-leb, cases_eq, cases_lt, and_parts, and_from, or_right}
+use Rattle.std.proofs.lemmas.List.{take-append-drop, take_at, length-take, take-take, drop-take, drop-drop, get_or-drop, get_or-take, get_or-append-add, append-nil, nil_from_length}
+use Rattle.std.proofs.lemmas.Bool.{eqb-true, eqb-false, ne_eqb, eq-eqb, leb-true, le-leb, cases_eq, and_parts, and_from, or_right}
+use Rattle.octet_fields.proofs.OctetLemmas.{AreOctets, AreOctets-drop, AreOctets-take}
 use Rattle.rtcp_compound.specs.Compound.{Wire, IsWire, spelling, padding_bit, IsPadding, IsReason, Holds, IsReport}
 use Rattle.rtcp_compound.specs.Reading.{version_in, is_padded, count_in, kind_in, length_in, padding_in, body_in, pads_well, is_reason, has_body, fault_at}
-use Rattle.rtcp_compound.proofs.ChunkLemmas.{IsBytes}
 use Rattle.rtcp_compound.proofs.ChunkLaws.{chunks_from, has_chunks_from}
 use Rattle.rtcp_compound.proofs.PacketLemmas.{Passes, passed, Pads, padding_cases, padding_within, pads_from, header_within}
 
@@ -49,7 +49,7 @@ goodbye_from count body e =
     let p = and_parts (nat_le (4 * count) (length body)) (is_reason (drop (4 * count) body)) e in
     (leb-true _ _ p.0, reason_from _ p.1)
 
-pub holds_from : (kind count : ℕ) (body : List ℕ) → IsBytes body → length body % 4 ≡ 0 → has_body kind count body ≡ true → Holds kind count body
+pub holds_from : (kind count : ℕ) (body : List ℕ) → AreOctets body → length body % 4 ≡ 0 → has_body kind count body ≡ true → Holds kind count body
 holds_from kind count body fits words e = record {
   sender_report = λ k. leb-true (24 + 24 * count) (length body) (subst (λ (n : ℕ). has_body n count body ≡ true) k e);
   receiver_report = λ k. leb-true (4 + 24 * count) (length body) (subst (λ (n : ℕ). has_body n count body ≡ true) k e);
@@ -124,16 +124,6 @@ length_is : (b : List ℕ) → length_in b ≡ 4 * (from_be_bytes w16 (take 2 (d
 unfolding length_in
 length_is b = refl
 
-take_bytes : (n : ℕ) (b : List ℕ) → IsBytes b → IsBytes (take n b)
-take_bytes n b fits i =
-    elim (cases_lt i n) [
-      | inl lt ↦ rw (get_or-take n b i 0 lt) (fits i)
-      | inr le ↦ rw (get_or_past (take n b) i 0 (omega (arith, length-take n b))) (omega arith)
-    ]
-
-drop_bytes : (n : ℕ) (b : List ℕ) → IsBytes b → IsBytes (drop n b)
-drop_bytes n b fits i = rw get_or-drop (fits (n + i))
-
 -- the sizes of the parts
 pub record Sizes (b : List ℕ) : Type 0 where
   pub body : length (body_in b) + padding_in b + 4 ≡ length_in b
@@ -200,7 +190,7 @@ pub record Front (first : Bool) (b : List ℕ) : Type 0 where
 head_is : (h bit : ℕ) → h / 64 ≡ 2 → bit ≡ 32 * (h / 32 % 2) → 128 + bit + h % 32 ≡ h
 head_is h bit v e = omega arith
 
-front_is : (first : Bool) (b : List ℕ) → IsBytes b → Passes first b → Front first b
+front_is : (first : Bool) (b : List ℕ) → AreOctets b → Passes first b → Front first b
 front_is first [] fits p = absurd (omega (arith, p.header))
 front_is first (h ∷ []) fits p = absurd (omega (arith, p.header))
 front_is first (h ∷ k ∷ []) fits p = absurd (omega (arith, p.header))
@@ -215,7 +205,7 @@ front_is first (h ∷ k ∷ x ∷ y ∷ t) fits p =
     let pad = padding_of b p.whole p.pads in
     let total : length (body_in b) + length (padding_octets b) ≡ 4 * w = omega (arith, size.body, size.padding) in
     let words : to_be_bytes w16 ((length (body_in b) + length (padding_octets b)) / 4) ≡ x ∷ y ∷ [] =
-    be_bytes_2 (x ∷ y ∷ []) _ refl (take_bytes 2 (x ∷ y ∷ t) (drop_bytes 2 b fits)) (omega (arith, total)) in
+    be_bytes_2 (x ∷ y ∷ []) _ refl (AreOctets-take 2 (x ∷ y ∷ t) (AreOctets-drop 2 b fits)) (omega (arith, total)) in
     let behind : drop n b ≡ drop (n - 4) t = ap (λ (j : ℕ). drop j b) (omega arith) ∙ sym (drop-drop (n - 4) 4 b) in
     let rest : (body_in b ++ padding_octets b) ++ drop n b ≡ t = ap (λ (l : List ℕ). l ++ drop n b) size.joined ∙ ap (λ (l : List ℕ). take (n - 4) t ++ l) behind ∙ take-append-drop (n - 4) t in
     let head : 128 + padding_bit (padding_octets b) + h % 32 ≡ h = head_is h (padding_bit (padding_octets b)) p.version pad.bit in
@@ -223,7 +213,7 @@ front_is first (h ∷ k ∷ x ∷ y ∷ t) fits p =
     ap (λ (c : ℕ). c ∷ k ∷ ((to_be_bytes w16 ((length (body_in b) + length (padding_octets b)) / 4) ++ (body_in b ++ padding_octets b)) ++ drop n b)) head
     ∙ ap (λ (l : List ℕ). h ∷ k ∷ ((l ++ (body_in b ++ padding_octets b)) ++ drop n b)) words
     ∙ ap (λ (l : List ℕ). h ∷ k ∷ x ∷ y ∷ l) rest in
-    let held = holds_from k (h % 32) (body_in b) (take_bytes _ t (drop_bytes 4 b fits)) (omega (arith, size.body, pad.words)) p.body in
+    let held = holds_from k (h % 32) (body_in b) (AreOctets-take _ t (AreOctets-drop 4 b fits)) (omega (arith, size.body, pad.words)) p.body in
     record {
       parts = sym whole;
       fits = record {
@@ -240,7 +230,7 @@ front_is first (h ∷ k ∷ x ∷ y ∷ t) fits p =
     }
 
 -- the packet at the front is the spelling of its parts
-pub front : (first : Bool) (b : List ℕ) → IsBytes b → fault_at first b ≡ None → Front first b
+pub front : (first : Bool) (b : List ℕ) → AreOctets b → fault_at first b ≡ None → Front first b
 front first b fits e = front_is first b fits (passed first b e)
 
 -- ---- what is spelled so passes the tests

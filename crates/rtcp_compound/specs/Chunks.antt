@@ -7,6 +7,7 @@ pub record Item : Type 0 where
   pub kind : ℕ
   pub text : List ℕ
 
+-- each fits its octet, and the type isn't 0
 pub record IsItem (i : Item) : Type 0 where
   pub kind : 0 < i.kind
   pub text : length i.text < 256

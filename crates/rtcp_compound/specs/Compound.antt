@@ -47,6 +47,7 @@ pub record Wire : Type 0 where
   pub body : List ℕ
   pub padding : List ℕ
 
+-- what it says
 abbrev pub content : Wire → Content
 content w = content_of w.kind w.count w.body
 

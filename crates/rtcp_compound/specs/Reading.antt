@@ -7,16 +7,19 @@ use Rattle.rtcp_compound.specs.declared.refusal.RtcpWhy.{RtcpWhy}
 use Rattle.rtcp_compound.specs.declared.refusal.RtcpWhy.TheVariants.{Short, Version, Kind, First, Length, Padding, Body}
 use Rattle.rtcp_compound.specs.declared.refusal.RtcpBad.{RtcpBad}
 
--- the fields of the packet at the front
+-- the fields of the packet at the front: its version
 abbrev pub version_in : List ℕ → ℕ
 version_in octets = slice_index octets 0 / 64
 
+-- its flag P
 abbrev pub is_padded : List ℕ → Bool
 is_padded octets = slice_index octets 0 / 32 % 2 == 1
 
+-- its count, subtype or format
 abbrev pub count_in : List ℕ → ℕ
 count_in octets = slice_index octets 0 % 32
 
+-- its packet type
 abbrev pub kind_in : List ℕ → ℕ
 kind_in octets = slice_index octets 1
 
@@ -32,10 +35,12 @@ padding_in octets = if is_padded octets then slice_index octets (length_in octet
 abbrev pub body_in : List ℕ → List ℕ
 body_in octets = take (length_in octets - padding_in octets - 4) (drop 4 octets)
 
--- padding stands in the last packet alone, and is one or more whole words of the body
+-- A packet of this size, with so many octets left at its front, is the last one, and its padding is one or more
+-- whole words of the body.
 abbrev pub is_padding : ℕ → ℕ → ℕ → Bool
 is_padding size left padding = size == left && (not (padding == 0) && (padding % 4 == 0 && nat_le padding (size - 4)))
 
+-- padding stands in the last packet alone, and is as it is to be
 abbrev pub pads_well : List ℕ → Bool
 pads_well octets = not (is_padded octets) || is_padding (length_in octets) (length octets) (padding_in octets)
 

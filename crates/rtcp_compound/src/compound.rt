@@ -1,8 +1,8 @@
 //! A compound that was read, and its packets. A contract sees each as the list of the contents that
 //! are left to give.
 ghost use Rattle.std.specs.Prelude.{◌≡◌, ◌^◌, ◌<◌, List, length, IfOk, IfErr, IsOkAnd, OnOk, Some, None};
-ghost use Rattle.rtcp_compound.specs.Compound.{Content, content_of, IsCompound};
-ghost use Rattle.rtcp_compound.specs.Reading.{count_in, kind_in, body_in, fault_at, fault_of, packets_in};
+ghost use Rattle.rtcp_compound.specs.Compound.{Content, IsCompound};
+ghost use Rattle.rtcp_compound.specs.Reading.{fault_of, packets_in};
 
 use crate::packet::{Packet, packet_of};
 use crate::reading::{packet_len, test_all};

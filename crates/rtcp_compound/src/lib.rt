@@ -15,7 +15,7 @@ pub use laws::{one_reading, the_name_is_read};
 pub use name::{RIST_NAME, is_rist};
 pub use packet::Packet;
 pub use refusal::{Full, RtcpBad, RtcpWhy};
-pub use writing::{CompoundOut, OUT_LEN, put_at};
+pub use writing::{CompoundOut, OUT_LEN};
 
 #[cfg(test)]
 mod tests;

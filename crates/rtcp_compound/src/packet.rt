@@ -5,6 +5,7 @@ ghost use Rattle.rtcp_compound.specs.Reading.{kind_in, count_in, body_in, has_bo
 ghost use Rattle.rtcp_compound.specs.Seen.{seen};
 
 use crate::reading::{BLOCK_LEN, body_of};
+use octet_fields::u32_at;
 
 /// A packet by its type. Slices have no padding.
 #[derive(Clone, Copy, Debug, PartialEq, Eq)]
@@ -105,12 +106,7 @@ fn number(body: &[u8], place: usize) -> u32
     requires { place + 4 ≤ length body.now }
     ensures { result ≡ number_at place body.now }
 {
-    u32::from_be_bytes([
-        body[place],
-        body[place + 1],
-        body[place + 2],
-        body[place + 3],
-    ])
+    u32_at(body, place)
 }
 
 // The packet of this type and count with this body.

@@ -1,9 +1,10 @@
 //! The tests of a compound, packet by packet, in their order.
-ghost use Rattle.std.specs.Prelude.{◌≡◌, ◌≤◌, ◌<◌, ◌+◌, ◌-◌, ◌*◌, ◌^◌, ◌↔◌, length, drop, IfOk, IfErr, OnOk, Some, None, IsTrue, true, false, option_map, nat_le};
+ghost use Rattle.std.specs.Prelude.{◌≡◌, ◌≤◌, ◌<◌, ◌+◌, ◌-◌, ◌*◌, ◌^◌, length, IfOk, IfErr, OnOk, Some, None, true, false, option_map};
 ghost use Rattle.rtcp_compound.specs.Chunks.{after_items, after_chunk, has_chunks};
-ghost use Rattle.rtcp_compound.specs.Reading.{length_in, padding_in, count_in, kind_in, body_in, is_padding, pads_well, is_reason, has_body, fault_at, fault_of};
+ghost use Rattle.rtcp_compound.specs.Reading.{length_in, padding_in, body_in, pads_well, is_reason, has_body, fault_at, fault_of};
 
 use crate::refusal::{RtcpBad, RtcpWhy};
+use octet_fields::u16_at;
 
 /// Octets of a report block.
 pub(crate) const BLOCK_LEN: usize = 24;
@@ -16,8 +17,7 @@ pub(crate) fn packet_len(octets: &[u8]) -> usize
     ensures least { 4 ≤ result }
     ensures most { result ≤ 2 ^ 18 }
 {
-    let words = u16::from_be_bytes([octets[2], octets[3]]);
-    4 * (words as usize + 1)
+    4 * (usize::from(u16_at(octets, 2)) + 1)
 }
 
 /// The octets of padding that the packet's last octet counts; 0 where P isn't set.

@@ -170,14 +170,6 @@ fn packets_are_written_octet_for_octet(rt: HostRuntime) -> Result<(), Fail> {
 }
 
 #[test]
-fn a_part_is_copied_to_its_place(rt: HostRuntime) {
-    let mut block = [9; 6];
-    assert_eq!(rt; put_at(&mut block, 1, &[1, 2]), 3);
-    assert_eq!(rt; put_at(&mut block, 6, &[]), 6);
-    assert_eq!(rt; block, [9, 1, 2, 9, 9, 9]);
-}
-
-#[test]
 fn a_packet_fits_up_to_1400_octets(rt: HostRuntime) -> Result<(), Fail> {
     let words = [0; 1384];
     let mut out = CompoundOut::new();

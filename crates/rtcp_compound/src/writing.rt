@@ -1,11 +1,12 @@
 //! A compound that is being written, into a block of its own. A contract sees the packets put so far,
 //! and their octets.
-ghost use Rattle.std.specs.Prelude.{◌≡◌, ◌≤◌, ◌<◌, ◌+◌, ◌*◌, ◌%◌, ◌↔◌, ◌⊎◌, ◌++◌, ◌∷◌, [], length, take, drop, OnOk, OnErr, IsErr};
+ghost use Rattle.std.specs.Prelude.{◌≡◌, ◌≤◌, ◌<◌, ◌+◌, ◌*◌, ◌%◌, ◌↔◌, ◌⊎◌, ◌++◌, [], length, take, OnOk, OnErr, IsErr};
 ghost use Rattle.std.specs.Int.{w32, to_be_bytes};
 ghost use Rattle.rtcp_compound.specs.Compound.{IsCompound, Holds, IsReport, spelling, content, sender_report, receiver_report, description, application, feedback};
 ghost use Rattle.rtcp_compound.specs.Writing.{numbers_spelling, plain, with_packet, sr_octets, rr_octets, sdes_octets, name_item, app_octets, feedback_octets};
 
 use crate::refusal::Full;
+use octet_fields::put_at;
 use std::marker::Model;
 
 /// The most octets of a compound that is written (this profile).
@@ -31,18 +32,6 @@ impl Model for CompoundOut {
     ghost view = { λ o. record { packets = packets_in (take o.used o.block); octets = take o.used o.block } };
 
     ghost invariant = { λ o. (o.used ≤ 1400) × AreWritten (take o.used o.block) };
-}
-
-/// Copies a part to this place, and answers the place behind it. What stands before and behind stays.
-pub fn put_at(out: &mut [u8], at: usize, part: &[u8]) -> usize
-    requires room { at + length part.now ≤ length out.old }
-    ensures end { result ≡ at + length part.now }
-    ensures octets { take result out.new ≡ take at out.old ++ part.now }
-    ensures rest { drop result out.new ≡ drop result out.old }
-{
-    let end = at + part.len();
-    out[at..end].copy_from_slice(part);
-    end
 }
 
 // Writes numbers of 32 bits one after another, and answers the place behind them.
