@@ -35,10 +35,12 @@ shape_of long count packets = record { units = count; long = long; nulls = null_
 abbrev pub can_strip : List (List ℕ) → Bool
 can_strip packets = list_all begins_packet packets && list_any is_null packets
 
+-- what was deleted of packets of a payload, and those that are kept
 abbrev pub stripping_at : Bool → ℕ → List (List ℕ) → Option (Shape × List ℕ)
 stripping_at long count packets =
     if can_strip packets then Some (shape_of long count packets, flat_map kept packets) else None
 
+-- the same of a payload that is so many packets, if it is
 abbrev pub stripping_by : Option (Bool × ℕ) → List ℕ → Option (Shape × List ℕ)
 stripping_by None payload = None
 stripping_by (Some found) payload = stripping_at found.0 found.1 (packets_of (packet_len found.0) found.1 payload)
@@ -48,9 +50,11 @@ stripping_by (Some found) payload = stripping_at found.0 found.1 (packets_of (pa
 unfoldable pub stripping_of : List ℕ → Option (Shape × List ℕ)
 stripping_of payload = stripping_by (packets_in (length payload)) payload
 
+-- the packets with each null one as the one that stands for it, if each begins as one
 abbrev pub blanking_at : Bool → List (List ℕ) → List ℕ → List ℕ
 blanking_at long packets payload = if list_all begins_packet packets then flat_map (blanked long) packets else payload
 
+-- the same of a payload that is so many packets, if it is
 abbrev pub blanking_by : Option (Bool × ℕ) → List ℕ → List ℕ
 blanking_by None payload = payload
 blanking_by (Some found) payload = blanking_at found.0 (packets_of (packet_len found.0) found.1 payload) payload
@@ -71,6 +75,7 @@ kept_count [] = 0
 kept_count (true ∷ flags) = kept_count flags
 kept_count (false ∷ flags) = 1 + kept_count flags
 
+-- which packets were null, by what is told
 abbrev pub flags_of : Shape → List Bool
 flags_of shape = null_flags 7 shape.units shape.nulls
 
@@ -85,6 +90,7 @@ abbrev pub written : List ℕ → Result ℕ NullBad → Result (List ℕ) NullB
 written out (Ok len) = Ok (take len out)
 written out (Err bad) = Err bad
 
+-- what is told, and what was written at the front of a block
 abbrev pub stripped_into : List ℕ → Option (Shape × ℕ) → Option (Shape × List ℕ)
 stripped_into out None = None
 stripped_into out (Some found) = Some (found.0, take found.1 out)

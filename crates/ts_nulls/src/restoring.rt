@@ -5,6 +5,7 @@ ghost use Rattle.ts_nulls.specs.Packets.{packet_len, null_packet};
 
 use crate::nulls::{NullBad, Strip};
 use crate::packets::packet_len;
+use octet_fields::put_at;
 
 // Whether the packet at this place was null.
 fn was_null(nulls: u8, place: u8) -> bool
@@ -35,17 +36,6 @@ fn kept_count(units: u8, nulls: u8) -> usize
     kept
 }
 
-// Copies a packet to its place, and says where it ends.
-fn put(out: &mut [u8], at: usize, packet: &[u8]) -> usize
-    requires room { at + length packet.now ≤ length out.old }
-    ensures end { result ≡ at + length packet.now }
-    ensures octets { take result out.new ≡ take at out.old ++ packet.now }
-{
-    let end = at + packet.len();
-    out[at..end].copy_from_slice(packet);
-    end
-}
-
 // Writes a null packet at its place.
 fn put_null(out: &mut [u8], at: usize, long: bool) -> usize
     requires room { at + packet_len long ≤ length out.old }
@@ -56,7 +46,7 @@ fn put_null(out: &mut [u8], at: usize, long: bool) -> usize
     packet[0] = 0x47;
     packet[1] = 0x1f;
     packet[3] = 0x10;
-    put(out, at, &packet[..packet_len(long)])
+    put_at(out, at, &packet[..packet_len(long)])
 }
 
 // Writes the next packet, a null one or the first of the rest, and says where it ends and what is left.
@@ -77,7 +67,7 @@ fn put_next<'a>(
         return (put_null(out, at, long), rest);
     }
     let (packet, after) = rest.split_at(packet_len(long));
-    (put(out, at, packet), after)
+    (put_at(out, at, packet), after)
 }
 
 // Writes all packets of a payload, and says how many octets they are.

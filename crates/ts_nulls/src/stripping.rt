@@ -1,10 +1,11 @@
-ghost use Rattle.std.specs.Prelude.{◌≡◌, ◌+◌, ◌-◌, ◌*◌, ◌^◌, ◌<◌, ◌≤◌, ◌++◌, if◌then◌else◌, IfSome, IsTrue, length, take, is_some};
+ghost use Rattle.std.specs.Prelude.{◌≡◌, ◌+◌, ◌-◌, ◌*◌, ◌^◌, ◌<◌, ◌≤◌, ◌++◌, if◌then◌else◌, IfSome, length, take, is_some};
 ghost use Rattle.std.specs.List.{flat_map, list_all};
 ghost use Rattle.ts_nulls.specs.Nulls.{kept, null_bits, stripped_into, stripping_of};
 ghost use Rattle.ts_nulls.specs.Packets.{packet_len, packets_of, begins_packet, is_null};
 
 use crate::nulls::Strip;
 use crate::packets::{begins_packet, is_null, packet_len, packets_in};
+use octet_fields::put_at;
 
 // The bit of a packet at its place: 0 if it isn't null.
 fn null_bit(packet: &[u8], place: u8) -> u8
@@ -26,9 +27,7 @@ fn put_kept(out: &mut [u8], at: usize, packet: &[u8]) -> usize
     if is_null(packet) {
         return at;
     }
-    let end = at + packet.len();
-    out[at..end].copy_from_slice(packet);
-    end
+    put_at(out, at, packet)
 }
 
 // Copies the packets that aren't null, and says the bits of those that are and where the copy ends. None

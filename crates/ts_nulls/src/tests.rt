@@ -43,11 +43,23 @@ fn null_packets_return_to_their_places(rt: HostRuntime) -> Result<(), Fail> {
         whole.get(188..564).ok_or("kept")?,
         payload.get(188..564).ok_or("kept")?
     );
-    assert_eq!(rt;
-        restore(&told, sent.get(..564).ok_or("564")?, &mut whole),
-        Err(NullBad::Shape)
-    );
     Ok(())
+}
+
+#[test]
+fn nothing_is_written_of_a_payload_of_another_length(rt: HostRuntime) {
+    let told = Strip {
+        units: 2,
+        long: false,
+        nulls: 0x40,
+    };
+    let mut out = [9; 1500];
+    // One packet of 188 octets was kept.
+    for payload in [&[0x47; 187][..], &[0x47; 189], &[]] {
+        assert!(rt; !can_restore(&told, payload));
+        assert_eq!(rt; restore(&told, payload, &mut out), Err(NullBad::Shape));
+    }
+    assert!(rt; out.iter().all(|octet| *octet == 9));
 }
 
 #[test]
