@@ -1,6 +1,6 @@
 // The state as four columns, each a word with row 0 in its highest octet, and the rounds on it.
 
-ghost use Rattle.std.specs.Prelude.{◌≡◌, ◌+◌, ◌<◌, ◌≤◌, ℕ, List, [], ◌∷◌, length, take, drop, map, slice_index};
+ghost use Rattle.std.specs.Prelude.{◌≡◌, ◌+◌, ◌≤◌, [], ◌∷◌, length, take, drop, slice_index};
 ghost use Rattle.aes_block.specs.Field.{sub_byte};
 ghost use Rattle.aes_block.specs.State.{add_round_key, mix_column, mix_columns, shift_rows, sub_bytes};
 ghost use Rattle.aes_block.specs.Columns.{column_octets, word_octets};

@@ -1,6 +1,6 @@
 // The key schedule (FIPS 197, section 5.2), in words with the first octet highest.
 
-ghost use Rattle.std.specs.Prelude.{◌≡◌, ◌+◌, ◌*◌, ◌/◌, ◌%◌, ◌<◌, ◌≤◌, ℕ, List, [], ◌∷◌, length, take, map, bit_xor, slice_index};
+ghost use Rattle.std.specs.Prelude.{◌≡◌, ◌+◌, ◌*◌, ◌/◌, ◌%◌, ◌<◌, ◌≤◌, [], ◌∷◌, length, take, map, bit_xor, slice_index};
 ghost use Rattle.std.specs.Simd.Lanes.{zip2};
 ghost use Rattle.aes_block.specs.Schedule.{power_of_x, rot_word, step_word, sub_word, words_of};
 ghost use Rattle.aes_block.specs.Cipher.{expanded_key, round_count};

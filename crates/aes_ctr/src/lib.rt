@@ -1,7 +1,7 @@
 //! Counter mode over the cipher of `aes_block` (NIST SP 800-38A, section 6.5).
 #![tactic(auto)]
 
-ghost use Rattle.std.specs.Prelude.{◌≡◌, ℕ, ◌+◌, ◌/◌, ◌%◌, ◌^◌, ◌<◌, ◌≤◌, List, [], ◌∷◌, length, map, slice_index, slice_index_or, bit_xor};
+ghost use Rattle.std.specs.Prelude.{◌≡◌, ℕ, ◌+◌, ◌/◌, ◌%◌, ◌^◌, ◌<◌, ◌≤◌, [], length, slice_index, slice_index_or, bit_xor};
 ghost use Rattle.std.specs.Int.{w128, to_be_bytes};
 ghost use Rattle.aes_block.specs.Cipher.{cipher};
 ghost use Rattle.aes_ctr.specs.Ctr.{ctr};

@@ -4,7 +4,7 @@ ghost use Rattle.std.specs.Prelude.{◌≡◌, ◌≤◌, ◌/◌, ◌⊎◌, []
 ghost use Rattle.std.specs.Int.{w32, to_be_bytes, from_be_bytes};
 ghost use Rattle.std.specs.Map.{keys_of};
 ghost use Rattle.aes_block.specs.Cipher.{key_octets};
-ghost use Rattle.psk_keys.specs.Keys.{AreDerived, IsKeyLength, KeysState, key_of, round_count, without};
+ghost use Rattle.psk_keys.specs.Keys.{AreDerived, IsKeyLength, KeysState, key_of, without};
 
 use crate::{Phrase, pbkdf2};
 use aes_block::Key;

@@ -1,4 +1,4 @@
-ghost use Rattle.std.specs.Prelude.{◌≡◌, ◌*◌};
+ghost use Rattle.std.specs.Prelude.{◌≡◌};
 ghost use Rattle.seq_unwrap.specs.Nearest.{cycle_of};
 
 /// How many of a number's lowest bits are sent.
