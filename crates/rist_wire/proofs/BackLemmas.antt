@@ -1,11 +1,11 @@
 -- What is written is read back: the message of the datagram of a message is that message.
-use Rattle.std.proofs.Common.{◌≡◌, ◌⊎◌, ℕ, ◌+◌, ◌^◌, ◌<◌, ◌≤◌, Bool, true, false, List, ◌++◌, drop, Option, Some, None, is_some, Ok, IsSome, refl, sym, ap, subst, ◌∙◌, arith, inl, inr}
+use Rattle.std.proofs.Common.{◌≡◌, ◌⊎◌, ℕ, ◌+◌, ◌^◌, ◌<◌, ◌≤◌, true, false, List, ◌++◌, drop, Option, Some, None, is_some, Ok, IsSome, refl, sym, ap, subst, ◌∙◌, arith, inl, inr}
 use Rattle.std.proofs.lemmas.Bool.Decides.{nat_tests}
 use Rattle.std.proofs.lemmas.Nat.{from_be_bytes-to_be_bytes_2}
 use Rattle.gre_tunnel.specs.Gre.{Spells, keepalive_protocol, datagram_protocol}
 use Rattle.gre_tunnel.specs.Reading.{reading_of as gre_reading_of, value_of as gre_value_of}
 use Rattle.gre_tunnel.specs.Writing.{ignored_with}
-use Rattle.gre_tunnel.proofs.HeaderLemmas.{reading-spelled, rest-spelled}
+use Rattle.gre_tunnel.proofs.HeaderLemmas.{ignored-few, reading-spelled, rest-spelled}
 use Rattle.outside_io.specs.declared.profile.Profile.{Profile}
 use Rattle.outside_io.specs.declared.profile.Profile.TheVariants.{Simple, Main}
 use Rattle.rist_wire.specs.declared.session.Session.{Session}
@@ -19,8 +19,11 @@ use Rattle.rtcp_compound.proofs.CompoundLaws.{compound_accepted, compound_packet
 use Rattle.rist_wire.specs.Session.{IsPlain, IsSession}
 use Rattle.rist_wire.specs.Cipher.{ciphered, ciphered_by}
 use Rattle.rist_wire.specs.Sealed.{IsSealed}
-use Rattle.rist_wire.specs.Item.{datagram_kind, message_with, text_message, cipher_fault, text_in, refused_or, tunnel_message, message_on, message_of, destination_of, rtcp_item, item_by, item_in, item_of}
-use Rattle.rist_wire.specs.Writing.{IsPair, IsDatagram, nonce_of, sequence_of, protocol_for, header_for, is_long, header_octets, ports_octets, text_for, sealed_text, tunnel_octets, channel_on, channel_of, datagram_on, datagram_of}
+use Rattle.rist_wire.specs.Messages.{rtcp_item, item_by}
+use Rattle.rist_wire.specs.Tunnel.{datagram_kind, message_with, text_message, cipher_fault, text_in, refused_or, tunnel_message, destination_of}
+use Rattle.rist_wire.specs.Item.{message_on, message_of, item_in, item_of}
+use Rattle.rist_wire.specs.Writing.{IsPair, nonce_of, sequence_of}
+use Rattle.rist_wire.specs.Datagrams.{IsDatagram, protocol_for, header_for, is_long, header_octets, ports_octets, text_for, sealed_text, tunnel_octets, channel_on, channel_of, datagram_on, datagram_of}
 use Rattle.rist_wire.proofs.CipherLemmas.{ciphered_by-twice}
 
 -- ---- the ports
@@ -53,16 +56,12 @@ known MediaKind = inr refl
 known ControlKind = inr refl
 known KeepaliveKind = inl refl
 
-few : (long : Bool) → ignored_with long < 128
-few true = omega arith
-few false = omega arith
-
 spelled : (bits : ℕ) (pair : Option Pair) (kind : Kind) (rest : List ℕ) → IsPair pair
     → Spells (header_for pair kind) rest (header_octets bits pair kind ++ rest)
 spelled bits pair kind rest fits = record {
   fits = record { key = fits.nonce; sequence = fits.sequence; paired = pairs pair; protocol = known kind };
   ignored = ignored_with (is_long bits pair);
-  ignored_fits = few (is_long bits pair);
+  ignored_fits = ignored-few (is_long bits pair);
   whole = refl;
 }
 

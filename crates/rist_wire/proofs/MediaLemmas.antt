@@ -1,6 +1,7 @@
 -- The datagrams of media: what is read of them, and how long they are.
 use Rattle.std.proofs.Common.{◌≡◌, ℕ, ◌+◌, ◌-◌, ◌%◌, ◌^◌, ◌<◌, ◌≤◌, Bool, true, false, cond, List, [], ◌++◌, length, Option, Some, None, is_some, Result, Ok, Err, IfSome, refl, sym, ap, ◌∙◌, arith, length-append, append-nil, bit_xor}
 use Rattle.std.specs.Prelude.{◌||◌, if◌then◌else◌, nat_lt, unwrap_or}
+use Rattle.std.specs.Int.{from_bool}
 use Rattle.std.proofs.lemmas.Bool.{eq-eqb, ne_eqb}
 use Rattle.std.proofs.lemmas.Bool.Decides.{nat_tests}
 use Rattle.std.proofs.lemmas.List.FromFn.{length-map-range_with_len}
@@ -15,7 +16,7 @@ use Rattle.rist_ext.specs.Extension.{IsWord, spelling as extension_spelling, unr
 use Rattle.rist_ext.proofs.WordLemmas.{reading-spelled as extension-spelled}
 use Rattle.rtp_packet.specs.declared.bad.RtpBad.{RtpBad}
 use Rattle.rtp_packet.specs.declared.bad.RtpBad.TheVariants.{Long}
-use Rattle.rtp_packet.specs.Rtp.{Spells, IsExtension, bit_of, extension_octets, spelling as rtp_spelling}
+use Rattle.rtp_packet.specs.Rtp.{Spells, IsExtension, extension_octets, spelling as rtp_spelling}
 use Rattle.rtp_packet.specs.declared.writing.RtpHead.{RtpHead}
 use Rattle.rtp_packet.specs.Writing.{packet_with}
 use Rattle.rtp_packet.specs.Reading.{RtpValue, value_of, reading_of as rtp_reading_of}
@@ -33,9 +34,12 @@ use Rattle.rist_wire.specs.declared.item.Kind.TheVariants.{Media as MediaKind, K
 use Rattle.rist_wire.specs.Cipher.{key_by, ciphered, ciphered_under}
 use Rattle.psk_seal.specs.Pairs.{first_counter_block}
 use Rattle.rist_wire.specs.Media.{MediaValue, can_restore, flow_of, is_again, width_by, word_by}
-use Rattle.rist_wire.specs.Item.{word_in, known_word, media_with, tested_media, media_by, rtp_item, item_by, item_of}
+use Rattle.rist_wire.specs.Messages.{word_in, known_word, media_with, tested_media, media_by, rtp_item, item_by}
+use Rattle.rist_wire.specs.Item.{item_of}
 use Rattle.rist_wire.specs.Session.{IsSession}
-use Rattle.rist_wire.specs.Writing.{MediaOut, IsPair, nonce_of, sequence_of, upper_for, word_for, extension_for, head_for, packet_for, media_octets, media_value, header_octets, text_for, sealed_text, datagram_on}
+use Rattle.rist_wire.specs.Writing.{MediaOut, IsPair, nonce_of, sequence_of}
+use Rattle.rist_wire.specs.Packets.{upper_for, word_for, extension_for, head_for, packet_for, media_octets, media_value}
+use Rattle.rist_wire.specs.Datagrams.{header_octets, text_for, sealed_text, datagram_on}
 use Rattle.rist_wire.specs.Sent.{IsMediaOut, media_channel, media_datagram}
 use Rattle.rist_wire.proofs.BackLemmas.{item-back}
 
@@ -80,7 +84,7 @@ word-back : (word : ExtWord) → IsWord word → word_in (extension_for word) �
 word-back word fits = back-with word.strip word.upper fits
 
 -- ---- the packet
-again-back : (flow : ℕ) (again : Bool) → flow % 2 ≡ 0 → (flow_of (flow + bit_of again) ≡ flow) × (is_again (flow + bit_of again) ≡ again)
+again-back : (flow : ℕ) (again : Bool) → flow % 2 ≡ 0 → (flow_of (flow + from_bool again) ≡ flow) × (is_again (flow + from_bool again) ≡ again)
 again-back flow true even = (omega arith, eq-eqb _ _ (omega arith))
 again-back flow false even = (omega arith, ne_eqb _ _ (λ e. omega arith))
 
@@ -95,7 +99,7 @@ number-back W32 number = omega arith
 not-long : (n : ℕ) (value : RtpValue) → n ≤ 1500 → (let answer : Result RtpValue RtpBad = if nat_lt 1500 n then Err Long else Ok value in answer) ≡ Ok value
 not-long n value few = grind (arith, nat_tests)
 
-source-fits : (flow : ℕ) (again : Bool) → flow % 2 ≡ 0 → flow < 2 ^ 32 → flow + bit_of again < 2 ^ 32
+source-fits : (flow : ℕ) (again : Bool) → flow % 2 ≡ 0 → flow < 2 ^ 32 → flow + from_bool again < 2 ^ 32
 source-fits flow true even fits = omega arith
 source-fits flow false even fits = omega arith
 

@@ -3,7 +3,7 @@ use Rattle.std.proofs.Common.{◌≡◌, ℕ, ◌+◌, ◌-◌, List, length, ta
 use Rattle.std.proofs.Math.Seq.{take-length}
 use Rattle.std.proofs.lemmas.List.{drop-drop}
 use Rattle.rist_wire.specs.declared.item.Kind.{Kind}
-use Rattle.rist_wire.specs.Item.{message_with, datagram_kind, datagram_message}
+use Rattle.rist_wire.specs.Tunnel.{message_with, datagram_kind, datagram_message}
 
 -- a slice to the end
 pub slice-end : (from : ℕ) (octets : List ℕ) → take (length octets - from) (drop from octets) ≡ drop from octets

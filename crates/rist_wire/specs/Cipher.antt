@@ -27,6 +27,7 @@ key_under None field = None
 key_under (Some secret) None = None
 key_under (Some secret) (Some nonce) = Some (key_of secret.pass secret.bits (to_be_bytes w32 nonce))
 
+-- the same by a passphrase and the bits of its keys
 abbrev pub key_by : Option (List ℕ) → ℕ → Option ℕ → Option (List ℕ)
 key_by pass bits key = key_under (secret_with pass bits) key
 
@@ -39,5 +40,6 @@ abbrev pub ciphered_under : Option (List ℕ) → Option ℕ → List ℕ → Li
 ciphered_under None sequence text = text
 ciphered_under (Some key) sequence text = ciphered key (unwrap_or sequence 0) text
 
+-- the same by a passphrase and the bits of its keys
 abbrev pub ciphered_by : Option (List ℕ) → ℕ → Option ℕ → Option ℕ → List ℕ → List ℕ
 ciphered_by pass bits nonce sequence text = ciphered_under (key_by pass bits nonce) sequence text

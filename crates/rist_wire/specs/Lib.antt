@@ -1,8 +1,12 @@
 pub mod Session
 pub mod Media
 pub mod Cipher
+pub mod Messages
+pub mod Tunnel
 pub mod Item
 pub mod Sealed
 pub mod Writing
+pub mod Packets
+pub mod Datagrams
 pub mod Sent
 pub mod Text

@@ -21,6 +21,7 @@ abbrev pub can_restore : Option Shape → List ℕ → Bool
 can_restore None payload = true
 can_restore (Some shape) payload = is_ok (restoring_of shape payload)
 
+-- the octets that are restored, where they can be
 abbrev pub octets_in : Result (List ℕ) NullBad → List ℕ
 octets_in (Ok octets) = octets
 octets_in (Err bad) = []
@@ -36,10 +37,11 @@ content_of media = restored_payload media.strip media.payload
 
 -- ---- the source and the number
 
--- the flow is the source (SSRC) with its lowest bit cleared, and that bit says that media is sent again
+-- the flow is the source (SSRC) with its lowest bit cleared
 abbrev pub flow_of : ℕ → ℕ
 flow_of ssrc = ssrc - ssrc % 2
 
+-- that bit says that media is sent again
 abbrev pub is_again : ℕ → Bool
 is_again ssrc = ssrc % 2 == 1
 
@@ -48,6 +50,7 @@ abbrev pub width_by : Option ℕ → Width
 width_by None = W16
 width_by (Some upper) = W32
 
+-- the bits of the number that were sent
 abbrev pub word_by : Option ℕ → ℕ → ℕ
 word_by None number = number
 word_by (Some upper) number = upper * 65536 + number

@@ -6,7 +6,9 @@ use Rattle.ts_nulls.specs.Shape.{IsShape}
 use Rattle.rist_wire.specs.declared.item.Kind.TheVariants.{Media as MediaKind}
 use Rattle.rist_wire.specs.declared.session.Session.{Session}
 use Rattle.rist_wire.specs.Media.{can_restore}
-use Rattle.rist_wire.specs.Writing.{MediaOut, media_octets, channel_of, datagram_of}
+use Rattle.rist_wire.specs.Writing.{MediaOut}
+use Rattle.rist_wire.specs.Packets.{media_octets}
+use Rattle.rist_wire.specs.Datagrams.{channel_of, datagram_of}
 
 -- each field fits its bits, the flow is even, and what was deleted from the payload can be put back
 pub record IsMediaOut (media : MediaOut) : Type 0 where

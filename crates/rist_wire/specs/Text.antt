@@ -7,16 +7,17 @@ use Rattle.rtcp_compound.specs.Text.{text_of as rtcp_text_of}
 use Rattle.rist_ext.specs.Text.{text_of as extension_text_of}
 use Rattle.ts_nulls.specs.Text.{text_of as nulls_text_of}
 use Rattle.rist_wire.specs.declared.bad.WireBad.{WireBad}
-use Rattle.rist_wire.specs.declared.bad.WireBad.TheVariants.{Channel, Clear, Sealed, Stub, Port, Gre, Keepalive, Rtp, Rtcp, Ext, Nulls}
+use Rattle.rist_wire.specs.declared.bad.WireBad.TheVariants.{Channel, Gre, Sealed, Clear, Keepalive, Stub, Port, Rtp, Rtcp, Ext, Nulls}
 
+-- the text of the test that fails
 abbrev pub text_of : WireBad → List ℕ
 text_of Channel = codes "wire channel"
-text_of Clear = codes "wire clear"
+text_of (Gre bad) = gre_text_of bad
 text_of Sealed = codes "wire sealed"
+text_of Clear = codes "wire clear"
+text_of (Keepalive bad) = keepalive_text_of bad
 text_of Stub = codes "wire stub"
 text_of Port = codes "wire port"
-text_of (Gre bad) = gre_text_of bad
-text_of (Keepalive bad) = keepalive_text_of bad
 text_of (Rtp bad) = rtp_text_of bad
 text_of (Rtcp bad) = rtcp_text_of bad.why
 text_of (Ext bad) = extension_text_of bad
@@ -26,12 +27,12 @@ text_of (Nulls bad) = nulls_text_of bad
 abbrev pub place_of : WireBad → ℕ
 place_of (Rtcp bad) = bad.place
 place_of Channel = 0
-place_of Clear = 0
+place_of (Gre bad) = 0
 place_of Sealed = 0
+place_of Clear = 0
+place_of (Keepalive bad) = 0
 place_of Stub = 0
 place_of Port = 0
-place_of (Gre bad) = 0
-place_of (Keepalive bad) = 0
 place_of (Rtp bad) = 0
 place_of (Ext bad) = 0
 place_of (Nulls bad) = 0

@@ -12,18 +12,18 @@ use ts_nulls::NullBad;
 pub enum WireBad {
     /// A channel that the session's profile doesn't have.
     Channel,
-    /// Not enciphered, in a session with a passphrase. Keepalives may be so.
-    Clear,
+    /// No GRE header.
+    Gre(GreBad),
     /// Enciphered, in a session without a passphrase.
     Sealed,
+    /// Not enciphered, in a session with a passphrase. Keepalives may be so.
+    Clear,
+    /// No keepalive.
+    Keepalive(KeepBad),
     /// No room for the four octets of the ports.
     Stub,
     /// Neither port of the session.
     Port,
-    /// No GRE header.
-    Gre(GreBad),
-    /// No keepalive.
-    Keepalive(KeepBad),
     /// No RTP packet.
     Rtp(RtpBad),
     /// No RTCP compound.
@@ -59,12 +59,12 @@ impl Display for WireBad {
     fn fmt<W: Write>(&self, f: &mut Formatter<W>) -> fmt::Result {
         match self {
             WireBad::Channel => f.write_str("wire channel"),
-            WireBad::Clear => f.write_str("wire clear"),
+            WireBad::Gre(bad) => bad.fmt(f),
             WireBad::Sealed => f.write_str("wire sealed"),
+            WireBad::Clear => f.write_str("wire clear"),
+            WireBad::Keepalive(bad) => bad.fmt(f),
             WireBad::Stub => f.write_str("wire stub"),
             WireBad::Port => f.write_str("wire port"),
-            WireBad::Gre(bad) => bad.fmt(f),
-            WireBad::Keepalive(bad) => bad.fmt(f),
             WireBad::Rtp(bad) => bad.fmt(f),
             WireBad::Rtcp(bad) => bad.why.fmt(f),
             WireBad::Ext(bad) => bad.fmt(f),

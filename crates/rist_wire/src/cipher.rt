@@ -72,6 +72,7 @@ pub(crate) struct KeyInUse {
 }
 
 impl KeyInUse {
+    /// Of no nonce.
     pub(crate) fn none() -> KeyInUse
         ensures nonce { result.nonce ≡ None }
         ensures key { result.key ≡ None }
@@ -82,6 +83,7 @@ impl KeyInUse {
         }
     }
 
+    /// Takes the key of this nonce into use.
     pub(crate) fn turn_to(&mut self, session: &Session, nonce: Option<u32>)
         requires bits { IsKeyLength session.now.bits }
         requires derived { self.old.key ≡ key_by session.now.pass session.now.bits self.old.nonce }

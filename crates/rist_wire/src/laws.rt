@@ -9,7 +9,8 @@ ghost use Rattle.rist_wire.specs.declared.item.Item.TheVariants.{Media as MediaI
 ghost use Rattle.rist_wire.specs.Session.{IsSession};
 ghost use Rattle.rist_wire.specs.Media.{can_restore, restored_payload};
 ghost use Rattle.rist_wire.specs.Item.{item_of};
-ghost use Rattle.rist_wire.specs.Writing.{IsPair, MediaOut, media_value};
+ghost use Rattle.rist_wire.specs.Writing.{IsPair, MediaOut};
+ghost use Rattle.rist_wire.specs.Packets.{media_value};
 ghost use Rattle.rist_wire.specs.Sent.{IsMediaOut, media_channel, media_datagram};
 
 /// A payload whose null packets were deleted can be sent, and its content has them in their places.

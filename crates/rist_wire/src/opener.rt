@@ -1,7 +1,8 @@
 ghost use Rattle.std.specs.Prelude.{◌≡◌, ◌≤◌, length, IfOk};
 ghost use Rattle.rist_wire.specs.Session.{IsSession};
 ghost use Rattle.rist_wire.specs.Cipher.{secret_of, secret_with};
-ghost use Rattle.rist_wire.specs.Item.{message_of, plain_of, message_at, item_of};
+ghost use Rattle.rist_wire.specs.Tunnel.{message_at};
+ghost use Rattle.rist_wire.specs.Item.{message_of, plain_of, item_of};
 
 use crate::bad::WireBad;
 use crate::item::{Item, Kind, Part};

@@ -1,13 +1,11 @@
 // The RTP packets of media.
-ghost use Rattle.std.specs.Prelude.{◌≡◌, ◌+◌, ◌%◌, ◌≤◌, ◌<◌, ◌^◌, Ok, Some, true, length, take, is_none, IfSome};
-ghost use Rattle.std.specs.Option.{ForSome};
-ghost use Rattle.rtp_packet.specs.Reading.{reading_of as rtp_reading_of, value_of};
-ghost use Rattle.rist_ext.specs.Reading.{reading_of as extension_reading_of};
+ghost use Rattle.std.specs.Prelude.{◌≡◌, ◌+◌, ◌%◌, ◌≤◌, ◌<◌, Ok, Some, true, length, take, is_none};
 ghost use Rattle.rist_wire.specs.declared.item.Kind.TheVariants.{Media as MediaKind};
 ghost use Rattle.rist_wire.specs.declared.item.Item.TheVariants.{Media as MediaItem};
 ghost use Rattle.rist_wire.specs.Media.{can_restore};
-ghost use Rattle.rist_wire.specs.Item.{item_by, word_in};
-ghost use Rattle.rist_wire.specs.Writing.{media_out, upper_for, word_for, extension_for, packet_for, media_octets, media_value};
+ghost use Rattle.rist_wire.specs.Messages.{item_by};
+ghost use Rattle.rist_wire.specs.Writing.{media_out};
+ghost use Rattle.rist_wire.specs.Packets.{upper_for, media_octets, media_value};
 
 use rist_ext::{ExtWord, RIST_PROFILE};
 use rtp_packet::{RtpHead, write};

@@ -1,11 +1,11 @@
 // Messages, read as items.
-ghost use Rattle.std.specs.Prelude.{◌≡◌, ◌<◌, ◌-◌, ◌%◌, drop, length};
+ghost use Rattle.std.specs.Prelude.{◌≡◌, ◌<◌, ◌-◌, ◌%◌};
 ghost use Rattle.rtp_packet.specs.Reading.{extension_shown, reading_of as rtp_reading_of};
 ghost use Rattle.rtcp_compound.specs.Reading.{fault_of};
 ghost use Rattle.keepalive_msg.specs.Reading.{reading_of as keepalive_reading_of};
 ghost use Rattle.seq_unwrap.specs.Nearest.{cycle_of};
 ghost use Rattle.rist_wire.specs.Media.{can_restore, width_by, word_by};
-ghost use Rattle.rist_wire.specs.Item.{no_word, word_in, known_word, media_with, tested_media, media_by, rtp_item, rtcp_item, keepalive_item, item_by};
+ghost use Rattle.rist_wire.specs.Messages.{word_in, media_with, tested_media, rtp_item, rtcp_item, keepalive_item, item_by};
 
 use crate::bad::WireBad;
 use crate::item::{Item, Kind};

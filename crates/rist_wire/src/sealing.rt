@@ -1,17 +1,19 @@
-// The Main Profile's tunnel: datagrams around messages.
-ghost use Rattle.std.specs.Prelude.{◌≡◌, ◌+◌, ◌≤◌, ◌⊎◌, ◌++◌, ◌&&◌, ◌==◌, ◌^◌, ◌<◌, length, take, drop, is_some, IfSome};
-ghost use Rattle.std.specs.Int.{w16, to_be_bytes};
+// The datagrams of messages, in the tunnel or without it.
+ghost use Rattle.std.specs.Prelude.{◌≡◌, ◌+◌, ◌≤◌, ◌++◌, ◌&&◌, ◌==◌, ◌^◌, ◌<◌, length, take, drop, is_some, IfSome};
+ghost use Rattle.std.specs.Int.{to_be_bytes};
 ghost use Rattle.outside_io.specs.declared.profile.Profile.TheVariants.{Simple, Main};
 ghost use Rattle.rist_wire.specs.declared.item.Kind.TheVariants.{Keepalive as KeepaliveKind};
 ghost use Rattle.rist_wire.specs.Session.{IsSession};
 ghost use Rattle.rist_wire.specs.Cipher.{key_by};
-ghost use Rattle.rist_wire.specs.Writing.{IsPair, IsDatagram, nonce_of, sequence_of, protocol_for, is_long, header_for, header_octets, ports_octets, text_for, sealed_text, tunnel_octets, channel_on, channel_of, datagram_of};
+ghost use Rattle.rist_wire.specs.Writing.{IsPair, nonce_of, sequence_of};
+ghost use Rattle.rist_wire.specs.Datagrams.{IsDatagram, protocol_for, header_octets, ports_octets, text_for, sealed_text, tunnel_octets, channel_on};
 
 use crate::cipher::cipher_under;
 use crate::item::Kind;
 use crate::session::Session;
 use aes_block::Aes;
 use gre_tunnel::{DATAGRAM, KEEPALIVE};
+use octet_fields::put_at;
 use outside_io::{Channel, Profile};
 use psk_seal::Pair;
 
@@ -46,17 +48,6 @@ fn protocol_for(kind: Kind) -> u16
     }
 }
 
-// Copies a part to its place, and says where it ends.
-fn put(out: &mut [u8], at: usize, part: &[u8]) -> usize
-    requires room { at + length part.now ≤ length out.old }
-    ensures end { result ≡ at + length part.now }
-    ensures octets { take result out.new ≡ take at out.old ++ part.now }
-{
-    let end = at + part.len();
-    out[at..end].copy_from_slice(part);
-    end
-}
-
 // Writes the header of a datagram at the front, and says where it ends.
 fn put_header(bits: u16, pair: Option<Pair>, kind: Kind, out: &mut [u8; 2048]) -> usize
     ensures fits { IsPair pair }
@@ -73,7 +64,7 @@ fn put_header(bits: u16, pair: Option<Pair>, kind: Kind, out: &mut [u8; 2048]) -
         protocol_for(kind),
         &mut header,
     );
-    put(out, 0, &header[..end])
+    put_at(out, 0, &header[..end])
 }
 
 fn put_ports(out: &mut [u8; 2048], at: usize, port: u16) -> usize
@@ -81,8 +72,8 @@ fn put_ports(out: &mut [u8; 2048], at: usize, port: u16) -> usize
     ensures end { result ≡ at + 4 }
     ensures octets { take result out.new ≡ take at out.old ++ ports_octets port }
 {
-    let at = put(out, at, &port.to_be_bytes());
-    put(out, at, &port.to_be_bytes())
+    let at = put_at(out, at, &port.to_be_bytes());
+    put_at(out, at, &port.to_be_bytes())
 }
 
 // Writes a text behind what is there, and says where it ends.
@@ -98,7 +89,7 @@ fn put_text(out: &mut [u8; 2048], at: usize, port: u16, kind: Kind, message: &[u
         Kind::Control => put_ports(out, at, port + 1),
         Kind::Keepalive => at,
     };
-    put(out, at, message)
+    put_at(out, at, message)
 }
 
 // Enciphers what stands between two places.
@@ -141,6 +132,7 @@ fn put_tunnel(
     end
 }
 
+// Writes the datagram of a message without the tunnel at the front of a block: the message itself.
 fn put_simple(kind: Kind, message: &[u8], out: &mut [u8; 2048]) -> (Channel, usize)
     requires room { length message.now ≤ 2032 }
     ensures channel { result.0 ≡ channel_on Simple kind }
@@ -152,32 +144,7 @@ fn put_simple(kind: Kind, message: &[u8], out: &mut [u8; 2048]) -> (Channel, usi
         Kind::Control => Channel::Control,
         Kind::Keepalive => Channel::Tunnel,
     };
-    (channel, put(out, 0, message))
-}
-
-fn put_on(
-    session: &Session,
-    key: &Option<Aes>,
-    pair: Option<Pair>,
-    kind: Kind,
-    message: &[u8],
-    out: &mut [u8; 2048],
-) -> (Channel, usize)
-    requires session { IsSession session.now }
-    requires derived { key.now ≡ key_by session.now.pass session.now.bits (nonce_of pair) }
-    requires room { length message.now ≤ 2032 }
-    ensures channel { result.0 ≡ channel_of session.now kind }
-    ensures octets { take result.1 out.new ≡ datagram_of session.now pair kind message.now }
-    ensures fits { session.now.profile ≡ Main → IsPair pair }
-    ensures within { result.1 ≤ length message.now + 16 }
-{
-    match session.profile {
-        Profile::Simple => put_simple(kind, message, out),
-        Profile::Main => (
-            Channel::Tunnel,
-            put_tunnel(session, key, pair, kind, message, out),
-        ),
-    }
+    (channel, put_at(out, 0, message))
 }
 
 /// Writes the datagram of a message at the front of a block, and says on which channel it goes and how many
@@ -198,5 +165,11 @@ pub(crate) fn put_datagram(
     ensures datagram { IsDatagram session.now pair kind message.now result.0 (take result.1 out.new) }
     ensures within { result.1 ≤ length message.now + 16 }
 {
-    put_on(session, key, pair, kind, message, out)
+    match session.profile {
+        Profile::Simple => put_simple(kind, message, out),
+        Profile::Main => (
+            Channel::Tunnel,
+            put_tunnel(session, key, pair, kind, message, out),
+        ),
+    }
 }

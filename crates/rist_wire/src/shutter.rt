@@ -1,4 +1,4 @@
-ghost use Rattle.std.specs.Prelude.{◌≡◌, ◌%◌, ◌^◌, ◌-◌, ◌≤◌, ℕ, List, Ok, true, length, take, is_some, is_err, IsSome, IfOk, OnOk, OnErr};
+ghost use Rattle.std.specs.Prelude.{◌≡◌, ◌%◌, ◌-◌, ◌≤◌, List, Ok, true, length, take, is_some, is_err, IsSome, IfOk, OnOk, OnErr};
 ghost use Rattle.keepalive_msg.specs.Keepalive.{spelling as keepalive_spelling};
 ghost use Rattle.keepalive_msg.specs.Writing.{message_of as keepalive_of};
 ghost use Rattle.keepalive_msg.specs.Reading.{value_of as keepalive_value_of};
@@ -8,8 +8,10 @@ ghost use Rattle.rist_wire.specs.declared.item.Item.TheVariants.{Media as MediaI
 ghost use Rattle.rist_wire.specs.declared.item.Kind.TheVariants.{Media as MediaKind, Control as ControlKind, Keepalive as KeepaliveKind};
 ghost use Rattle.rist_wire.specs.Session.{IsSession};
 ghost use Rattle.rist_wire.specs.Media.{can_restore};
-ghost use Rattle.rist_wire.specs.Item.{item_of, item_by};
-ghost use Rattle.rist_wire.specs.Writing.{IsDatagram, ShutterState, media_out, media_octets, media_value, next_pair, after_pair, is_spent, pairs_left};
+ghost use Rattle.rist_wire.specs.Item.{item_of};
+ghost use Rattle.rist_wire.specs.Writing.{ShutterState, media_out, next_pair, after_pair, is_spent, pairs_left};
+ghost use Rattle.rist_wire.specs.Packets.{media_octets, media_value};
+ghost use Rattle.rist_wire.specs.Datagrams.{IsDatagram};
 
 use crate::cipher::KeyInUse;
 use crate::item::Kind;
@@ -59,7 +61,7 @@ fn next_pair(sealer: &mut Option<Sealer>) -> Result<Option<Pair>, Spent>
 }
 
 impl Shutter {
-    /// What makes the session's datagrams. Each is enciphered under a pair of the sealer.
+    /// A shutter of the session. Each datagram is enciphered under a pair of the sealer, where there is one.
     pub fn with(session: &Session, sealer: Option<Sealer>) -> Shutter
         requires session { IsSession session.now }
         ensures value { result ≡ record { session = session.now; sealer = sealer } }

@@ -118,6 +118,55 @@ fn the_first_test_that_fails_names_a_datagram_of_the_tunnel(rt: HostRuntime) -> 
     Ok(())
 }
 
+// Datagrams on the port of RTP, with the text and the place of the first test that fails.
+static MEDIA_REFUSALS: [(&[u8], &str, usize); 7] = [
+    (b"\x80", "rtp short", 0),
+    (
+        b"\x40\x21\x00\x0a\x00\x00\x00\x00\x10\x20\x30\x40",
+        "rtp version",
+        0,
+    ),
+    (
+        b"\x81\x21\x00\x0a\x00\x00\x00\x00\x10\x20\x30\x40",
+        "rtp sources",
+        0,
+    ),
+    (
+        b"\x90\x21\x00\x0a\x00\x00\x00\x00\x10\x20\x30\x40",
+        "rtp extension",
+        0,
+    ),
+    (
+        b"\xa0\x21\x00\x0a\x00\x00\x00\x00\x10\x20\x30\x40",
+        "rtp padding",
+        0,
+    ),
+    (
+        b"\x90\x21\x00\x0a\x00\x00\x00\x00\x10\x20\x30\x40\x52\x49\x00\x01\x80\x00\x00\x00",
+        "extension size",
+        0,
+    ),
+    (
+        b"\x90\x21\x00\x0a\x00\x00\x00\x00\x10\x20\x30\x40\x52\x49\x00\x01\x88\x00\x00\x00\x00",
+        "nulls shape",
+        0,
+    ),
+];
+
+// The same on the port of RTCP.
+static CONTROL_REFUSALS: [(&[u8], &str, usize); 6] = [
+    (b"", "rtcp short", 0),
+    (b"\x40\xc9\x00\x01\x00\x00\x00\x07", "rtcp version", 0),
+    (b"\x80\xbf\x00\x01\x00\x00\x00\x07", "rtcp kind", 0),
+    (b"\x80\xca\x00\x01\x00\x00\x00\x07", "rtcp first", 0),
+    (
+        b"\xa0\xc9\x00\x01\x00\x00\x00\x07\x80\xcb\x00\x00",
+        "rtcp padding",
+        0,
+    ),
+    (b"\x81\xc9\x00\x01\x00\x00\x00\x07", "rtcp body", 0),
+];
+
 #[test]
 fn the_first_test_that_fails_names_a_datagram_of_two_ports(rt: HostRuntime) -> Result<(), Fail> {
     let session = simple_session();
@@ -126,57 +175,12 @@ fn the_first_test_that_fails_names_a_datagram_of_two_ports(rt: HostRuntime) -> R
         refusal(&mut opener, Channel::Tunnel, b""),
         Some(WireBad::Channel)
     );
-    let media: [(&[u8], &str, usize); 7] = [
-        (b"\x80", "rtp short", 0),
-        (
-            b"\x40\x21\x00\x0a\x00\x00\x00\x00\x10\x20\x30\x40",
-            "rtp version",
-            0,
-        ),
-        (
-            b"\x81\x21\x00\x0a\x00\x00\x00\x00\x10\x20\x30\x40",
-            "rtp sources",
-            0,
-        ),
-        (
-            b"\x90\x21\x00\x0a\x00\x00\x00\x00\x10\x20\x30\x40",
-            "rtp extension",
-            0,
-        ),
-        (
-            b"\xa0\x21\x00\x0a\x00\x00\x00\x00\x10\x20\x30\x40",
-            "rtp padding",
-            0,
-        ),
-        (
-            b"\x90\x21\x00\x0a\x00\x00\x00\x00\x10\x20\x30\x40\x52\x49\x00\x01\x80\x00\x00\x00",
-            "extension size",
-            0,
-        ),
-        (
-            b"\x90\x21\x00\x0a\x00\x00\x00\x00\x10\x20\x30\x40\x52\x49\x00\x01\x88\x00\x00\x00\x00",
-            "nulls shape",
-            0,
-        ),
-    ];
     assert_eq!(rt;
-        first_wrong(rt.alloc(), &mut opener, Channel::Media, &media)?,
+        first_wrong(rt.alloc(), &mut opener, Channel::Media, &MEDIA_REFUSALS)?,
         None
     );
-    let control: [(&[u8], &str, usize); 6] = [
-        (b"", "rtcp short", 0),
-        (b"\x40\xc9\x00\x01\x00\x00\x00\x07", "rtcp version", 0),
-        (b"\x80\xbf\x00\x01\x00\x00\x00\x07", "rtcp kind", 0),
-        (b"\x80\xca\x00\x01\x00\x00\x00\x07", "rtcp first", 0),
-        (
-            b"\xa0\xc9\x00\x01\x00\x00\x00\x07\x80\xcb\x00\x00",
-            "rtcp padding",
-            0,
-        ),
-        (b"\x81\xc9\x00\x01\x00\x00\x00\x07", "rtcp body", 0),
-    ];
     assert_eq!(rt;
-        first_wrong(rt.alloc(), &mut opener, Channel::Control, &control)?,
+        first_wrong(rt.alloc(), &mut opener, Channel::Control, &CONTROL_REFUSALS)?,
         None
     );
     Ok(())

@@ -1,16 +1,16 @@
 // The Main Profile's tunnel: where the message of a datagram lies, and its text as plain text.
-ghost use Rattle.std.specs.Prelude.{◌≡◌, ◌⊎◌, ◌+◌, ◌≤◌, ◌<◌, length, take, drop, is_some, IfOk, OnOk};
-ghost use Rattle.std.specs.Int.{w16, from_be_bytes};
+ghost use Rattle.std.specs.Prelude.{◌≡◌, ◌+◌, ◌≤◌, ◌<◌, length, drop, is_some, IfOk, OnOk};
 ghost use Rattle.gre_tunnel.specs.Reading.{reading_of as gre_reading_of};
 ghost use Rattle.rist_wire.specs.Session.{IsSession};
 ghost use Rattle.rist_wire.specs.Cipher.{secret_of, secret_with};
-ghost use Rattle.rist_wire.specs.Item.{text_in, destination_of, datagram_kind, datagram_message, text_message, cipher_fault, tunnel_message, plain_datagram, message_at, refused_or};
+ghost use Rattle.rist_wire.specs.Tunnel.{datagram_kind, datagram_message, text_message, cipher_fault, tunnel_message, plain_datagram, message_at};
 
 use crate::bad::WireBad;
 use crate::cipher::{cipher_under, key_under};
 use crate::item::{Kind, Part};
 use crate::session::Session;
 use gre_tunnel::{Gre, KEEPALIVE};
+use octet_fields::u16_at;
 use psk_keys::Keys;
 
 // Whether the header may stand in a datagram of the session.
@@ -28,14 +28,6 @@ fn cipher_fault(session: &Session, gre: &Gre) -> Option<WireBad>
     None
 }
 
-// The destination of a text, behind the source port.
-fn destination_of(text: &[u8]) -> u16
-    requires { 4 ≤ length text.now }
-    ensures { result ≡ destination_of text.now }
-{
-    u16::from_be_bytes([text[2], text[3]])
-}
-
 // What the destination of a text says that it is.
 fn datagram_kind(port: u16, text: &[u8]) -> Result<Kind, WireBad>
     requires port { port ≤ 65534 }
@@ -45,7 +37,7 @@ fn datagram_kind(port: u16, text: &[u8]) -> Result<Kind, WireBad>
     if text.len() < 4 {
         return Err(WireBad::Stub);
     }
-    let destination = destination_of(text);
+    let destination = u16_at(text, 2);
     if destination == port {
         return Ok(Kind::Media);
     }

@@ -1,5 +1,5 @@
 use Rattle.std.proofs.Common.{List, ℕ, arith}
-use Rattle.rist_wire.specs.Writing.{sealed_text, header_octets, text_for}
+use Rattle.rist_wire.specs.Datagrams.{sealed_text, header_octets, text_for}
 use Rattle.rist_wire.proofs.SealLemmas.{sealed-whole}
 use Rattle.rist_wire.proofs.sealing.put_tunnel.Goals as goal
 

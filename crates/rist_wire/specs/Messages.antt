@@ -1,0 +1,90 @@
+-- Messages, without the headers of the tunnel, and the item that each says.
+use Rattle.std.specs.Prelude.{ℕ, List, if◌then◌else◌, Option, Some, None, Result, Ok, Err}
+use Rattle.keepalive_msg.specs.declared.keepalive.Keepalive.{Keepalive}
+use Rattle.keepalive_msg.specs.declared.keepalive.KeepBad.{KeepBad}
+use Rattle.keepalive_msg.specs.Reading.{reading_of as keepalive_reading_of}
+use Rattle.rtp_packet.specs.declared.bad.RtpBad.{RtpBad}
+use Rattle.rtp_packet.specs.Reading.{RtpValue, reading_of as rtp_reading_of}
+use Rattle.rtcp_compound.specs.declared.refusal.RtcpBad.{RtcpBad}
+use Rattle.rtcp_compound.specs.Reading.{fault_of, packets_in}
+use Rattle.rist_ext.specs.declared.ext_word.ExtWord.{ExtWord}
+use Rattle.rist_ext.specs.declared.ext_word.ExtBad.{ExtBad}
+use Rattle.rist_ext.specs.declared.ext_word.ExtBad.TheVariants.{Profile as OtherProfile, Length as OtherLength, Size}
+use Rattle.rist_ext.specs.Reading.{reading_of as extension_reading_of}
+use Rattle.ts_nulls.specs.declared.nulls.NullBad.TheVariants.{Shape as BadShape}
+use Rattle.rist_wire.specs.declared.bad.WireBad.{WireBad}
+use Rattle.rist_wire.specs.declared.bad.WireBad.TheVariants.{Keepalive as NoKeepalive, Rtp as NoRtp, Rtcp as NoRtcp, Ext as NoExt, Nulls as NoNulls}
+use Rattle.rist_wire.specs.declared.item.Item.{Item}
+use Rattle.rist_wire.specs.declared.item.Item.TheVariants.{Media as MediaItem, Control as ControlItem, Keepalive as KeepaliveItem}
+use Rattle.rist_wire.specs.declared.item.Kind.{Kind}
+use Rattle.rist_wire.specs.declared.item.Kind.TheVariants.{Media as MediaKind, Control as ControlKind, Keepalive as KeepaliveKind}
+use Rattle.rist_wire.specs.Media.{MediaValue, can_restore, flow_of, is_again, width_by, word_by}
+
+-- a message without the headers of the tunnel
+pub record Message : Type 0 where
+  pub kind : Kind
+  pub octets : List ℕ
+
+-- ---- media
+
+-- the word of a packet without a RIST extension: nothing was deleted, and numbers have 16 bits
+abbrev pub no_word : ExtWord
+no_word = record { strip = None; upper = None }
+
+-- an extension with another profile word or count is stepped over
+abbrev pub known_word : Result ExtWord ExtBad → Result ExtWord ExtBad
+known_word (Ok word) = Ok word
+known_word (Err OtherProfile) = Ok no_word
+known_word (Err OtherLength) = Ok no_word
+known_word (Err Size) = Err Size
+
+-- the word of a packet by its extension, if it has one
+abbrev pub word_in : Option (ℕ × List ℕ) → Result ExtWord ExtBad
+word_in None = Ok no_word
+word_in (Some extension) = known_word (extension_reading_of extension.0 extension.1)
+
+-- the media of an RTP packet with this word
+abbrev pub media_with : RtpValue → ExtWord → MediaValue
+media_with rtp word = record {
+  flow = flow_of rtp.ssrc;
+  again = is_again rtp.ssrc;
+  width = width_by word.upper;
+  word = word_by word.upper rtp.number;
+  stamp = rtp.stamp;
+  strip = word.strip;
+  payload = rtp.payload;
+}
+
+-- the payload has to be as long as the packets that weren't null
+abbrev pub tested_media : MediaValue → Result Item WireBad
+tested_media media = if can_restore media.strip media.payload then Ok (MediaItem media) else Err (NoNulls BadShape)
+
+-- the media of an RTP packet with the word of its extension, or why it has none
+abbrev pub media_by : RtpValue → Result ExtWord ExtBad → Result Item WireBad
+media_by rtp (Ok word) = tested_media (media_with rtp word)
+media_by rtp (Err bad) = Err (NoExt bad)
+
+-- the item of what is read as RTP
+abbrev pub rtp_item : Result RtpValue RtpBad → Result Item WireBad
+rtp_item (Ok rtp) = media_by rtp (word_in rtp.extension)
+rtp_item (Err bad) = Err (NoRtp bad)
+
+-- ---- control and keepalives
+
+-- the list of packets of octets that no test of RTCP refuses
+abbrev pub rtcp_item : List ℕ → Option RtcpBad → Result Item WireBad
+rtcp_item octets None = Ok (ControlItem (packets_in octets))
+rtcp_item octets (Some bad) = Err (NoRtcp bad)
+
+-- the item of what is read as a keepalive
+abbrev pub keepalive_item : Result Keepalive KeepBad → Result Item WireBad
+keepalive_item (Ok keepalive) = Ok (KeepaliveItem keepalive)
+keepalive_item (Err bad) = Err (NoKeepalive bad)
+
+-- ---- the whole
+
+-- the item of a message of this kind, or the first test that fails
+abbrev pub item_by : Kind → List ℕ → Result Item WireBad
+item_by MediaKind octets = rtp_item (rtp_reading_of octets)
+item_by ControlKind octets = rtcp_item octets (fault_of octets)
+item_by KeepaliveKind octets = keepalive_item (keepalive_reading_of octets)
