@@ -1,6 +1,5 @@
 -- What a whole history means: the flow's anchor, the packets that were kept, the verdicts, and what is released (this profile).
-use Rattle.std.specs.Prelude.{ℕ, max, List, [], ◌∷◌, ◌++◌, map, if◌then◌else◌}
-use Rattle.std.specs.Prelude.{Option, None, Some, unwrap_or}
+use Rattle.std.specs.Prelude.{ℕ, max, List, [], ◌∷◌, ◌++◌, map, if◌then◌else◌, Option, None, Some, unwrap_or}
 use Rattle.std.specs.List.{filter, concat}
 use Rattle.receiver_rules.specs.declared.verdict.Verdict.{Verdict}
 use Rattle.receiver_rules.specs.declared.limits.Limits.{Limits}
@@ -42,12 +41,13 @@ verdict limits before tick arrival =
     let t = max tick (effective_time before) in
     verdict_of limits (unwrap_or (anchor_of before) (new_anchor t arrival)) (accepted_packets limits before) t arrival
 
--- the verdicts on the arrivals of a history, the oldest first
+-- the verdicts after one more step
 abbrev pub verdicts_after : Limits → List Step → Event → ℕ → List Verdict → List Verdict
 verdicts_after limits before (Media arrival) tick verdicts = verdicts ++ verdict limits before tick arrival ∷ []
 verdicts_after limits before TimeOnly tick verdicts = verdicts
 verdicts_after limits before End tick verdicts = verdicts
 
+-- the verdicts on the arrivals of a history, the oldest first
 abbrev pub verdicts_of : Limits → List Step → List Verdict
 verdicts_of limits [] = []
 verdicts_of limits (step ∷ before) = verdicts_after limits before step.event step.tick (verdicts_of limits before)

@@ -1,16 +1,13 @@
 -- The rules for one arrival, given the packets that were kept before it (this profile; numbers are extended in the
 -- sense of RFC 3550, appendix A.1, and a retransmission is a packet like any other: VSF TR-06-1).
-use Rattle.std.specs.Prelude.{ℕ, ℤ, pos, ◌-ℤ◌, int_le, int_lt, ◌≤◌, ◌+◌, ◌-◌, ◌*◌, ◌^◌, max, List, [], ◌∷◌, Bool, true, false, not, ◌&&◌, nat_le, nat_lt, ◌==◌, if◌then◌else◌, Option}
-use Rattle.std.specs.Prelude.{None, Some}
+use Rattle.std.specs.Prelude.{ℕ, ℤ, pos, ◌-ℤ◌, int_le, int_lt, ◌≤◌, ◌+◌, ◌-◌, ◌*◌, ◌^◌, max, List, [], ◌∷◌, Bool, true, false, not, ◌&&◌, nat_le, nat_lt, ◌==◌, if◌then◌else◌, Option, None, Some}
 use Rattle.std.specs.List.{list_any}
 use Rattle.receiver_rules.specs.declared.verdict.Verdict.{Verdict}
 use Rattle.receiver_rules.specs.declared.verdict.Verdict.TheVariants.{Kept, Stranger, Exhausted, Late, Behind, Early, Twice, Span}
 use Rattle.receiver_rules.specs.declared.limits.Limits.{Limits}
 use Rattle.receiver_rules.specs.declared.anchor.Anchor.{Anchor}
 use Rattle.receiver_rules.specs.declared.anchor.Highest.{Highest}
-use Rattle.seq_unwrap.specs.declared.width.Width.{Width}
-use Rattle.seq_unwrap.specs.declared.width.Width.TheVariants.{W16, W32}
-use Rattle.seq_unwrap.specs.Nearest.{nearest}
+use Rattle.seq_unwrap.specs.Nearest.{cycle_of, nearest}
 use Rattle.receiver_rules.specs.Steps.{Arrival}
 
 -- an arrival with its place in the flow: its extended sequence number and timestamp, when it is to be played out, and its payload
@@ -33,10 +30,6 @@ highest_of [] = None
 highest_of (p ∷ ps) = Some (higher p (highest_of ps))
 
 -- the first packet's number is 2^40 and its word; each other's is the one nearest to the highest kept number
-abbrev pub cycle_of : Width → ℕ
-cycle_of W16 = 65536
-cycle_of W32 = 4294967296
-
 abbrev pub number_of : Option Highest → Arrival → ℕ
 number_of None arrival = 2 ^ 40 + arrival.sequence_number
 number_of (Some highest) arrival = nearest (cycle_of arrival.width) highest.number arrival.sequence_number
@@ -148,9 +141,10 @@ abbrev pub IsRising : ℕ → List Packet → Type 0
 IsRising low [] = Unit {0}
 IsRising low (p ∷ ps) = (low ≤ p.number) × IsRising (p.number + 1) ps
 
--- a packet on this side of a number, and on the other
+-- a packet's number is below the floor
 abbrev pub is_below : ℕ → Packet → Bool
 is_below floor p = nat_lt p.number floor
 
+-- it is the floor or above it
 abbrev pub is_from : ℕ → Packet → Bool
 is_from floor p = not (nat_lt p.number floor)

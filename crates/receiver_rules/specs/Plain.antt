@@ -14,11 +14,13 @@ use Rattle.receiver_rules.specs.Steps.{Event, Media, TimeOnly, End, Step}
 use Rattle.receiver_rules.specs.Packets.{Packet, At, is_behind_playout, is_duplicate, is_beyond_capacity}
 use Rattle.receiver_rules.specs.Seen.{seen, packet_at}
 
+-- what comes with a step, as the rules see it
 abbrev pub event_of : ToldEvent → Event
 event_of (ToldMedia arrival) = Media (seen arrival)
 event_of ToldTimeOnly = TimeOnly
 event_of ToldEnd = End
 
+-- a step, as the rules see it
 abbrev pub step_of : ToldStep → Step
 step_of told = record { tick = told.tick; event = event_of told.event }
 
@@ -32,12 +34,15 @@ IsFitEvent (ToldMedia arrival) = arrival.word < cycle_of arrival.width
 IsFitEvent ToldTimeOnly = Unit {0}
 IsFitEvent ToldEnd = Unit {0}
 
+-- a tick from which no sum wraps, and a word of its width
 abbrev pub IsFit : ToldStep → Type 0
 IsFit told = (told.tick < 2 ^ 61) × IsFitEvent told.event
 
+-- a packet that a program keeps, with its place
 abbrev pub kept_packet : KeptOne → Packet
 kept_packet kept = packet_at kept.place kept.payload.now
 
+-- the packets that a program keeps, in their order
 abbrev pub kept_packets : List KeptOne → List Packet
 kept_packets kept = map kept_packet kept
 
@@ -45,6 +50,7 @@ kept_packets kept = map kept_packet kept
 abbrev pub at_number : ℕ → Packet
 at_number n = record { number = n; timestamp = 0; deadline = pos 0; payload = [] }
 
+-- the octets of a borrowed payload
 abbrev pub payload_of : Bor (List ℕ) → List ℕ
 payload_of payload = payload.now
 

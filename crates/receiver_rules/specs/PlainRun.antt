@@ -18,6 +18,7 @@ pub record IsSmallRun (run : Run) : Type 0 where
   pub highest : ForSome run.highest IsMidHighest
   pub known : run.highest ≡ highest_of (kept_packets run.kept.items)
 
+-- what a run knows is that of the history
 pub record RunShows (limits : Limits) (run : Run) (history : List Step) : Type 0 where
   pub time : run.time ≡ effective_time history
   pub ended : run.has_ended ≡ has_ended history
@@ -44,9 +45,11 @@ pub record IsKeptAfter (p : Packet) (old new : Run) : Type 0 where
 abbrev pub anchor_here : Run → Arrival → Anchor
 anchor_here run arrival = unwrap_or run.anchor (new_anchor run.time arrival)
 
+-- the verdict on it, by all that was kept
 abbrev pub verdict_here : Limits → Run → Arrival → Verdict
 verdict_here limits run arrival = verdict_of limits (anchor_here run arrival) (kept_packets run.kept.items) run.time arrival
 
+-- the packet that it is
 abbrev pub packet_here : Limits → Run → Arrival → Packet
 packet_here limits run arrival = placed_packet limits (anchor_here run arrival) (highest_of (kept_packets run.kept.items)) arrival
 

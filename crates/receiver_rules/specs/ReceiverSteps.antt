@@ -20,6 +20,7 @@ pub record ReceiverStep : Type 0 where
   pub tick : ℕ
   pub input : Input
 
+-- what comes with a step, as the buffer sees it
 abbrev pub buffer_event : Input → Event
 buffer_event (Media arrival) = buffer.Media arrival
 buffer_event Control = buffer.TimeOnly

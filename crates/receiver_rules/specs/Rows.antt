@@ -14,11 +14,14 @@ usual = record { playout_delay = 90000; capacity = 8 }
 abbrev pub brings : ℕ → ℕ → ℕ → ℕ → Step
 brings tick word timestamp octet = record { tick = tick; event = Media (record { flow = 1; width = W16; sequence_number = word; timestamp = timestamp; payload = octet ∷ [] }) }
 
+-- an arrival of flow 2
 abbrev pub stranger : ℕ → Step
 stranger tick = record { tick = tick; event = Media (record { flow = 2; width = W16; sequence_number = 11; timestamp = 900; payload = 66 ∷ [] }) }
 
+-- the verdicts of a run
 abbrev pub verdicts : List Step → List Verdict
 verdicts run = verdicts_of usual (reverse run)
 
+-- what a run releases
 abbrev pub written : List Step → List ℕ
 written run = released_bytes usual (reverse run)

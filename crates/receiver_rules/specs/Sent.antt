@@ -27,11 +27,12 @@ abbrev pub copy_of : SentStream → ℕ → Arrival
 copy_of p n =
     record { flow = p.flow; width = p.width; sequence_number = n % cycle_of p.width; timestamp = p.timestamp n % 4294967296; payload = p.payload n }
 
+-- what a step brings: a copy of this number, or no copy
 pub data Content : Type 0 where
   CopyOf : ℕ → Content
   NoCopy : Content
 
--- a step, and the number of which it brings a copy. A run is a list of them, the newest first: under any loss, repeat, delay and order
+-- a step of a run. A run is a list of them, the newest first: under any loss, repeat, delay and order
 pub record Delivery : Type 0 where
   pub tick : ℕ
   pub what : Content
@@ -41,6 +42,7 @@ abbrev pub event_of : SentStream → Content → Event
 event_of p (CopyOf n) = Media (copy_of p n)
 event_of p NoCopy = TimeOnly
 
+-- the steps of a run as the receiver sees them
 abbrev pub steps_of : SentStream → List Delivery → List Step
 steps_of p [] = []
 steps_of p (d ∷ before) = record { tick = d.tick; event = event_of p d.what } ∷ steps_of p before
@@ -55,10 +57,12 @@ pub record Start : Type 0 where
   pub number : ℕ
   pub time : ℕ
 
+-- the start after one more step
 abbrev pub start_after : Option Start → ℕ → Content → Option Start
 start_after start t (CopyOf n) = Some (unwrap_or start (record { number = n; time = t }))
 start_after start t NoCopy = start
 
+-- the start of a run, where a copy has come
 abbrev pub start_of : List Delivery → Option Start
 start_of [] = None
 start_of (d ∷ before) = start_after (start_of before) (run_time (d ∷ before)) d.what
@@ -67,13 +71,15 @@ start_of (d ∷ before) = start_after (start_of before) (run_time (d ∷ before)
 abbrev pub number_deadline : Limits → SentStream → Start → ℕ → ℤ
 number_deadline limits p s n = pos (s.time + p.timestamp n + limits.playout_delay) -ℤ pos (p.timestamp s.number)
 
--- a copy arrives in its window: after the playout delay's double before its deadline and before its deadline, while no number that was reached before and is still to be played out lies the capacity or more away
+-- a copy arrives in its window: its deadline lies ahead, by at most twice the playout delay, and no number that was reached
+-- before and is still to be played out lies the capacity or more away
 abbrev pub arrives_in_window : Limits → SentStream → Start → List ℕ → ℕ → ℕ → Bool
 arrives_in_window limits p s reached t n =
     not (int_le (number_deadline limits p s n) (pos t))
     && (not (int_lt (pos (t + 2 * limits.playout_delay)) (number_deadline limits p s n))
     && not (list_any (λ m. not (int_le (number_deadline limits p s m) (pos t)) && nat_le limits.capacity (distance m n)) reached))
 
+-- the numbers that were reached, after one more step
 abbrev pub reached_after : Limits → SentStream → Option Start → List ℕ → ℕ → Content → List ℕ
 reached_after limits p first reached t (CopyOf n) =
     if arrives_in_window limits p (unwrap_or first (record { number = n; time = t })) reached t n then n ∷ reached else reached
@@ -89,7 +95,8 @@ abbrev pub greatest_of : List ℕ → ℕ
 greatest_of [] = 0
 greatest_of (n ∷ ns) = max n (greatest_of ns)
 
--- near enough to the greatest number reached for its words to tell it apart: less than half a cycle away, and its timestamp likewise; and the number space has not ended
+-- near enough to the greatest number reached for its words to tell it apart: less than half a cycle away, and its timestamp
+-- likewise; and the number space has not ended
 pub record IsNear (p : SentStream) (first best n : ℕ) : Type 0 where
   pub low : best ≤ n + cycle_of p.width / 2
   pub high : n < best + cycle_of p.width / 2
@@ -97,6 +104,7 @@ pub record IsNear (p : SentStream) (first best n : ℕ) : Type 0 where
   pub timestamp_high : p.timestamp n < p.timestamp best + 2147483648
   pub small : 2 ^ 40 + first % cycle_of p.width + n < 2 ^ 62 + first
 
+-- a copy is near, unless it is the first
 abbrev pub IsNearAfter : Limits → SentStream → Option Start → List ℕ → Content → Type 0
 IsNearAfter limits p None reached what = Unit {0}
 IsNearAfter limits p (Some s) reached NoCopy = Unit {0}
@@ -107,11 +115,12 @@ abbrev pub AreDeliveriesOf : Limits → SentStream → List Delivery → Type 0
 AreDeliveriesOf limits p [] = Unit {0}
 AreDeliveriesOf limits p (d ∷ before) = IsNearAfter limits p (start_of before) (reached_numbers limits p before) d.what × AreDeliveriesOf limits p before
 
--- the members of a list, each once, rising
+-- a number at its place among others that rise, unless it is there
 abbrev pub insert_number : ℕ → List ℕ → List ℕ
 insert_number n [] = n ∷ []
 insert_number n (m ∷ ms) = if nat_lt n m then n ∷ m ∷ ms else if n == m then m ∷ ms else m ∷ insert_number n ms
 
+-- the members of a list, each once, rising
 abbrev pub rising_numbers : List ℕ → List ℕ
 rising_numbers [] = []
 rising_numbers (n ∷ ns) = insert_number n (rising_numbers ns)

@@ -38,16 +38,19 @@ is_end (Media arrival) = false
 is_end TimeOnly = false
 is_end End = true
 
+-- some step ended the stream
 abbrev pub has_ended : List Step → Bool
 has_ended [] = false
 has_ended (step ∷ before) = is_end step.event || has_ended before
 
--- a step with a media packet, and one with which only time passes
+-- a step with a media packet
 abbrev pub media_step : ℕ → Arrival → Step
 media_step tick arrival = record { tick = tick; event = Media arrival }
 
+-- a step with which only time passes
 abbrev pub time_step : ℕ → Step
 time_step tick = record { tick = tick; event = TimeOnly }
 
+-- the end of the stream, which moves no time
 abbrev pub end_step : Step
 end_step = record { tick = 0; event = End }

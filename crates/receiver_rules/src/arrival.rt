@@ -12,5 +12,6 @@ pub struct Arrival<'a> {
     pub word: u32,
     /// The timestamp as sent, in ticks of 1/90,000 s.
     pub stamp: u32,
+    /// The octets after the header, without padding. There may be none.
     pub payload: &'a [u8],
 }

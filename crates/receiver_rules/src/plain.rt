@@ -8,7 +8,7 @@ ghost use Rattle.receiver_rules.specs.Steps.{Step as RuleStep};
 ghost use Rattle.receiver_rules.specs.Packets.{highest_of, is_kept, distance, is_due_by, is_played_out, is_behind_playout, is_duplicate, is_beyond_capacity, insert_by_number, verdict_of, placed_packet};
 ghost use Rattle.receiver_rules.specs.History.{new_anchor as anchor_fixed, released_payloads, verdicts_of};
 ghost use Rattle.receiver_rules.specs.Seen.{seen, moment_of, packet_at, IsPlaceOf};
-ghost use Rattle.receiver_rules.specs.Bounds.{AreInRange, IsEarlyAnchor, IsMidHighest, IsMid};
+ghost use Rattle.receiver_rules.specs.Bounds.{AreInRange, IsEarlyAnchor};
 ghost use Rattle.receiver_rules.specs.Plain.{kept_packet, kept_packets, at_number, judged, step_of, history_of, IsFit, payload_of};
 ghost use Rattle.receiver_rules.specs.PlainRun.{IsSmallRun, RunShows, SameButKept, IsBrought, IsKeptAfter};
 
@@ -35,6 +35,7 @@ pub enum Event<'a> {
 pub struct Step<'a> {
     /// In ticks of 1/90,000 s, below 2^61. A clock may go back.
     pub tick: u64,
+    /// What comes with it.
     pub event: Event<'a>,
 }
 
