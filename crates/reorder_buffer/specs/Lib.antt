@@ -8,3 +8,4 @@ pub mod Tests
 pub mod Changes
 pub mod Release
 pub mod Text
+pub mod OneMore

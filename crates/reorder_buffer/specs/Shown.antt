@@ -5,9 +5,11 @@ use Rattle.reorder_buffer.specs.State.{State}
 use Rattle.reorder_buffer.specs.declared.packets.Held.{Held}
 use Rattle.reorder_buffer.specs.declared.buffer.Buffer.TheInside.{Inside}
 
+-- an entry of the map as a packet
 abbrev pub packet_of : ℕ × Held → Packet
 packet_of entry = record { number = entry.0; timestamp = entry.1.timestamp; deadline = entry.1.deadline; payload = entry.1.payload.items }
 
+-- the entries of the map as packets, by rising number
 abbrev pub packets_of : List (ℕ × Held) → List Packet
 packets_of entries = map packet_of entries
 
@@ -16,6 +18,7 @@ abbrev pub first_number : List Packet → Option ℕ
 first_number [] = None
 first_number (p ∷ ps) = Some p.number
 
+-- a buffer's fields as its state. The deadlines that it keeps follow from the packets, and can't be seen
 abbrev pub state_of : Inside → State
 state_of b =
     record {

@@ -6,6 +6,7 @@ use Rattle.receiver_rules.specs.declared.anchor.Highest.{Highest}
 use Rattle.receiver_rules.specs.Packets.{Packet}
 use Rattle.reorder_buffer.specs.declared.phase.Phase.{Phase}
 
+-- a buffer: its limits, whether it takes arrivals, its flow's anchor, and the packets that wait
 pub record State : Type 0 where
   pub limits : Limits
   pub phase : Phase

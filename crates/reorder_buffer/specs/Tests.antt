@@ -11,6 +11,7 @@ use Rattle.receiver_rules.specs.Packets.{Packet, distance, placed_packet}
 use Rattle.receiver_rules.specs.Bounds.{IsMid}
 use Rattle.reorder_buffer.specs.State.{State}
 
+-- the verdict on an arrival of this flow, number and deadline: the first test that fits decides
 abbrev pub verdict_here : State → Anchor → ℕ → ℕ → ℕ → ℤ → Verdict
 verdict_here b anchor t flow number deadline =
     if not (flow == anchor.flow) then Stranger
@@ -22,13 +23,15 @@ verdict_here b anchor t flow number deadline =
     else if list_any (λ p. nat_le b.limits.capacity (distance p.number number)) b.held then Span
     else Kept
 
--- the anchor at an arrival, and the arrival's place
+-- what deadlines count from at an arrival, which may be the first
 abbrev pub anchor_at : State → ℕ → Arrival → Anchor
 anchor_at b t arrival = unwrap_or b.anchor (new_anchor t arrival)
 
+-- an arrival with its place
 abbrev pub placed_at : State → ℕ → Arrival → Packet
 placed_at b t arrival = placed_packet b.limits (anchor_at b t arrival) b.highest arrival
 
+-- the verdict on an arrival, where nothing more goes out before
 abbrev pub judged : State → ℕ → Arrival → Verdict
 judged b t arrival =
     let p = placed_at b t arrival in

@@ -10,8 +10,9 @@ use std::alloc::{AllocError, Global};
 use std::collections::BTreeMap;
 use std::marker::Model;
 
-/// The receiver's playout buffer. `arrive` and `release` bring input, each at a tick of the receiver's clock that never
-/// falls; `release` writes what is due before the event of a step, and `flush` all that is left at the end.
+/// The receiver's playout buffer. `receive` brings a media packet and `release` the time, each at a tick of the receiver's
+/// clock that never falls. Both write what is due then, and `flush` all that is left at the end. `arrive` brings a packet
+/// where what is due is out already.
 #[derive(Drop)]
 pub struct Buffer {
     limits: Limits,
@@ -50,7 +51,8 @@ impl Buffer {
     ghost use Rattle.receiver_rules.specs.History.{verdict, accepted_packets, released_payloads, released_bytes};
     ghost use Rattle.receiver_rules.specs.Seen.{seen, moment_of, packet_at, IsPlaceOf};
     ghost use Rattle.receiver_rules.specs.Bounds.{AreInRange, IsEarlyAnchor, IsMid};
-    ghost use Rattle.reorder_buffer.specs.Release.{octets_below, floor_then, Writes, WritesPart};
+    ghost use Rattle.reorder_buffer.specs.Release.{octets_below, floor_then};
+    ghost use Rattle.reorder_buffer.specs.OneMore.{StandsAfter, Releases, ReleasesPart};
     ghost use Rattle.reorder_buffer.specs.Shown.{number_below};
     ghost use Rattle.reorder_buffer.specs.Changes.{holding, moved, taken, raised, settled};
     ghost use Rattle.reorder_buffer.specs.Causes.{HasReceiveCause};
@@ -97,7 +99,7 @@ impl Buffer {
         requires word { arrival.now.word < cycle_of arrival.now.width }
 
         ensures verdict { IfOk result (λ v. (history : List Step) → IsStateAfter self.old history → v ≡ verdict self.old.limits history at (seen arrival.now)) }
-        ensures state { OnOk result ((history : List Step) → IsStateAfter self.old history → IsStateAfter self.new (media_step at (seen arrival.now) ∷ history)) }
+        ensures state { OnOk result (StandsAfter self.old self.new (media_step at (seen arrival.now))) }
         ensures time { OnOk result ((self.new.time ≡ at) × (self.new.phase ≡ Phase.Open)) }
         ensures limits { self.new.limits ≡ self.old.limits }
         ensures err { OnErr result (self.new ≡ self.old) }
@@ -107,7 +109,8 @@ impl Buffer {
     }
 
     /// Writes what is due at a tick and then decides on an arrival, as one step. Memory is got before the first lasting
-    /// change, so where it is refused nothing was written and nothing changed.
+    /// change, so where it is refused nothing was written and nothing changed. After a failed write the buffer has ended,
+    /// and nothing waits.
     pub fn receive<K: Sink>(
         &mut self,
         alloc: Global,
@@ -121,14 +124,14 @@ impl Buffer {
         requires word { arrival.now.word < cycle_of arrival.now.width }
 
         ensures verdict { IfOk result (λ v. (history : List Step) → IsStateAfter self.old history → v ≡ verdict self.old.limits history at (seen arrival.now)) }
-        ensures state { OnOk result ((history : List Step) → IsStateAfter self.old history → IsStateAfter self.new (media_step at (seen arrival.now) ∷ history)) }
-        ensures sink { OnOk result ((history : List Step) → IsStateAfter self.old history → Writes (K.contents sink.old) (K.contents sink.new) (released_bytes self.old.limits history) (released_bytes self.old.limits (media_step at (seen arrival.now) ∷ history))) }
+        ensures state { OnOk result (StandsAfter self.old self.new (media_step at (seen arrival.now))) }
+        ensures sink { OnOk result (Releases self.old (media_step at (seen arrival.now)) (K.contents sink.old) (K.contents sink.new)) }
         ensures time { OnOk result ((self.new.time ≡ at) × (self.new.phase ≡ Phase.Open)) }
         ensures limits { self.new.limits ≡ self.old.limits }
 
         ensures failed { IsErrOf result ReceiveFault → self.new.phase ≡ Phase.Failed }
         ensures dropped { IsErrOf result ReceiveFault → self.new.held ≡ [] }
-        ensures part { IsErrOf result ReceiveFault → (history : List Step) → IsStateAfter self.old history → WritesPart (K.contents sink.old) (K.contents sink.new) (released_bytes self.old.limits history) (released_bytes self.old.limits (media_step at (seen arrival.now) ∷ history)) }
+        ensures part { IsErrOf result ReceiveFault → ReleasesPart self.old (media_step at (seen arrival.now)) (K.contents sink.old) (K.contents sink.new) }
         ensures same { IsErrOf result ReceiveNoMemory → (self.new ≡ self.old) × (sink.new ≡ sink.old) }
         ensures cause { HasReceiveCause (K.faults sink.old) (K.faults sink.new) result }
     {
@@ -145,21 +148,22 @@ impl Buffer {
         }
     }
 
-    /// Writes what is due at a tick, by rising number, and says how many packets were played out.
+    /// Writes what is due at a tick, by rising number, and says how many packets were played out. After a failed write the
+    /// buffer has ended, and nothing waits.
     pub fn release<K: Sink>(&mut self, at: u64, sink: &mut K) -> Result<u32, WriteFault>
         requires running { self.old.phase ≡ Phase.Open }
         requires tick { at < 2 ^ 61 }
         requires clock { self.old.time ≤ at }
 
-        ensures state { OnOk result ((history : List Step) → IsStateAfter self.old history → IsStateAfter self.new (time_step at ∷ history)) }
-        ensures sink { OnOk result ((history : List Step) → IsStateAfter self.old history → Writes (K.contents sink.old) (K.contents sink.new) (released_bytes self.old.limits history) (released_bytes self.old.limits (time_step at ∷ history))) }
+        ensures state { OnOk result (StandsAfter self.old self.new (time_step at)) }
+        ensures sink { OnOk result (Releases self.old (time_step at) (K.contents sink.old) (K.contents sink.new)) }
         ensures count { IfOk result (λ n. (history : List Step) → IsStateAfter self.old history → n + length (released_payloads self.old.limits history) ≡ length (released_payloads self.old.limits (time_step at ∷ history))) }
         ensures time { OnOk result ((self.new.time ≡ at) × (self.new.phase ≡ Phase.Open)) }
         ensures limits { self.new.limits ≡ self.old.limits }
 
         ensures err { OnErr result (self.new.phase ≡ Phase.Failed) }
         ensures dropped { OnErr result (self.new.held ≡ []) }
-        ensures part { OnErr result ((history : List Step) → IsStateAfter self.old history → WritesPart (K.contents sink.old) (K.contents sink.new) (released_bytes self.old.limits history) (released_bytes self.old.limits (time_step at ∷ history))) }
+        ensures part { OnErr result (ReleasesPart self.old (time_step at) (K.contents sink.old) (K.contents sink.new)) }
         // Where no octet is to be written no write can fail: an empty payload makes no piece.
         ensures complete { (history : List Step) → IsStateAfter self.old history → released_bytes self.old.limits (time_step at ∷ history) ≡ released_bytes self.old.limits history → IsOk result }
         ensures cause { HasCause (K.faults sink.old) (K.faults sink.new) result }
@@ -169,19 +173,20 @@ impl Buffer {
         Ok(count)
     }
 
-    /// Writes all that waits, by rising number, ends the buffer, and says how many packets were played out.
+    /// Writes all that waits, by rising number, ends the buffer, and says how many packets were played out. After a failed
+    /// write nothing waits.
     pub fn flush<K: Sink>(&mut self, sink: &mut K) -> Result<u32, WriteFault>
         requires running { self.old.phase ≡ Phase.Open }
 
-        ensures state { OnOk result ((history : List Step) → IsStateAfter self.old history → IsStateAfter self.new (end_step ∷ history)) }
-        ensures sink { OnOk result ((history : List Step) → IsStateAfter self.old history → Writes (K.contents sink.old) (K.contents sink.new) (released_bytes self.old.limits history) (released_bytes self.old.limits (end_step ∷ history))) }
+        ensures state { OnOk result (StandsAfter self.old self.new end_step) }
+        ensures sink { OnOk result (Releases self.old end_step (K.contents sink.old) (K.contents sink.new)) }
         ensures count { IfOk result (λ n. (history : List Step) → IsStateAfter self.old history → n + length (released_payloads self.old.limits history) ≡ length (released_payloads self.old.limits (end_step ∷ history))) }
         ensures ended { OnOk result (self.new.phase ≡ Phase.Ended) }
         ensures limits { self.new.limits ≡ self.old.limits }
 
         ensures err { OnErr result (self.new.phase ≡ Phase.Failed) }
         ensures dropped { OnErr result (self.new.held ≡ []) }
-        ensures part { OnErr result ((history : List Step) → IsStateAfter self.old history → WritesPart (K.contents sink.old) (K.contents sink.new) (released_bytes self.old.limits history) (released_bytes self.old.limits (end_step ∷ history))) }
+        ensures part { OnErr result (ReleasesPart self.old end_step (K.contents sink.old) (K.contents sink.new)) }
         // Where no octet is to be written no write can fail: an empty payload makes no piece.
         ensures complete { (history : List Step) → IsStateAfter self.old history → released_bytes self.old.limits (end_step ∷ history) ≡ released_bytes self.old.limits history → IsOk result }
         ensures cause { HasCause (K.faults sink.old) (K.faults sink.new) result }

@@ -19,8 +19,11 @@ use std::collections::BTreeMap;
 /// A packet that waits, beside its number.
 #[derive(Drop)]
 pub struct Held {
+    /// Its extended RTP timestamp, in ticks of 1/90,000 s.
     pub timestamp: u64,
+    /// When it is to be played out, in ticks of the receiver's clock. It may be negative.
     pub deadline: i64,
+    /// The octets that are written then. There may be none.
     pub payload: Vec<u8>,
 }
 
