@@ -1,10 +1,10 @@
 //! The worked runs on the buffer, and generated ones beside the plain programs of the rules. Each run is made with releases
 //! and arrivals apart, and with both as one step.
-ghost use Rattle.std.specs.Prelude.{◌≡◌, ◌<◌, ◌^◌, IfOk};
+ghost use Rattle.std.specs.Prelude.{◌<◌, ◌^◌, IfOk};
 ghost use Rattle.std.specs.List.{All};
 ghost use Rattle.receiver_rules.specs.Plain.{IsFit};
 
-use crate::{Arrival, Buffer, Phase, ReceiveBad, Verdict};
+use crate::{Arrival, Buffer, Phase, ReceiveBad, Verdict, WriteFault};
 use outside_io::Store8;
 use receiver_rules::Limits;
 use receiver_rules::plain::{Event, Step, released, verdicts};
@@ -191,14 +191,8 @@ fn a_copy_at_its_deadline_is_late_and_a_gap_is_filled_once(rt: HostRuntime) -> R
     let once = [Verdict::Kept, Verdict::Kept, Verdict::Twice, Verdict::Late];
     assert!(rt; answers(alloc, &[first, again, twice, late, ends()], &once, b"AB")?);
     let other = media(0x2030_4050, 900, 11, 900, b"B");
-    assert!(rt;
-        answers(
-            alloc,
-            &[first, other],
-            &[Verdict::Kept, Verdict::Stranger],
-            b""
-        )?
-    );
+    let strange = [Verdict::Kept, Verdict::Stranger];
+    assert!(rt; answers(alloc, &[first, other], &strange, b"")?);
     Ok(())
 }
 
@@ -226,15 +220,9 @@ fn numbers_go_out_rising(rt: HostRuntime) -> Result<(), Fail> {
     assert!(rt; answers(alloc, &[five, six, passes(89_100)], &behind[..2], b"AB")?);
     assert!(rt; answers(alloc, &[five, six, four, ends()], &behind, b"AB")?);
     let (ahead, beyond) = (brings(0, 6, 90_900, b"B"), brings(0, 6, 90_901, b"B"));
-    assert!(rt; answers(alloc, &[five, ahead], &[Verdict::Kept, Verdict::Kept], b"")?);
-    assert!(rt;
-        answers(
-            alloc,
-            &[five, beyond],
-            &[Verdict::Kept, Verdict::Early],
-            b""
-        )?
-    );
+    let early = [Verdict::Kept, Verdict::Early];
+    assert!(rt; answers(alloc, &[five, ahead], &three[..2], b"")?);
+    assert!(rt; answers(alloc, &[five, beyond], &early, b"")?);
     Ok(())
 }
 
@@ -266,6 +254,41 @@ fn a_failed_write_leaves_a_front_part_and_ends_the_buffer(rt: HostRuntime) -> Re
     // An empty payload makes no piece, so a sink that fails at once is no fault.
     assert!(rt; buffer.flush(&mut sink) == Ok(1) && sink.octets().is_empty());
     assert_eq!(rt; buffer.floor(), Some((1 << 40) + 3));
+    Ok(())
+}
+
+#[test]
+fn nothing_waits_after_a_failed_write(rt: HostRuntime) -> Result<(), Fail> {
+    let alloc = rt.alloc();
+    let mut buffer = Buffer::with_limits(alloc, SPAN, DELAY_MS)?;
+    let first = Arrival {
+        flow: 7,
+        width: Width::W16,
+        word: 3,
+        stamp: 0,
+        payload: b"A",
+    };
+    let second = Arrival {
+        word: 4,
+        stamp: 900,
+        ..first
+    };
+    assert_eq!(rt; buffer.arrive(alloc, 5, &first)?, Verdict::Kept);
+    assert_eq!(rt; buffer.arrive(alloc, 5, &second)?, Verdict::Kept);
+    // The first alone is due, and its write fails.
+    let mut sink = Store8::with(alloc, 64, &[0])?;
+    assert_eq!(rt; buffer.release(90_005, &mut sink), Err(WriteFault));
+    assert!(rt; buffer.ended() && buffer.held() == 0 && !buffer.has((1 << 40) + 4));
+    assert!(rt; sink.octets().is_empty());
+    for (bad, text) in [
+        (ReceiveBad::WriteFault, "write failed"),
+        (ReceiveBad::NoMemory, "out of memory"),
+    ] {
+        let written = format!(in alloc; "{bad}")?;
+        assert_eq!(rt; written.as_str(), text);
+    }
+    let written = format!(in alloc; "{WriteFault}")?;
+    assert_eq!(rt; written.as_str(), "write failed");
     Ok(())
 }
 
