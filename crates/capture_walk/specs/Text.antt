@@ -6,6 +6,7 @@ use Rattle.capture_walk.specs.declared.visitor.VisitBad.TheVariants as visits
 use Rattle.capture_walk.specs.declared.walk_bad.WalkBad.{WalkBad}
 use Rattle.capture_walk.specs.declared.walk_bad.WalkBad.TheVariants as walks
 
+-- the text of each
 abbrev pub visit_text : VisitBad → List ℕ
 visit_text visits.Memory = codes "out of memory"
 visit_text visits.WriteFault = codes "write failed"

@@ -127,3 +127,28 @@ fn a_failed_write_ends_a_walk_at_once(rt: HostRuntime) -> Result<(), Fail> {
     assert!(rt; leaves(source, Store8::with(alloc, 2, &[])?, fault, b"AB"));
     Ok(())
 }
+
+#[test]
+fn each_end_has_its_text(rt: HostRuntime) -> Result<(), Fail> {
+    for (bad, text) in [
+        (WalkBad::Memory, "out of memory"),
+        (WalkBad::ReadFault, "read failed"),
+        (WalkBad::WriteFault, "write failed"),
+        (
+            WalkBad::BadCapture(CapKind::Truncated, 33),
+            "bad capture: truncated at 33",
+        ),
+        (WalkBad::TooLong, "input too long"),
+    ] {
+        let written = format!(in rt.alloc(); "{bad}")?;
+        assert_eq!(rt; written.as_str(), text);
+    }
+    for (bad, text) in [
+        (VisitBad::Memory, "out of memory"),
+        (VisitBad::WriteFault, "write failed"),
+    ] {
+        let written = format!(in rt.alloc(); "{bad}")?;
+        assert_eq!(rt; written.as_str(), text);
+    }
+    Ok(())
+}

@@ -1,4 +1,4 @@
-ghost use Rattle.std.specs.Prelude.{◌≡◌, ◌≤◌, ◌<◌, ◌^◌, false, [], ℕ, List, Option, IfOk, OnErr, IsErrOf, IsErr};
+ghost use Rattle.std.specs.Prelude.{◌≡◌, ◌≤◌, ◌<◌, ◌^◌, false, [], ℕ, List, Option, IsErrOf};
 ghost use Rattle.capture_walk.specs.Causes.{HasReadCause, HasWriteCause};
 ghost use Rattle.capture_walk.specs.Leaves.{Leaves};
 ghost use Rattle.capture_walk.specs.Turns.{IfOn, IfOver};
