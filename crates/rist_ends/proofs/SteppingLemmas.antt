@@ -15,11 +15,14 @@ use Rattle.reorder_buffer.specs.declared.phase.Phase.{Phase}
 use Rattle.reorder_buffer.specs.declared.phase.Phase.TheVariants.{Open, Ended, Failed}
 use Rattle.reorder_buffer.proofs.StateAfterLemmas.{still_open, shows_told}
 use mathlib.Core.Logic.{inl, inr}
-use Rattle.receiver_rules.specs.Steps.{TimeOnly}
-use Rattle.receiver_rules.specs.ReceiverSteps.{buffer_event}
+use Rattle.receiver_rules.specs.declared.arrival.Arrival.{Arrival as Offered}
+use Rattle.receiver_rules.specs.Seen.{seen}
+use Rattle.receiver_rules.specs.Steps.{TimeOnly, media_step, tick_of}
+use Rattle.receiver_rules.specs.ReceiverSteps.{buffer_event, buffer_step}
+use Rattle.rist_ends.specs.declared.told.Told.{Told}
 use Rattle.rist_ends.specs.declared.told.What.{What}
-use Rattle.rist_ends.specs.declared.told.What.TheVariants.{Control, Keepalive, Refused, Tick}
-use Rattle.rist_ends.specs.Told.{input_of, end_at}
+use Rattle.rist_ends.specs.declared.told.What.TheVariants.{Media, Control, Keepalive, Refused, Tick, End}
+use Rattle.rist_ends.specs.Told.{input_of, step_of, end_at}
 
 pub not_failed : (phase : Phase) → phase ≡ Open → phase ≢ Failed
 not_failed phase e f = cc
@@ -126,3 +129,18 @@ silent_event w (inl e) = ap (λ x. buffer_event (input_of x)) e
 silent_event w (inr (inl e)) = ap (λ x. buffer_event (input_of x)) e
 silent_event w (inr (inr (inl e))) = ap (λ x. buffer_event (input_of x)) e
 silent_event w (inr (inr (inr e))) = ap (λ x. buffer_event (input_of x)) e
+
+step_by : (told : Told) (event : Event) → buffer_event (input_of told.what) ≡ event → buffer_step (step_of told) ≡ record { tick = tick_of told.us; event = event }
+step_by told event e = ap (λ (x : Event). record { tick = tick_of told.us; event = x }) e
+
+-- the step of a media packet
+pub media_told : (told : Told) (tick : ℕ) (arrival : Offered) → told.what ≡ Media arrival → tick ≡ tick_of told.us → buffer_step (step_of told) ≡ media_step tick (seen arrival)
+media_told told tick arrival what e = step_by told _ (ap (λ (w : What). buffer_event (input_of w)) what) ∙ ap (λ t. media_step t (seen arrival)) (sym e)
+
+-- that of the end
+pub end_told : (told : Told) (tick : ℕ) → told.what ≡ End → tick ≡ tick_of told.us → buffer_step (step_of told) ≡ end_at tick
+end_told told tick what e = step_by told _ (ap (λ (w : What). buffer_event (input_of w)) what) ∙ ap (λ t. end_at t) (sym e)
+
+-- that of anything else
+pub silent_told : (told : Told) (tick : ℕ) → buffer_event (input_of told.what) ≡ TimeOnly → tick ≡ tick_of told.us → buffer_step (step_of told) ≡ time_step tick
+silent_told told tick event e = step_by told _ event ∙ ap (λ t. time_step t) (sym e)

@@ -70,6 +70,7 @@ pub record AreCountsOf (c : Counts) (limits : Limits) (history : List ReceiverSt
 
 -- ---- one more
 
+-- nothing came yet
 abbrev pub no_counts : Counts
 no_counts = record { kept = 0; stranger = 0; exhausted = 0; late = 0; behind = 0; early = 0; twice = 0; span = 0; refused = 0 }
 

@@ -37,5 +37,6 @@ SaysVerdictOn v limits history tick Refused = v ≡ None
 SaysVerdictOn v limits history tick Tick = v ≡ None
 SaysVerdictOn v limits history tick End = v ≡ None
 
+-- likewise of a step
 abbrev pub SaysVerdict : Option Verdict → Limits → List Step → ReceiverStep → Type 0
 SaysVerdict v limits history step = SaysVerdictOn v limits history step.tick step.input

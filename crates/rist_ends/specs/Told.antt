@@ -12,6 +12,7 @@ use Rattle.rist_ends.specs.declared.told.Told.{Told}
 use Rattle.rist_ends.specs.declared.told.What.{What}
 use Rattle.rist_ends.specs.declared.told.What.TheVariants.{Media, Control, Keepalive, Refused, Tick, End}
 
+-- what comes with a step, as the rules see it
 abbrev pub input_of : What → Input
 input_of (Media arrival) = inputs.Media (seen arrival)
 input_of Control = inputs.Control
@@ -20,6 +21,7 @@ input_of Refused = inputs.Refused
 input_of Tick = inputs.Tick
 input_of End = inputs.End
 
+-- what is told as a step of a history: its moment in whole ticks
 abbrev pub step_of : Told → ReceiverStep
 step_of told = record { link = told.link; tick = tick_of told.us; input = input_of told.what }
 
@@ -46,6 +48,7 @@ phase_after Refused = Open
 phase_after Tick = Open
 phase_after End = Ended
 
+-- the phase after what is told
 abbrev pub ended_at : Told → Phase
 ended_at told = phase_after told.what
 

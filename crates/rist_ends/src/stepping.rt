@@ -1,12 +1,12 @@
 //! A receiver's steps on its buffer: at each first what is due is written, and then comes the event.
-ghost use Rattle.std.specs.Prelude.{◌≡◌, ◌<◌, ◌^◌, ◌∷◌, List, Some, None, IfOk, OnOk, IsErrOf};
+ghost use Rattle.std.specs.Prelude.{◌≡◌, ◌<◌, ◌^◌, List, Some, None, IfOk, OnOk, IsErrOf};
 ghost use Rattle.seq_unwrap.specs.Nearest.{cycle_of};
 ghost use Rattle.receiver_rules.specs.Steps.{Step, media_step, time_step, tick_of};
-ghost use Rattle.receiver_rules.specs.History.{verdict, released_bytes};
+ghost use Rattle.receiver_rules.specs.History.{verdict};
 ghost use Rattle.receiver_rules.specs.ReceiverSteps.{buffer_step};
 ghost use Rattle.receiver_rules.specs.Seen.{seen};
 ghost use Rattle.reorder_buffer.specs.StateAfter.{IsStateAfter};
-ghost use Rattle.reorder_buffer.specs.Release.{Writes, WritesPart};
+ghost use Rattle.reorder_buffer.specs.OneMore.{StandsAfter, Releases, ReleasesPart};
 ghost use Rattle.reorder_buffer.specs.declared.phase.Phase.TheVariants.{Open, Ended, Failed};
 ghost use Rattle.rist_ends.specs.Told.{IsFit, input_of, step_of, ended_at, end_at};
 ghost use Rattle.rist_ends.specs.Outcome.{IsSilent};
@@ -49,11 +49,11 @@ pub fn step_buffer<K: Sink>(
     requires fits { IsFit told.now }
     ensures moved { IfOk result (λ s. IsMoved buffer.old buffer.new s.at (ended_at told.now)) }
     ensures verdict { IfOk result (λ s. (history : List Step) → IsStateAfter buffer.old history → SaysVerdict s.verdict buffer.old.limits history (step_of told.now)) }
-    ensures state { OnOk result ((history : List Step) → IsStateAfter buffer.old history → IsStateAfter buffer.new (buffer_step (step_of told.now) ∷ history)) }
-    ensures sink { OnOk result ((history : List Step) → IsStateAfter buffer.old history → Writes (K.contents sink.old) (K.contents sink.new) (released_bytes buffer.old.limits history) (released_bytes buffer.old.limits (buffer_step (step_of told.now) ∷ history))) }
+    ensures state { OnOk result (StandsAfter buffer.old buffer.new (buffer_step (step_of told.now))) }
+    ensures sink { OnOk result (Releases buffer.old (buffer_step (step_of told.now)) (K.contents sink.old) (K.contents sink.new)) }
     ensures limits { buffer.new.limits ≡ buffer.old.limits }
     ensures failed { IsErrOf result WriteFault → buffer.new.phase ≡ Failed }
-    ensures part { IsErrOf result WriteFault → (history : List Step) → IsStateAfter buffer.old history → WritesPart (K.contents sink.old) (K.contents sink.new) (released_bytes buffer.old.limits history) (released_bytes buffer.old.limits (buffer_step (step_of told.now) ∷ history)) }
+    ensures part { IsErrOf result WriteFault → ReleasesPart buffer.old (buffer_step (step_of told.now)) (K.contents sink.old) (K.contents sink.new) }
     ensures same { IsErrOf result Memory → (buffer.new ≡ buffer.old) × (sink.new ≡ sink.old) }
     ensures memory { IsErrOf result Memory → IsSilent (input_of told.now.what) → ⊥ }
     ensures cause { HasStepCause (K.faults sink.old) (K.faults sink.new) result }
@@ -83,11 +83,11 @@ fn step_media<K: Sink>(
     requires word { arrival.now.word < cycle_of arrival.now.width }
     ensures moved { IfOk result (λ s. IsMoved buffer.old buffer.new s.at Open) }
     ensures verdict { IfOk result (λ s. (history : List Step) → IsStateAfter buffer.old history → s.verdict ≡ Some (verdict buffer.old.limits history tick (seen arrival.now))) }
-    ensures state { OnOk result ((history : List Step) → IsStateAfter buffer.old history → IsStateAfter buffer.new (media_step tick (seen arrival.now) ∷ history)) }
-    ensures sink { OnOk result ((history : List Step) → IsStateAfter buffer.old history → Writes (K.contents sink.old) (K.contents sink.new) (released_bytes buffer.old.limits history) (released_bytes buffer.old.limits (media_step tick (seen arrival.now) ∷ history))) }
+    ensures state { OnOk result (StandsAfter buffer.old buffer.new (media_step tick (seen arrival.now))) }
+    ensures sink { OnOk result (Releases buffer.old (media_step tick (seen arrival.now)) (K.contents sink.old) (K.contents sink.new)) }
     ensures limits { buffer.new.limits ≡ buffer.old.limits }
     ensures failed { IsErrOf result WriteFault → buffer.new.phase ≡ Failed }
-    ensures part { IsErrOf result WriteFault → (history : List Step) → IsStateAfter buffer.old history → WritesPart (K.contents sink.old) (K.contents sink.new) (released_bytes buffer.old.limits history) (released_bytes buffer.old.limits (media_step tick (seen arrival.now) ∷ history)) }
+    ensures part { IsErrOf result WriteFault → ReleasesPart buffer.old (media_step tick (seen arrival.now)) (K.contents sink.old) (K.contents sink.new) }
     ensures same { IsErrOf result Memory → (buffer.new ≡ buffer.old) × (sink.new ≡ sink.old) }
     ensures cause { HasStepCause (K.faults sink.old) (K.faults sink.new) result }
 {
@@ -114,11 +114,11 @@ fn step_time<K: Sink>(
     requires tick { (now < 2 ^ 61) × (tick < 2 ^ 61) }
     ensures moved { IfOk result (λ s. IsMoved buffer.old buffer.new s.at Open) }
     ensures silent { IfOk result (λ s. s.verdict ≡ None) }
-    ensures state { OnOk result ((history : List Step) → IsStateAfter buffer.old history → IsStateAfter buffer.new (time_step tick ∷ history)) }
-    ensures sink { OnOk result ((history : List Step) → IsStateAfter buffer.old history → Writes (K.contents sink.old) (K.contents sink.new) (released_bytes buffer.old.limits history) (released_bytes buffer.old.limits (time_step tick ∷ history))) }
+    ensures state { OnOk result (StandsAfter buffer.old buffer.new (time_step tick)) }
+    ensures sink { OnOk result (Releases buffer.old (time_step tick) (K.contents sink.old) (K.contents sink.new)) }
     ensures limits { buffer.new.limits ≡ buffer.old.limits }
     ensures failed { IsErrOf result WriteFault → buffer.new.phase ≡ Failed }
-    ensures part { IsErrOf result WriteFault → (history : List Step) → IsStateAfter buffer.old history → WritesPart (K.contents sink.old) (K.contents sink.new) (released_bytes buffer.old.limits history) (released_bytes buffer.old.limits (time_step tick ∷ history)) }
+    ensures part { IsErrOf result WriteFault → ReleasesPart buffer.old (time_step tick) (K.contents sink.old) (K.contents sink.new) }
     ensures some { IsErrOf result Memory → ⊥ }
     ensures cause { HasStepCause (K.faults sink.old) (K.faults sink.new) result }
 {
@@ -141,11 +141,11 @@ fn step_end<K: Sink>(
     requires tick { (now < 2 ^ 61) × (tick < 2 ^ 61) }
     ensures moved { IfOk result (λ s. IsMoved buffer.old buffer.new s.at Ended) }
     ensures silent { IfOk result (λ s. s.verdict ≡ None) }
-    ensures state { OnOk result ((history : List Step) → IsStateAfter buffer.old history → IsStateAfter buffer.new (end_at tick ∷ history)) }
-    ensures sink { OnOk result ((history : List Step) → IsStateAfter buffer.old history → Writes (K.contents sink.old) (K.contents sink.new) (released_bytes buffer.old.limits history) (released_bytes buffer.old.limits (end_at tick ∷ history))) }
+    ensures state { OnOk result (StandsAfter buffer.old buffer.new (end_at tick)) }
+    ensures sink { OnOk result (Releases buffer.old (end_at tick) (K.contents sink.old) (K.contents sink.new)) }
     ensures limits { buffer.new.limits ≡ buffer.old.limits }
     ensures failed { IsErrOf result WriteFault → buffer.new.phase ≡ Failed }
-    ensures part { IsErrOf result WriteFault → (history : List Step) → IsStateAfter buffer.old history → WritesPart (K.contents sink.old) (K.contents sink.new) (released_bytes buffer.old.limits history) (released_bytes buffer.old.limits (end_at tick ∷ history)) }
+    ensures part { IsErrOf result WriteFault → ReleasesPart buffer.old (end_at tick) (K.contents sink.old) (K.contents sink.new) }
     ensures some { IsErrOf result Memory → ⊥ }
     ensures cause { HasStepCause (K.faults sink.old) (K.faults sink.new) result }
 {

@@ -194,7 +194,7 @@ fn a_failed_write_stops_the_receiver(rt: HostRuntime) -> Result<(), Fail> {
     let steps = [
         brings(0, 10, b"A"),
         brings(0, 11, b"B"),
-        ticks(1_010_000),
+        refuses(1_010_000),
         ticks(2_000_000),
         ends(),
     ];
@@ -208,6 +208,9 @@ fn a_failed_write_stops_the_receiver(rt: HostRuntime) -> Result<(), Fail> {
     ];
     assert!(rt; played.outcomes.as_slice() == want.as_slice());
     assert_eq!(rt; played.sink.octets(), b"A".as_slice());
+    // What came before is counted still, and the step that failed is not.
+    let before = play(alloc, &steps[..2], Store8::with(alloc, 64, &[])?)?;
+    assert!(rt; before.counts.kept == 2 && played.counts == before.counts);
     Ok(())
 }
 

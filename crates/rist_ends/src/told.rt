@@ -7,6 +7,7 @@ pub struct Told<'a> {
     pub link: u8,
     /// The moment in microseconds. It may go back.
     pub us: u64,
+    /// What comes with it.
     pub what: What<'a>,
 }
 
