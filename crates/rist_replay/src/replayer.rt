@@ -1,9 +1,8 @@
 // A receiver as a visitor of a capture's records.
-ghost use Rattle.std.specs.Prelude.{◌≡◌, ◌<◌, length};
+ghost use Rattle.std.specs.Prelude.{◌≡◌, ◌<◌};
 ghost use Rattle.receiver_rules.specs.Seen.{seen};
 ghost use Rattle.seq_unwrap.specs.Nearest.{cycle_of};
 ghost use Rattle.rist_wire.specs.Media.{content_of};
-ghost use Rattle.rist_wire.specs.Item.{item_of};
 ghost use Rattle.rist_ends.specs.Told.{IsFitWhat, input_of};
 ghost use Rattle.rist_replay.specs.Steps.{arrival_of, input_read};
 ghost use Rattle.rist_replay.specs.Visiting.{answer_of};
@@ -19,8 +18,11 @@ use std::alloc::Global;
 /// Opens a session's datagrams, and steps their items on a receiver.
 #[derive(Drop)]
 pub struct Replayer {
+    /// What each step takes its memory from.
     pub alloc: Global,
+    /// Takes the datagrams of the session.
     pub opener: Opener,
+    /// Is told their items.
     pub receiver: Receiver,
     /// Where a payload is put whose null packets were deleted.
     pub block: [u8; 1500],
@@ -76,10 +78,6 @@ fn answer_of(outcome: Outcome) -> Result<(), VisitBad>
 }
 
 impl Visitor for Replayer {
-    ghost use Rattle.std.specs.Prelude.{◌≡◌};
-    ghost use Rattle.reorder_buffer.specs.declared.phase.Phase.TheVariants.{Open};
-    ghost use Rattle.rist_ends.specs.Receiver.{IsReceiverAfter};
-    ghost use Rattle.rist_replay.specs.Steps.{receiver_history};
     ghost use Rattle.rist_replay.specs.Replay.{released_so_far, replayed};
     ghost use Rattle.rist_replay.specs.Visiting.{HasReplayed};
 

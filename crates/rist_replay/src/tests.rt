@@ -1,5 +1,5 @@
 //! Worked captures, in both profiles, and each way to break off.
-ghost use Rattle.std.specs.Prelude.{◌≡◌, ◌<◌, ◌≤◌, ◌+◌, false, true, length, None};
+ghost use Rattle.std.specs.Prelude.{◌≡◌, ◌<◌, ◌+◌, false, true, length, None};
 ghost use Rattle.outside_io.specs.declared.profile.Profile.TheVariants.{Main};
 ghost use Rattle.rist_wire.specs.Session.{IsSession};
 
