@@ -26,6 +26,7 @@ pub record SentPiece : Type 0 where
   pub strip : Option Shape
   pub payload : List ℕ
 
+-- a piece whole, or without its null packets
 abbrev pub sent_with : List ℕ → Option (Shape × List ℕ) → SentPiece
 sent_with piece None = record { strip = None; payload = piece }
 sent_with piece (Some told) = record { strip = Some told.0; payload = told.1 }
@@ -38,10 +39,11 @@ sent_of nulls piece = sent_with piece (if nulls then stripping_of piece else Non
 abbrev pub stamp_of : PackSettings → ℕ → ℕ
 stamp_of settings k = tick_of (time_of settings k) % 2 ^ 32
 
+-- the media that brings what is sent of piece k, which isn't a retransmission
 abbrev pub media_with : PackSettings → ℕ → SentPiece → MediaOut
 media_with settings k sent = media_out settings.flow false (settings.first + k) (stamp_of settings k) sent.strip sent.payload
 
--- the media of piece k, which isn't a retransmission
+-- the media of piece k
 abbrev pub media_of : Bool → PackSettings → ℕ → List ℕ → MediaOut
 media_of nulls settings k piece = media_with settings k (sent_of nulls piece)
 
@@ -79,11 +81,12 @@ piece_octets session pair settings k piece = media_datagram session pair (media_
 
 -- ---- the capture
 
+-- the record of piece k, on the first link, under a pair where it is enciphered
 abbrev pub record_with : Session → Option Pair → PackSettings → ℕ → List ℕ → Record
 record_with session pair settings k piece =
     record { link = 0; channel = media_channel session; us = time_of settings k; octets = piece_octets session pair settings k piece }
 
--- the record of piece k, on the first link: enciphered under pair k, where there are nonces
+-- the record of piece k, enciphered under pair k where there are nonces
 abbrev pub packed_record : Session → Option (List ℕ) → PackSettings → ℕ → List ℕ → Record
 packed_record session nonces settings k piece = record_with session (pair_of nonces k) settings k piece
 

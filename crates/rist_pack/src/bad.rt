@@ -1,6 +1,4 @@
-use capture_file::WriteFault;
-use std::fmt;
-use std::fmt::{Display, Formatter, Write};
+use std::fmt::{self, Display, Formatter, Write};
 
 /// Why a source is not packed to its end.
 #[derive(Clone, Copy, Debug, PartialEq, Eq)]
@@ -11,17 +9,6 @@ pub enum PackBad {
     WriteFault,
     /// More than 2^40 octets were read of the source.
     TooLong,
-}
-
-impl From<WriteFault> for PackBad {
-    ghost use Rattle.std.specs.Prelude.{◌≡◌};
-    ghost use Rattle.rist_pack.specs.declared.bad.PackBad.TheVariants as bads;
-
-    ghost from_gives = { λ _ bad. bad ≡ bads.WriteFault };
-
-    fn from(_: WriteFault) -> Self {
-        PackBad::WriteFault
-    }
 }
 
 impl Display for PackBad {

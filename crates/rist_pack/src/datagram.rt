@@ -3,7 +3,7 @@ ghost use Rattle.std.specs.Prelude.{◌≡◌, ◌≤◌, ◌<◌, ◌%◌, ◌^
 ghost use Rattle.rist_wire.specs.Media.{can_restore};
 ghost use Rattle.rist_wire.specs.Writing.{next_pair, after_pair};
 ghost use Rattle.rist_wire.specs.Sent.{media_channel, media_datagram};
-ghost use Rattle.rist_pack.specs.Capture.{SentPiece, time_of, stamp_of, media_with, piece_octets, HasGiven};
+ghost use Rattle.rist_pack.specs.Capture.{time_of, stamp_of, media_with, piece_octets, HasGiven};
 
 use crate::PackSettings;
 use outside_io::Channel;

@@ -3,9 +3,8 @@ ghost use Rattle.std.specs.Prelude.{◌≡◌, ◌≤◌, ◌<◌, ◌+◌, ◌*
 ghost use Rattle.outside_io.specs.Causes.{HasCause, Rose};
 ghost use Rattle.outside_io.specs.Told.{Appends, AppendsPart};
 ghost use Rattle.capture_file.specs.Capture.{spelling};
-ghost use Rattle.psk_seal.specs.Sealer.{SealerState};
 ghost use Rattle.rist_wire.specs.Session.{IsSession};
-ghost use Rattle.rist_wire.specs.Writing.{ShutterState, next_pair, after_pair};
+ghost use Rattle.rist_wire.specs.Writing.{next_pair, after_pair};
 ghost use Rattle.rist_pack.specs.Capture.{record_with, packed_record, nonces_of, HasGiven};
 ghost use Rattle.rist_pack.specs.Packing.{Packs, HasReadCause, HasCauses};
 ghost use Rattle.rist_pack.specs.declared.packing.Turn.TheVariants as Turn;
