@@ -45,7 +45,7 @@ pub data CommandLine : Type 0 where
   Show : ShowCommand → CommandLine
   Pack : PackCommand → CommandLine
 
--- the numbers of the options: those of `--port`
+-- the numbers that each option takes. Those of `--port`: an even UDP port
 abbrev pub ports : Numbers
 ports = record { default = 1968; least = 2; most = 65534; multiple_of = 2 }
 
@@ -88,7 +88,7 @@ session_of rows = do
   bits ← number_of key_bits (first_of (codes "bits") rows)
   Some (record { profile = profile; port = port; pass = pass; bits = bits })
 
--- the values of each command
+-- the values of a replay
 abbrev pub replay_of : List Row → Option ReplayCommand
 replay_of rows = do
   capture ← name_of (first_of (codes "capture") rows)
@@ -98,12 +98,14 @@ replay_of rows = do
   span ← number_of spans (first_of (codes "span") rows)
   Some (record { capture = capture; out = out; session = session; delay = delay; span = span })
 
+-- the values of a showing
 abbrev pub show_of : List Row → Option ShowCommand
 show_of rows = do
   capture ← name_of (first_of (codes "capture") rows)
   session ← session_of rows
   Some (record { capture = capture; session = session })
 
+-- the values of a packing. Its flags are those of the session's profile, and the first number is one of its width
 abbrev pub pack_of : List Row → Option PackCommand
 pack_of rows = do
   source ← name_of (first_of (codes "source") rows)

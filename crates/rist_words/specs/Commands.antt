@@ -24,13 +24,15 @@ session_app name = with_rules Valued (new_app name) (codes "profile" ∷ codes "
 abbrev pub with_arguments : App → List Text → List Text → List Text → App
 with_arguments app options flags positions = with_rules Position (with_rules Flag (with_rules Valued app options) flags) positions
 
--- the commands: their options, their flags and their positions
+-- a replay: its options beside the session's, and its positions
 abbrev pub replay_app : App
 replay_app = with_arguments (session_app (codes "replay")) (codes "delay" ∷ codes "span" ∷ []) [] (codes "capture" ∷ codes "out" ∷ [])
 
+-- a showing has no option of its own
 abbrev pub show_app : App
 show_app = with_arguments (session_app (codes "show")) [] [] (codes "capture" ∷ [])
 
+-- a packing: its options, its flags and its positions
 abbrev pub pack_app : App
 pack_app = with_arguments (session_app (codes "pack")) (codes "flow" ∷ codes "first" ∷ codes "gap" ∷ []) (codes "nulls" ∷ codes "wide" ∷ [])
     (codes "source" ∷ codes "capture" ∷ [])

@@ -12,6 +12,7 @@ pub record IsInSession (s : Session) : Type 0 where
   pub pass : IfSome s.pass (λ p. (1 ≤ length p) × (length p ≤ 128))
   pub simple : s.profile ≡ Simple → s.pass ≡ None
 
+-- a delay of 1 to 30,000 ms, and a span of 1 to 16,384 packets
 pub record IsInReplay (c : ReplayCommand) : Type 0 where
   pub session : IsInSession c.session
   pub some_delay : 1 ≤ c.delay
@@ -31,6 +32,7 @@ pub record IsInPack (c : PackCommand) : Type 0 where
   pub nulls : c.session.profile ≡ Simple → c.nulls ≡ false
   pub wide : c.session.profile ≡ Simple → c.wide ≡ false
 
+-- a line's values lie in their ranges
 abbrev pub IsInRange : CommandLine → Type 0
 IsInRange (Replay c) = IsInReplay c
 IsInRange (Show c) = IsInSession c.session

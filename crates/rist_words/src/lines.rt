@@ -13,9 +13,10 @@ pub enum Line<'a> {
     Pack(PackLine<'a>),
 }
 
-/// How the datagrams of a session are made.
+/// How the datagrams of a session are made and read.
 #[derive(Clone, Copy, Debug, PartialEq, Eq)]
 pub struct SessionWords<'a> {
+    /// Simple or main.
     pub profile: Profile,
     /// The UDP port of media, an even number from 2 to 65,534; RTCP has the next one.
     pub port: u16,
@@ -32,6 +33,7 @@ pub struct ReplayLine<'a> {
     pub capture: &'a str,
     /// The name of what is written.
     pub out: &'a str,
+    /// How the capture's datagrams are read.
     pub session: SessionWords<'a>,
     /// The playout delay in milliseconds, 1 to 30,000.
     pub delay: u64,
@@ -44,6 +46,7 @@ pub struct ReplayLine<'a> {
 pub struct ShowLine<'a> {
     /// The capture's name.
     pub capture: &'a str,
+    /// How its datagrams are read.
     pub session: SessionWords<'a>,
 }
 
@@ -54,6 +57,7 @@ pub struct PackLine<'a> {
     pub source: &'a str,
     /// The capture's name.
     pub capture: &'a str,
+    /// How its datagrams are made.
     pub session: SessionWords<'a>,
     /// Null packets are deleted. In the Main Profile only.
     pub nulls: bool,

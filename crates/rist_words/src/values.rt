@@ -14,7 +14,9 @@ use outside_io::Profile;
 pub struct Numbers {
     /// The number where the option isn't given.
     pub default: u64,
+    /// The least number.
     pub least: u64,
+    /// The greatest number.
     pub most: u64,
     /// Each number is a multiple of this.
     pub multiple_of: u64,
