@@ -3,6 +3,7 @@ use Rattle.std.specs.Prelude.{ℕ}
 use Rattle.rist_top.specs.declared.status.Status.{Status}
 use Rattle.rist_top.specs.declared.status.Status.TheVariants.{Done, Memory, Usage, OpenFault, ReadFault, WriteFault, BadCapture, EntropyFault, TooLong}
 
+-- 0 where the work was done, and a number of its own for each other status
 abbrev pub exit_code_of : Status → ℕ
 exit_code_of Done = 0
 exit_code_of Memory = 1

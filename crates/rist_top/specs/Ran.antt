@@ -10,12 +10,13 @@ use Rattle.rist_top.specs.Sealing.{FailedAt, DrawnFirst}
 use Rattle.rist_top.specs.declared.status.Status.{Status}
 use Rattle.rist_top.specs.declared.status.Status.TheVariants as statuses
 
--- the name of a line's source, and that of its sink
+-- the name of a line's source
 abbrev pub source_name : CommandLine → List ℕ
 source_name (Replay c) = c.capture
 source_name (Show c) = c.capture
 source_name (Pack c) = c.source
 
+-- the name of its sink: a showing writes to the standard output
 abbrev pub sink_name : CommandLine → List ℕ
 sink_name (Replay c) = c.out
 sink_name (Show c) = codes "-"

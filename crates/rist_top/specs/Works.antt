@@ -54,10 +54,11 @@ pub record IsFreshFor (c : PackCommand) (sealer : Option SealerState) : Type 0 w
   pub fresh : IfSome sealer (λ s. s.given ≡ 0)
   pub nonces : IfSome sealer (λ s. AreNonces s.nonces)
 
--- what a replay leaves, and what a showing leaves
+-- what a replay leaves
 abbrev pub Replays : ReplayCommand → Option (List ℕ) → Option (List ℕ) → Option (List ℕ) → Option (List ℕ) → Status → Type 0
 Replays c source rest old new status = Walks (released_so_far (session_read c.session) (replay_limits c)) (replayed (session_read c.session) (replay_limits c)) source rest old new status
 
+-- what a showing leaves
 abbrev pub Shows : ShowCommand → Option (List ℕ) → Option (List ℕ) → Option (List ℕ) → Option (List ℕ) → Status → Type 0
 Shows c source rest old new status = Walks (lines (session_read c.session)) (lines (session_read c.session)) source rest old new status
 

@@ -6,7 +6,7 @@ ghost use Rattle.receiver_rules.specs.Plain.{IsFit};
 
 use crate::{Status, run};
 use capture_file::CapKind;
-use outside_io::{MemHost, MemParts, MemSource, Pieces, Place, Slot, Store8, Words};
+use outside_io::{Host, MemHost, MemParts, MemSource, Pieces, Place, Slot, Store8, Words};
 use receiver_rules::plain::{Event, Step, released};
 use receiver_rules::{Arrival, Limits, tick_of};
 use seq_unwrap::Width;
@@ -47,19 +47,21 @@ const NOTHING: Outside<'static> = Outside {
     calls: &[],
 };
 
-/// A host with a source and a sink under `-`.
+/// A host with a source and a sink under `-`, and both under another name.
 fn host(alloc: Global, octets: &[u8], outside: &Outside<'_>) -> Result<MemHost, Fail> {
     let mut sources = Vec::new(alloc);
-    let source = Pieces::with(alloc, octets, outside.cuts, outside.reads)?;
-    sources.push(Slot {
-        name: String::from_str(alloc, "-")?,
-        place: Place::Here(MemSource::Cut(source)),
-    })?;
     let mut sinks = Vec::new(alloc);
-    sinks.push(Slot {
-        name: String::from_str(alloc, "-")?,
-        place: Place::Here(Store8::with(alloc, 1 << 16, outside.puts)?),
-    })?;
+    for name in ["-", "other"] {
+        let source = Pieces::with(alloc, octets, outside.cuts, outside.reads)?;
+        sources.push(Slot {
+            name: String::from_str(alloc, name)?,
+            place: Place::Here(MemSource::Cut(source)),
+        })?;
+        sinks.push(Slot {
+            name: String::from_str(alloc, name)?,
+            place: Place::Here(Store8::with(alloc, 1 << 16, outside.puts)?),
+        })?;
+    }
     let mut entropies = Vec::new(alloc);
     entropies.push(Place::Here(Words::with(alloc, outside.random, outside.draws)?))?;
     Ok(MemHost::with(MemParts {
@@ -179,6 +181,7 @@ fn what_is_no_line_or_not_there_is_refused(rt: HostRuntime) -> Result<(), Fail> 
         let line = words(alloc, line)?;
         let mut host = host(alloc, b"", &NOTHING)?;
         assert_eq!(rt; run(alloc, line.as_slice(), &mut host), Status::Usage);
+        assert!(rt; host.source("-").is_ok() && host.sink("-").is_ok());
     }
     let missing = words(alloc, "replay file -")?;
     let mut host_without = host(alloc, b"", &NOTHING)?;
@@ -199,6 +202,25 @@ fn what_is_no_line_or_not_there_is_refused(rt: HostRuntime) -> Result<(), Fail> 
     );
     assert!(rt; failing.returned_source("-").is_some() && failing.returned_sink("-").is_none());
     assert_eq!(rt; Status::EntropyFault.exit_code(), 11);
+    Ok(())
+}
+
+#[test]
+fn what_a_line_does_not_name_is_not_opened(rt: HostRuntime) -> Result<(), Fail> {
+    let alloc = rt.alloc();
+    let capture = joined(alloc, &[NAME, A])?;
+    for (line, status) in [
+        ("replay - -", Status::Done),
+        ("show -", Status::Done),
+        ("pack - -", Status::Done),
+        ("replay - file", Status::OpenFault),
+        ("replay file -", Status::OpenFault),
+    ] {
+        let line = words(alloc, line)?;
+        let mut host = host(alloc, capture.as_slice(), &NOTHING)?;
+        assert_eq!(rt; run(alloc, line.as_slice(), &mut host), status);
+        assert!(rt; host.source("other").is_ok() && host.sink("other").is_ok());
+    }
     Ok(())
 }
 
@@ -255,6 +277,37 @@ fn what_is_enciphered_under_another_passphrase_is_refused(rt: HostRuntime) -> Re
     let line = "replay --profile main --pass secret - -";
     let octets = written(alloc, line, capture.as_slice(), &NOTHING, Status::Done)?;
     assert!(rt; octets.as_slice() == [0x2F; 2632].as_slice());
+    Ok(())
+}
+
+#[test]
+fn a_packing_goes_under_the_nonce_of_its_first_random_word(rt: HostRuntime) -> Result<(), Fail> {
+    let alloc = rt.alloc();
+    // A nonce isn't 0: the word 0 gives the number after it.
+    for (word, nonce) in [(0x1020_3040, 0x1020_3040_u32), (0, 1)] {
+        let random = [word; 16];
+        let outside = Outside {
+            random: &random,
+            ..NOTHING
+        };
+        let line = "pack --profile main --pass secret - -";
+        let capture = written(alloc, line, &[0x2F; 2632], &outside, Status::Done)?;
+        // The name, and two records of a head of 12 octets and a datagram of 1,344.
+        assert_eq!(rt; capture.len(), 2720);
+        // Each datagram begins with flags, protocol, key and sequence number (RFC 2890, section 2).
+        for (sequence, at) in [(0_u32, 20), (1, 1376)] {
+            let header = joined(
+                alloc,
+                &[
+                    b"\x30\x00\x88\xB6",
+                    nonce.to_be_bytes().as_slice(),
+                    sequence.to_be_bytes().as_slice(),
+                ],
+            )?;
+            let found = capture.get(at..at + 12).ok_or("a header")?;
+            assert!(rt; found == header.as_slice());
+        }
+    }
     Ok(())
 }
 

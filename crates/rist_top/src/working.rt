@@ -23,8 +23,11 @@ use std::alloc::Global;
 
 /// A source and a sink after their work, and how it ended.
 pub struct Worked<S, K> {
+    /// What was read, with what is left in it.
     pub source: S,
+    /// What was written to.
     pub sink: K,
+    /// How the work ended.
     pub status: Status,
 }
 
