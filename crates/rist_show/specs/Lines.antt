@@ -31,6 +31,7 @@ pub record Origin : Type 0 where
 
 -- ---- values
 
+-- a whole number, which JSON writes without sign and fraction
 abbrev pub natural : ℕ → Data
 natural n = number (unsigned n)
 
@@ -38,6 +39,7 @@ natural n = number (unsigned n)
 abbrev pub digits : List ℕ → Data
 digits octets = string (encode_lower octets)
 
+-- the word of a channel
 abbrev pub channel_name : Channel → List ℕ
 channel_name Media = codes "media"
 channel_name Control = codes "control"
@@ -76,6 +78,7 @@ media_data o media =
     (member (codes "stamp") (natural media.stamp)
     (member (codes "width") (natural (bits_of media.width)) no_members))))))))))
 
+-- what a compound asks for, and the types of its packets
 abbrev pub control_data : Origin → List Content → Data
 control_data o packets =
     object (member (codes "asks") (asks_data packets)
@@ -106,6 +109,7 @@ refusal_data o bad =
     (member (codes "place") (natural (place_of bad))
     (member (codes "why") (string (text_of bad)) no_members))))))
 
+-- the object of an item, or of the test that fails
 abbrev pub data_by : Origin → Result Item WireBad → Data
 data_by o (Ok (items.Media media)) = media_data o media
 data_by o (Ok (items.Control packets)) = control_data o packets
@@ -114,9 +118,11 @@ data_by o (Err bad) = refusal_data o bad
 
 -- ---- lines
 
+-- an object as text, and a line feed
 abbrev pub line_by : Origin → Result Item WireBad → List ℕ
 line_by o found = compact_text (data_by o found) ++ 10 ∷ []
 
+-- where and when a record's datagram came
 abbrev pub origin_of : Record → Origin
 origin_of r = record { at = r.us; channel = r.channel; link = r.link }
 

@@ -1,5 +1,5 @@
 // A visitor that writes the line of each record.
-ghost use Rattle.std.specs.Prelude.{◌≡◌, OnOk, OnErr, IsOkUnless};
+ghost use Rattle.std.specs.Prelude.{OnOk, OnErr, IsOkUnless};
 ghost use Rattle.outside_io.specs.Told.{Appends, AppendsPart};
 ghost use Rattle.capture_walk.specs.Causes.{HasVisitCause};
 ghost use Rattle.capture_walk.specs.declared.visitor.VisitBad.TheVariants.{WriteFault};

@@ -1,5 +1,5 @@
 // The lines of worked datagrams, and each refusal once.
-ghost use Rattle.std.specs.Prelude.{◌≡◌, None};
+ghost use Rattle.std.specs.Prelude.{None};
 ghost use Rattle.rist_wire.specs.Session.{IsSession};
 
 use super::*;
@@ -127,6 +127,12 @@ fn a_fault_comes_after_the_lines_before_it(rt: HostRuntime) -> Result<(), Fail> 
     let (text, end) = written(alloc, octets.as_slice(), &[], &[], 200)?;
     assert_eq!(rt; end, Err(WalkBad::WriteFault));
     assert_eq!(rt; text.as_slice(), lines.get(..200).ok_or("200")?);
+    // The first write fails.
+    let mut reader = Reader::over(Bytes::with(alloc, octets.as_slice(), &[])?);
+    let mut sink = Store8::with(alloc, 1024, &[0])?;
+    let end = show(alloc, &simple_session(), &mut reader, &mut sink);
+    assert_eq!(rt; end, Err(WalkBad::WriteFault));
+    assert!(rt; sink.octets().is_empty());
     // The second read fails, after the first record.
     let (text, end) = written(alloc, octets.as_slice(), &[33], &[1], 1024)?;
     assert_eq!(rt; end, Err(WalkBad::ReadFault));
