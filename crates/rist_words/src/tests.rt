@@ -191,7 +191,10 @@ fn words_are_a_line_or_refused(rt: HostRuntime) -> Result<(), Fail> {
     assert!(rt; all_packed(alloc)?);
     assert!(rt; all_refused(alloc)?);
     assert_eq!(rt; line(alloc, &[]), Err(Refused::Usage));
-    for (refused, text) in [(Refused::Memory, "out of memory"), (Refused::Usage, "usage")] {
+    for (refused, text) in [
+        (Refused::Memory, "out of memory"),
+        (Refused::Usage, "usage"),
+    ] {
         let written = format!(in alloc; "{refused}")?;
         assert_eq!(rt; written.as_str(), text);
     }
