@@ -38,7 +38,11 @@ fn play(alloc: Global, steps: &[Told<'_>], sink: Store8) -> Result<Played, Fail>
     let mut outcomes = Vec::new(alloc);
     let mut sink = sink;
     for told in steps {
-        outcomes.push(receiver.step(alloc, told, &mut sink))?;
+        let outcome = receiver.step(alloc, told, &mut sink);
+        if outcome == Outcome::Memory {
+            return Err(Fail::new("out of memory"));
+        }
+        outcomes.push(outcome)?;
     }
     Ok(Played {
         outcomes,

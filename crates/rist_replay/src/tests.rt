@@ -71,7 +71,7 @@ fn leaves<S: Source + Drop>(
     sink: Store8,
     want: Result<(), WalkBad>,
     written: &[u8],
-) -> bool
+) -> Result<bool, Fail>
     requires { IsSession session.now }
 {
     let settings = Settings {
@@ -81,7 +81,10 @@ fn leaves<S: Source + Drop>(
     let mut reader = Reader::over(source);
     let mut sink = sink;
     let result = replay(alloc, session, &settings, &mut reader, &mut sink);
-    result == want && sink.octets() == written
+    if result == Err(WalkBad::Memory) {
+        return Err(Fail::new("out of memory"));
+    }
+    Ok(result == want && sink.octets() == written)
 }
 
 /// Whether the records are replayed to the end in the Simple Profile, and leave these octets.
@@ -92,7 +95,7 @@ fn gives(alloc: Global, records: &[&[u8]], written: &[u8]) -> Result<bool, Fail>
     }
     let source = Bytes::with(alloc, &octets, &[])?;
     let sink = Store8::with(alloc, 64, &[])?;
-    Ok(leaves(alloc, &simple_session(), source, sink, Ok(()), written))
+    leaves(alloc, &simple_session(), source, sink, Ok(()), written)
 }
 
 #[test]
@@ -196,11 +199,11 @@ fn null_packets_of_the_tunnel_are_restored(rt: HostRuntime) -> Result<(), Fail> 
     let whole = joined(alloc, &[&first, &null, &last, b"Z"])?;
     let source = Bytes::with(alloc, &octets, &[])?;
     let sink = Store8::with(alloc, 1024, &[])?;
-    assert!(rt; leaves(alloc, &main_session(), source, sink, Ok(()), &whole));
+    assert!(rt; leaves(alloc, &main_session(), source, sink, Ok(()), &whole)?);
     // In another session these are no items.
     let source = Bytes::with(alloc, &octets, &[])?;
     let sink = Store8::with(alloc, 1024, &[])?;
-    assert!(rt; leaves(alloc, &simple_session(), source, sink, Ok(()), b""));
+    assert!(rt; leaves(alloc, &simple_session(), source, sink, Ok(()), b"")?);
     Ok(())
 }
 
@@ -212,11 +215,11 @@ fn what_breaks_off_is_replayed_so_far(rt: HostRuntime) -> Result<(), Fail> {
     let bad = Err(WalkBad::BadCapture(CapKind::Truncated, 58));
     let source = Bytes::with(alloc, &cut, &[])?;
     let sink = Store8::with(alloc, 64, &[])?;
-    assert!(rt; leaves(alloc, &session, source, sink, bad, b"AB"));
+    assert!(rt; leaves(alloc, &session, source, sink, bad, b"AB")?);
     // The second read fails, after 33 octets.
     let source = Pieces::with(alloc, &cut, &[33], &[1])?;
     let sink = Store8::with(alloc, 64, &[])?;
-    assert!(rt; leaves(alloc, &session, source, sink, Err(WalkBad::ReadFault), b"A"));
+    assert!(rt; leaves(alloc, &session, source, sink, Err(WalkBad::ReadFault), b"A")?);
     // The second write fails, at the end.
     let source = Bytes::with(alloc, &cut, &[])?;
     let sink = Store8::with(alloc, 64, &[1])?;
@@ -228,7 +231,7 @@ fn what_breaks_off_is_replayed_so_far(rt: HostRuntime) -> Result<(), Fail> {
             sink,
             Err(WalkBad::WriteFault),
             b"A"
-        )
+        )?
     );
     Ok(())
 }

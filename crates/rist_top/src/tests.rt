@@ -92,7 +92,11 @@ fn written(
 ) -> Result<Vec<u8>, Fail> {
     let line = words(alloc, line)?;
     let mut host = host(alloc, source, outside)?;
-    if run(alloc, line.as_slice(), &mut host) != status {
+    let ended = run(alloc, line.as_slice(), &mut host);
+    if ended == Status::Memory {
+        return Err(Fail::new("out of memory"));
+    }
+    if ended != status {
         return Err(Fail::new("another status"));
     }
     match host.returned_sink("-") {

@@ -21,7 +21,11 @@ fn reads(
     for word in text.split(' ') {
         words.push(String::from_str(alloc, word)?)?;
     }
-    Ok(line(alloc, words.as_slice()) == line_or_refused)
+    let read = line(alloc, words.as_slice());
+    if read == Err(Refused::Memory) {
+        return Err(Fail::new("out of memory"));
+    }
+    Ok(read == line_or_refused)
 }
 
 /// Lines with the names, the delay and the span that they give.
