@@ -60,7 +60,7 @@ one_front (r ∷ rs) (s ∷ ss) x y f g p q e =
     let rest = one_front rs ss x y (All-tail Fits r rs f) (All-tail Fits s ss g) p q step.1 in
     (ap (λ a. a ∷ rs) step.0 ∙ ap (λ l. s ∷ l) rest.0, rest.1)
 
-code_bound : (c : Channel) → channel_code c < 3
+pub code_bound : (c : Channel) → channel_code c < 3
 code_bound Media = omega arith
 code_bound Control = omega arith
 code_bound Tunnel = omega arith
@@ -68,7 +68,7 @@ code_bound Tunnel = omega arith
 said : (r : Record) → Fits r → from_be_bytes w16 (to_be_bytes w16 (length r.octets)) ≡ length r.octets
 said r f = from_be_bytes-to_be_bytes_2 (length r.octets) (omega (arith, f.octets))
 
-whole_body : (len size more : ℕ) → len ≡ size → (if nat_lt (size + more) len then Some Truncated else None) ≡ None
+pub whole_body : (len size more : ℕ) → len ≡ size → (if nat_lt (size + more) len then Some Truncated else None) ≡ None
 whole_body len size more e = grind (arith, nat_tests)
 
 only_too_long : (at link code len : ℕ) (kind : CapKind) → link < 16 → code < 3 → len ≤ 2048

@@ -10,9 +10,8 @@ use Rattle.outside_io.specs.declared.channel.Channel.{Channel}
 use Rattle.outside_io.specs.declared.channel.Channel.TheVariants as channels
 use Rattle.capture_file.specs.Capture.{Record, Fits, IsCapture, magic, spelling, channel_code}
 use Rattle.capture_file.specs.Tests.{BadAt, FaultIn, fault_at, fault_of_head, fault_of_body, or_else}
-use Rattle.capture_file.proofs.FormatLemmas.{one_spelling, no_capture}
-use Rattle.capture_file.specs.declared.reader.CapKind.TheVariants.{Truncated, Link, Long, TooLong}
-use Rattle.capture_file.specs.declared.reader.CapKind.TheVariants.{Channel as ChannelBad}
+use Rattle.capture_file.proofs.FormatLemmas.{one_spelling, no_capture, code_bound, whole_body}
+use Rattle.capture_file.specs.declared.reader.CapKind.TheVariants.{Truncated, Link, Long, TooLong, Channel as ChannelBad}
 use Rattle.capture_walk.specs.Leaves.{Leaves}
 use Rattle.capture_walk.specs.declared.walk_bad.WalkBad.{WalkBad}
 use Rattle.capture_walk.specs.declared.walk_bad.WalkBad.TheVariants as bads
@@ -31,18 +30,10 @@ behind (d ∷ done) (r ∷ rs) rest f g e =
     (sym (append_assoc (spelling d) (flat_map spelling done) rest) ∙ e) in
     behind done rs rest (All-tail Fits d done f) (All-tail Fits r rs g) step.1
 
-code_bound : (c : Channel) → channel_code c < 3
-code_bound channels.Media = omega arith
-code_bound channels.Control = omega arith
-code_bound channels.Tunnel = omega arith
-
 limit : (at link code len : ℕ) → link < 16 → code < 3 → len ≤ 2048
     → or_else (if nat_lt 15 link then Some Link else (if nat_lt 2 code then Some ChannelBad else (if nat_lt 2048 len then Some Long else (if nat_lt (2 ^ 40) (at + 12 + len) then Some TooLong else None)))) None ≡ Some TooLong
     → 2 ^ 40 < at + 12 + len
 limit at link code len a b c e = grind (arith, nat_tests)
-
-whole_body : (len size more : ℕ) → len ≡ size → (if nat_lt (size + more) len then Some Truncated else None) ≡ None
-whole_body len size more e = grind (arith, nat_tests)
 
 -- a record that is too long ends past the greatest offset
 past : (at : ℕ) (r : Record) (more : List ℕ) → Fits r → fault_at at (spelling r ++ more) ≡ Some TooLong → 2 ^ 40 < at + 12 + length r.octets

@@ -1,9 +1,8 @@
 -- A copy of one more record is the copy so far and its octets.
 use Rattle.std.proofs.Common.{◌≡◌, ℕ, List, [], ◌∷◌, ◌++◌, refl, sym, ap, ◌∙◌, append_assoc, append-nil, Option}
 use Rattle.std.proofs.lemmas.Grind.{flat_map-append}
-use Rattle.outside_io.specs.Told.{Appends, AppendsPart}
+use Rattle.outside_io.specs.Told.{Appends, AppendsPart, Writes, WritesPart}
 use Rattle.capture_file.specs.Capture.{Record}
-use Rattle.capture_walk.specs.Writes.{Writes, WritesPart}
 use Rattle.capture_walk.specs.Copied.{copied}
 
 copied_more : (done : List Record) (r : Record) → copied (done ++ r ∷ []) ≡ copied done ++ r.octets

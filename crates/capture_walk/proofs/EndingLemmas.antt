@@ -4,7 +4,7 @@ use mathlib.Core.Logic.{inl, inr}
 use Rattle.std.specs.Prelude.{Result, Ok, Err, IsErrOf}
 use Rattle.std.proofs.lemmas.List.{nil_from_length}
 use Rattle.std.proofs.lemmas.List.Elements.{All-push}
-use Rattle.outside_io.specs.Told.{Appends, Takes, IsEmpty, IsPrefix}
+use Rattle.outside_io.specs.Told.{Appends, Takes, IsEmpty, IsPrefix, WritesPart}
 use Rattle.outside_io.proofs.ToldLemmas.{appends_both, takes_both}
 use Rattle.capture_file.specs.Capture.{Record, Fits, magic, spelling}
 use Rattle.capture_file.specs.Tests.{BadAt}
@@ -14,7 +14,6 @@ use Rattle.capture_file.specs.declared.reader.CapKind.{CapKind}
 use Rattle.capture_file.specs.declared.reader.CapKind.TheVariants as kinds
 use Rattle.capture_file.specs.declared.reader.CapBad.{CapBad}
 use Rattle.capture_file.specs.declared.reader.CapBad.TheVariants.{Bad, ReadFault}
-use Rattle.capture_walk.specs.Writes.{WritesPart}
 use Rattle.capture_walk.specs.Leaves.{records_before, Begin, Fronts, WritesOf, WritesFrontOf, WritesBegun, Leaves, walk_bad_of}
 use Rattle.capture_walk.specs.Sofar.{HasRead}
 use Rattle.capture_walk.specs.declared.walk_bad.WalkBad.{WalkBad}

@@ -5,13 +5,12 @@ use Rattle.std.proofs.lemmas.List.Elements.{All-push, All-nil}
 use Rattle.std.proofs.lemmas.List.{nil_from_length}
 use Rattle.std.proofs.lemmas.Grind.{flat_map-append}
 use Rattle.std.proofs.lemmas.Bool.Decides.{nat_tests}
-use Rattle.outside_io.specs.Told.{Appends, Takes}
+use Rattle.outside_io.specs.Told.{Appends, Takes, Writes}
 use Rattle.outside_io.proofs.ToldLemmas.{appends_none, appends_both, takes_none, takes_both}
 use Rattle.capture_file.specs.Capture.{Record, Fits, magic, spelling}
 use Rattle.capture_file.specs.Reading.{ReadsNext, name_at, offset_at}
 use Rattle.capture_file.specs.Heads.{record_of}
 use Rattle.capture_file.specs.declared.head.Head.{Head}
-use Rattle.capture_walk.specs.Writes.{Writes}
 use Rattle.capture_walk.specs.Sofar.{Rest, HasRead, Sofar}
 
 pub no_name : (at : ℕ) → 0 < at → name_at at ≡ []

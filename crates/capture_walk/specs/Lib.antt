@@ -1,4 +1,3 @@
-pub mod Writes
 pub mod Causes
 pub mod Leaves
 pub mod Turns

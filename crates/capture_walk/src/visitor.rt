@@ -3,7 +3,7 @@ ghost use Rattle.std.specs.Prelude.{◌≡◌, ◌++◌, ◌∷◌, [], ℕ, Lis
 ghost use Rattle.capture_file.specs.Capture.{Record, Fits};
 ghost use Rattle.capture_file.specs.Heads.{record_of};
 ghost use Rattle.outside_io.specs.Causes.{HasCause};
-ghost use Rattle.capture_walk.specs.Writes.{Writes, WritesPart};
+ghost use Rattle.outside_io.specs.Told.{Writes, WritesPart};
 ghost use Rattle.capture_walk.specs.Causes.{HasVisitCause};
 ghost use Rattle.capture_walk.specs.declared.visitor.VisitBad.TheVariants.{Memory};
 

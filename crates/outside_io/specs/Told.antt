@@ -14,6 +14,14 @@ IsPrefix front whole = (rest : List ℕ) × (whole ≡ front ++ rest)
 abbrev pub AppendsPart : Option (List ℕ) → Option (List ℕ) → List ℕ → Type 0
 AppendsPart old new octets = (front : List ℕ) × IsPrefix front octets × Appends old new front
 
+-- the sink has gained what the whole has behind the first. One that does not tell stays silent
+abbrev pub Writes : Option (List ℕ) → Option (List ℕ) → List ℕ → List ℕ → Type 0
+Writes old new first whole = (gain : List ℕ) × Appends old new gain × (whole ≡ first ++ gain)
+
+-- it has gained a front part of that
+abbrev pub WritesPart : Option (List ℕ) → Option (List ℕ) → List ℕ → List ℕ → Type 0
+WritesPart old new first whole = (front : List ℕ) × Appends old new front × IsPrefix (first ++ front) whole
+
 -- these octets were taken from the front of what remained
 abbrev pub Takes : Option (List ℕ) → Option (List ℕ) → List ℕ → Type 0
 Takes old new octets = old ≡ option_map (λ rest. octets ++ rest) new

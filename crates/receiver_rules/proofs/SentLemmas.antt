@@ -1,25 +1,22 @@
 -- Where all that comes are copies of what was sent, what is kept is what was reached.
-use Rattle.std.proofs.Common.{◌≡◌, ℕ, ◌+◌, ◌-◌, ◌*◌, ◌/◌, ◌%◌, ◌^◌, ◌<◌, ◌≤◌, max, pos, Bool, true, false, cond, not, ◌||◌, ◌&&◌, List, [], ◌∷◌, Option, Some, None, unwrap_or, refl, sym, ◌∙◌, ap, subst, map, arith}
-use Rattle.std.specs.Prelude.{nat_lt, nat_le, ◌==◌, int_le, int_lt, ◌-ℤ◌}
-use Rattle.std.proofs.Common.{⊎_elim, lit≤}
+use Rattle.std.proofs.Common.{◌≡◌, ℕ, ◌+◌, ◌-◌, ◌*◌, ◌/◌, ◌%◌, ◌^◌, ◌<◌, ◌≤◌, max, pos, Bool, true, false, cond, not, ◌||◌, ◌&&◌, List, [], ◌∷◌, Option, Some, None, unwrap_or, refl, sym, ◌∙◌, ap, subst, map, arith, ⊎_elim, lit≤}
+use Rattle.std.specs.Prelude.{nat_lt, nat_le, ◌==◌, int_le, int_lt, ◌-ℤ◌, if◌then◌else◌}
 use Rattle.std.proofs.lemmas.Bool.{ltb-true, ltb-false, leb-true, le-leb, lt-leb, true≢false, eqb-true, eq-eqb, or_from, or_left, or_right, or_cases, or_parts, and_from, and_parts, le-ltb, eqb-false, ne_eqb}
 use Rattle.std.proofs.lemmas.Int.{ints}
 use Rattle.std.proofs.Math.Nat.{div-add-mod, add-mul-mod_self_left}
 use Rattle.std.specs.List.{list_any, list_all, filter}
-use Rattle.std.specs.Prelude.{if◌then◌else◌}
 use Rattle.seq_unwrap.specs.declared.width.Width.{Width}
 use Rattle.seq_unwrap.specs.declared.width.Width.TheVariants.{W16, W32}
 use Rattle.receiver_rules.specs.declared.limits.Limits.{Limits}
 use Rattle.receiver_rules.specs.declared.anchor.Highest.{Highest}
 use Rattle.receiver_rules.specs.Packets.{Packet, At, Ever, placed_packet, deadline_of, is_behind_playout, is_duplicate, is_beyond_capacity, is_kept, verdict_of, higher, highest_of, by_number, insert_by_number, distance, is_played_out, is_buffered}
-use Rattle.seq_unwrap.specs.Nearest.{cycle_of}
+use Rattle.seq_unwrap.specs.Nearest.{cycle_of, nearest}
 use Rattle.receiver_rules.specs.Sent.{SentStream, Start, Delivery, Content, CopyOf, NoCopy, HasSteadyTimestamps, IsOrdinary, IsNear, IsNearAfter, AreDeliveriesOf, copy_of, event_of, steps_of, run_time, start_of, start_after, arrives_in_window, reached_numbers, reached_after, number_deadline, greatest_of, rising_numbers, insert_number}
 use Rattle.receiver_rules.specs.Steps.{Media, Step, effective_time, end_step}
 use Rattle.receiver_rules.specs.History.{new_anchor, anchor_of, anchor_after, accepted_packets, accepted_after, released_payloads, verdict}
 use Rattle.receiver_rules.specs.declared.anchor.Anchor.{Anchor}
 use Rattle.receiver_rules.specs.declared.verdict.Verdict.TheVariants.{Kept, Stranger, Exhausted, Late, Behind, Early, Twice, Span}
 use Rattle.receiver_rules.proofs.PacketLemmas.{is_behind_playout-floor, is_played_out-floor}
-use Rattle.seq_unwrap.specs.Nearest.{nearest}
 use Rattle.seq_unwrap.proofs.NearestLemmas.{nearest_is}
 
 -- ---- numbers and timestamps, as the receiver counts them

@@ -1,3 +1,4 @@
+pub mod PhaseLemmas
 pub mod HeldLemmas
 pub mod DueLemmas
 pub mod StateAfterLemmas

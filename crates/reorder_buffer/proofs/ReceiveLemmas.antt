@@ -2,7 +2,7 @@
 use Rattle.std.proofs.Common.{◌≡◌, ◌≢◌, ℕ, ℤ, ◌≤◌, max, Bool, true, false, cond, List, ◌∷◌, Option, unwrap_or, refl, ◌∙◌, ap, map, arith}
 use Rattle.std.specs.Prelude.{Result, Err, IsErrOf}
 use Rattle.std.specs.List.{concat}
-use Rattle.outside_io.specs.Told.{Appends, AppendsPart}
+use Rattle.outside_io.specs.Told.{Appends, AppendsPart, Writes, WritesPart}
 use Rattle.receiver_rules.specs.declared.verdict.Verdict.{Verdict}
 use Rattle.receiver_rules.specs.declared.limits.Limits.{Limits}
 use Rattle.receiver_rules.specs.Steps.{Arrival, Step, effective_time, media_step, time_step}
@@ -16,14 +16,12 @@ use Rattle.reorder_buffer.specs.State.{State}
 use Rattle.reorder_buffer.specs.StateAfter.{Shows, IsStateAfter}
 use Rattle.reorder_buffer.specs.Tests.{judged, verdict_here, anchor_at, placed_at}
 use Rattle.reorder_buffer.specs.Changes.{holding, moved, taken, raised, settled}
-use Rattle.reorder_buffer.specs.Release.{floor_then, octets_below, Writes, WritesPart}
+use Rattle.reorder_buffer.specs.Release.{floor_then, octets_below}
 use Rattle.reorder_buffer.specs.declared.phase.Phase.{Phase}
 use Rattle.reorder_buffer.specs.declared.phase.Phase.TheVariants.{Open, Failed}
 use Rattle.reorder_buffer.proofs.StateAfterLemmas.{Arrives, verdict_after_steps, state_after_arrival, shows_arrival, still_open}
 use Rattle.reorder_buffer.proofs.ReleaseLemmas.{timed, pass_follows, shows_pass, written_then, part_then}
-
-not_failed : (phase : Phase) → phase ≡ Open → phase ≢ Failed
-not_failed phase e f = cc
+use Rattle.reorder_buffer.proofs.PhaseLemmas.{not_failed}
 
 -- the state at a tick, after what was due has gone out
 abbrev pub then_state : State → ℕ → State

@@ -4,7 +4,7 @@ use Rattle.std.proofs.lemmas.List.{nil_from_length}
 use Rattle.std.specs.Prelude.{nat_lt}
 use Rattle.std.proofs.lemmas.Bool.{ltb-false}
 use Rattle.std.specs.List.{filter, concat}
-use Rattle.outside_io.specs.Told.{Appends, AppendsPart}
+use Rattle.outside_io.specs.Told.{Appends, AppendsPart, Writes, WritesPart}
 use Rattle.receiver_rules.specs.Steps.{Step, effective_time, time_step, end_step}
 use Rattle.receiver_rules.specs.Packets.{Packet, Moment, At, Ever, is_played_out, is_buffered, playout_floor, by_number, IsRising, is_below, is_from}
 use Rattle.receiver_rules.specs.History.{accepted_packets, current_moment, released_payloads, released_bytes}
@@ -14,10 +14,11 @@ use Rattle.reorder_buffer.specs.State.{State}
 use Rattle.reorder_buffer.specs.StateAfter.{Shows, IsStateAfter}
 use Rattle.reorder_buffer.specs.Changes.{raised}
 use Rattle.reorder_buffer.specs.Sound.{AllBelow, IsWithin, IsSound}
-use Rattle.reorder_buffer.specs.Release.{octets_below, floor_then, Writes, WritesPart}
+use Rattle.reorder_buffer.specs.Release.{octets_below, floor_then}
 use Rattle.reorder_buffer.specs.declared.phase.Phase.{Phase}
 use Rattle.reorder_buffer.specs.declared.phase.Phase.TheVariants.{Open, Ended, Failed}
 use Rattle.reorder_buffer.proofs.StateAfterLemmas.{still_open}
+use Rattle.reorder_buffer.proofs.PhaseLemmas.{not_failed}
 
 -- ---- soundness
 
@@ -161,9 +162,6 @@ count_then b history step later n f e =
     ap (λ k. k + length (released_payloads b.limits history)) e
     ∙ length-append-map (released_payloads b.limits history) (filter (is_below (floor_then b later)) b.held)
     ∙ sym (ap length (released_then b history step later f))
-
-not_failed : (phase : Phase) → phase ≡ Open → phase ≢ Failed
-not_failed phase e f = cc
 
 pub pass_follows : (b : State) (history : List Step) (at : ℕ) → IsStateAfter b history → b.phase ≡ Open → b.time ≤ at → Follows b history (time_step at) (At at)
 pass_follows b history at stands live later =

@@ -1,6 +1,6 @@
 -- What a state shows of its history, before and after an arrival.
 use Rattle.std.proofs.Common.{◌≡◌, ◌||◌, ◌≢◌, ℕ, ◌+◌, ◌*◌, ◌^◌, ◌<◌, ◌≤◌, max, pos, Bool, true, false, cond, ◌&&◌, List, [], ◌∷◌, Option, Some, None, unwrap_or, refl, sym, ◌∙◌, ap, subst, arith}
-use Rattle.std.specs.Prelude.{nat_lt, nat_le, ◌==◌, int_le, int_lt, IsSome}
+use Rattle.std.specs.Prelude.{nat_lt, nat_le, ◌==◌, int_le, int_lt, IsSome, IsNone, ◌-ℤ◌}
 use Rattle.std.proofs.lemmas.Bool.{ltb-false}
 use Rattle.std.specs.List.{filter, list_any}
 use Rattle.receiver_rules.specs.declared.verdict.Verdict.TheVariants.{Kept, Stranger, Exhausted, Late, Behind, Early, Twice, Span}
@@ -11,7 +11,6 @@ use Rattle.receiver_rules.specs.History.{new_anchor, anchor_of, anchor_after, ac
 use Rattle.receiver_rules.proofs.PacketLemmas.{any_same, filter_same, any-filter, any-by_number, is_behind_playout-floor, is_buffered-floor, buffered-cons}
 use Rattle.receiver_rules.proofs.HistoryLemmas.{chain as kept_chain, anchorless, now_open, IsKept, accepted_parts, buffered_when_accepted}
 use Rattle.std.proofs.lemmas.Int.{ints}
-use Rattle.std.specs.Prelude.{IsNone, ◌-ℤ◌}
 use Rattle.receiver_rules.specs.declared.anchor.Highest.{Highest}
 use Rattle.receiver_rules.specs.Bounds.{AreInRange, IsEarlyAnchor, IsMid}
 use Rattle.reorder_buffer.specs.State.{State}
@@ -20,6 +19,7 @@ use Rattle.reorder_buffer.specs.Tests.{verdict_here, anchor_at, placed_at, judge
 use Rattle.reorder_buffer.specs.Changes.{holding, moved, taken}
 use Rattle.reorder_buffer.specs.declared.phase.Phase.{Phase}
 use Rattle.reorder_buffer.specs.declared.phase.Phase.TheVariants.{Open, Ended, Failed}
+use Rattle.reorder_buffer.proofs.PhaseLemmas.{not_failed}
 
 open_phase : (b : Bool) → cond b Ended Open ≡ Open → b ≡ false
 open_phase true e = cc
@@ -190,9 +190,6 @@ state_after_arrival b history at arrival h =
       | true ↦ λ e. subst (λ highest. Shows (moved (holding b (placed_packet b.limits (anchor_at b at arrival) highest arrival)) at (anchor_at b at arrival)) (media_step at arrival ∷ history)) (sym h.shows.highest) (shows_holding b history at arrival h e)
       | false ↦ shows_moved b history at arrival h
     ] refl)
-
-not_failed : (phase : Phase) → phase ≡ Open → phase ≢ Failed
-not_failed phase e f = cc
 
 pub arrives : (b : State) (history : List Step) (at : ℕ) → IsStateAfter b history → b.phase ≡ Open → b.time ≤ at → (IsSome b.anchor → b.time ≡ at) → Arrives b history at
 arrives b history at s live later released = record { shows = s (not_failed b.phase live); live = live; later = later; released = released }

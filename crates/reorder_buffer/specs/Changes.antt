@@ -1,12 +1,9 @@
 -- How one call changes the state.
-use Rattle.std.specs.Prelude.{ℕ}
-use Rattle.std.specs.Prelude.{Some}
+use Rattle.std.specs.Prelude.{ℕ, Some, if◌then◌else◌}
 use Rattle.receiver_rules.specs.declared.anchor.Anchor.{Anchor}
-use Rattle.receiver_rules.specs.Packets.{Packet, insert_by_number, is_from, higher}
-use Rattle.std.specs.Prelude.{if◌then◌else◌}
+use Rattle.receiver_rules.specs.Packets.{Packet, insert_by_number, is_from, higher, At, is_kept}
 use Rattle.std.specs.List.{filter}
 use Rattle.receiver_rules.specs.Steps.{Arrival}
-use Rattle.receiver_rules.specs.Packets.{At, is_kept}
 use Rattle.receiver_rules.specs.declared.verdict.Verdict.{Verdict}
 use Rattle.reorder_buffer.specs.Release.{floor_then}
 use Rattle.reorder_buffer.specs.Tests.{anchor_at, placed_at, judged}

@@ -4,7 +4,7 @@ use Rattle.receiver_rules.specs.Steps.{Step}
 use Rattle.receiver_rules.specs.History.{released_bytes}
 use Rattle.reorder_buffer.specs.State.{State}
 use Rattle.reorder_buffer.specs.StateAfter.{IsStateAfter}
-use Rattle.reorder_buffer.specs.Release.{Writes, WritesPart}
+use Rattle.outside_io.specs.Told.{Writes, WritesPart}
 
 -- the new state stands for the history with the step
 abbrev pub StandsAfter : State → State → Step → Type 0

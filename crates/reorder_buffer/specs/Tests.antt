@@ -1,10 +1,9 @@
 -- The verdict as the buffer's own state shows it.
-use Rattle.std.specs.Prelude.{◌≡◌, ◌<◌, ◌≤◌, false, ℕ, ℤ, pos, int_le, int_lt, ◌+◌, ◌*◌, ◌^◌, not, nat_le, nat_lt, ◌==◌, if◌then◌else◌}
+use Rattle.std.specs.Prelude.{◌≡◌, ◌<◌, ◌≤◌, false, ℕ, ℤ, pos, int_le, int_lt, ◌+◌, ◌*◌, ◌^◌, not, nat_le, nat_lt, ◌==◌, if◌then◌else◌, unwrap_or}
 use Rattle.std.specs.List.{list_any}
 use Rattle.receiver_rules.specs.declared.verdict.Verdict.{Verdict}
 use Rattle.receiver_rules.specs.declared.verdict.Verdict.TheVariants.{Kept, Stranger, Exhausted, Late, Behind, Early, Twice, Span}
 use Rattle.receiver_rules.specs.declared.anchor.Anchor.{Anchor}
-use Rattle.std.specs.Prelude.{unwrap_or}
 use Rattle.receiver_rules.specs.Steps.{Arrival}
 use Rattle.receiver_rules.specs.History.{new_anchor}
 use Rattle.receiver_rules.specs.Packets.{Packet, distance, placed_packet}

@@ -4,28 +4,25 @@ use Rattle.std.specs.Prelude.{IsTrue, ◌↔◌, false}
 use Rattle.std.specs.List.{filter, concat}
 use Rattle.outside_io.proofs.ToldLemmas.{appends_both}
 use Rattle.receiver_rules.specs.declared.limits.Limits.{Limits}
-use Rattle.receiver_rules.specs.Steps.{Arrival, Event, Step, effective_time, is_end, has_ended, time_step, end_step}
+use Rattle.receiver_rules.specs.Steps.{Arrival, Event, Step, effective_time, is_end, has_ended, time_step, end_step, TimeOnly, media_step, tick_of}
 use Rattle.receiver_rules.specs.Packets.{Packet, At, Ever, is_played_out, by_number, verdict_of}
 use Rattle.receiver_rules.specs.History.{new_anchor, anchor_of, accepted_packets, accepted_after, played_out_packets, released_bytes, verdict}
 use Rattle.receiver_rules.proofs.HistoryLemmas.{played_out_grows}
 use Rattle.reorder_buffer.specs.State.{State}
 use Rattle.reorder_buffer.specs.StateAfter.{Shows, IsStateAfter}
-use Rattle.reorder_buffer.specs.Release.{Writes, WritesPart}
+use Rattle.outside_io.specs.Told.{Writes, WritesPart}
 use Rattle.reorder_buffer.specs.declared.phase.Phase.{Phase}
 use Rattle.reorder_buffer.specs.declared.phase.Phase.TheVariants.{Open, Ended, Failed}
 use Rattle.reorder_buffer.proofs.StateAfterLemmas.{still_open, shows_told}
 use mathlib.Core.Logic.{inl, inr}
 use Rattle.receiver_rules.specs.declared.arrival.Arrival.{Arrival as Offered}
 use Rattle.receiver_rules.specs.Seen.{seen}
-use Rattle.receiver_rules.specs.Steps.{TimeOnly, media_step, tick_of}
 use Rattle.receiver_rules.specs.ReceiverSteps.{buffer_event, buffer_step}
 use Rattle.rist_ends.specs.declared.told.Told.{Told}
 use Rattle.rist_ends.specs.declared.told.What.{What}
 use Rattle.rist_ends.specs.declared.told.What.TheVariants.{Media, Control, Keepalive, Refused, Tick, End}
 use Rattle.rist_ends.specs.Told.{input_of, step_of, end_at}
-
-pub not_failed : (phase : Phase) → phase ≡ Open → phase ≢ Failed
-not_failed phase e f = cc
+use Rattle.reorder_buffer.proofs.PhaseLemmas.{not_failed}
 
 -- a buffer that has not ended is open
 pub open_phase : (phase : Phase) (b : Bool) → IsTrue b ↔ (phase ≢ Open) → b ≡ false → phase ≡ Open

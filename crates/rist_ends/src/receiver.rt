@@ -35,7 +35,7 @@ impl Receiver {
     ghost use Rattle.outside_io.specs.Causes.{RoseWhere};
     ghost use Rattle.receiver_rules.specs.History.{released_bytes};
     ghost use Rattle.receiver_rules.specs.ReceiverSteps.{ReceiverStep, buffer_history};
-    ghost use Rattle.reorder_buffer.specs.Release.{Writes, WritesPart};
+    ghost use Rattle.outside_io.specs.Told.{Writes, WritesPart};
     ghost use Rattle.reorder_buffer.specs.declared.phase.Phase.TheVariants.{Open, Failed};
     ghost use Rattle.rist_ends.specs.Receiver.{IsReceiverAfter, limits_of};
     ghost use Rattle.rist_ends.specs.Told.{IsFit, input_of, step_of, ended_at};

@@ -1,7 +1,6 @@
 -- What a packing answers, by the octets that a source had and has left, and those that a capture held and holds, where
 -- these are told.
-use Rattle.std.specs.Prelude.{ℕ, ◌^◌, ◌<◌, ◌≤◌, List, length, Bool, true, false, Result, Ok, Err}
-use Rattle.std.specs.Prelude.{Option}
+use Rattle.std.specs.Prelude.{ℕ, ◌^◌, ◌<◌, ◌≤◌, List, length, Bool, true, false, Result, Ok, Err, Option}
 use Rattle.outside_io.specs.Causes.{RoseWhere}
 use Rattle.outside_io.specs.Told.{Takes, IsEmpty, Appends, AppendsPart}
 use Rattle.capture_file.specs.Capture.{Record}

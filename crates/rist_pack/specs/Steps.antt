@@ -1,7 +1,6 @@
 -- What the steps of a packing answer, by the octets that a source had and has left, and those that a capture held and
 -- holds, where these are told.
-use Rattle.std.specs.Prelude.{◌≡◌, ℕ, ◌+◌, ◌*◌, ◌^◌, ◌<◌, ◌≤◌, List, [], length, take, flat_map, Result, Ok, Err}
-use Rattle.std.specs.Prelude.{Option}
+use Rattle.std.specs.Prelude.{◌≡◌, ℕ, ◌+◌, ◌*◌, ◌^◌, ◌<◌, ◌≤◌, List, [], length, take, flat_map, Result, Ok, Err, Option}
 use Rattle.outside_io.specs.Told.{Takes, IsEmpty, Appends, AppendsPart}
 use Rattle.capture_file.specs.Capture.{Record, spelling}
 use Rattle.rist_pack.specs.Pieces.{pieces_of}

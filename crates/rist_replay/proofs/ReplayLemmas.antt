@@ -5,9 +5,8 @@ use Rattle.std.specs.Prelude.{OnOk, OnErr, IsErrOf, Result, Ok, Err}
 use Rattle.capture_walk.specs.declared.visitor.VisitBad.TheVariants as bads
 use Rattle.std.specs.List.{concat}
 use Rattle.std.proofs.lemmas.List.{map_push, reverse-append}
-use Rattle.outside_io.specs.Told.{IsPrefix}
+use Rattle.outside_io.specs.Told.{IsPrefix, WritesPart}
 use Rattle.outside_io.proofs.ToldLemmas.{appends_none}
-use Rattle.capture_walk.specs.Writes.{WritesPart}
 use Rattle.capture_file.specs.Capture.{Record}
 use Rattle.receiver_rules.specs.declared.limits.Limits.{Limits}
 use Rattle.receiver_rules.specs.Steps.{Step, end_step, is_end, has_ended}

@@ -1,9 +1,8 @@
 -- No value of a line is a float, and one more record is one more line.
 use Rattle.std.proofs.Common.{◌≡◌, ℕ, List, [], ◌∷◌, ◌++◌, map, Bool, false, ◌||◌, refl, sym, ap, ◌∙◌, append-nil, append_assoc}
 use Rattle.std.specs.Prelude.{Option, None, Result, Ok, Err, OnOk, OnErr}
-use Rattle.outside_io.specs.Told.{Appends, AppendsPart}
+use Rattle.outside_io.specs.Told.{Appends, AppendsPart, Writes, WritesPart}
 use Rattle.outside_io.proofs.ToldLemmas.{appends_none}
-use Rattle.capture_walk.specs.Writes.{Writes, WritesPart}
 use Rattle.rist_wire.specs.Item.{item_of}
 use Rattle.serde_json.specs.View.{items_of}
 use Rattle.serde_json.specs.Written.{has_float, items_have_float}

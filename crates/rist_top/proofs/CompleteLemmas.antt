@@ -21,6 +21,7 @@ use Rattle.rist_top.specs.Ran.{Ran, source_name}
 use Rattle.rist_top.specs.Complete.{IsWholeCapture, IsWholeInput, NoneFailed, Completes}
 use Rattle.rist_top.specs.declared.status.Status.{Status}
 use Rattle.rist_top.specs.declared.status.Status.TheVariants as statuses
+use Rattle.rist_top.proofs.PlaceLemmas.{same_here}
 
 is_memory : (s : Status) → (s ≡ statuses.Memory) ⊎ (s ≡ statuses.Memory → ⊥)
 is_memory statuses.Memory = inl refl
@@ -64,15 +65,12 @@ work_ends IsKnown (Pack c) b first rest old new status input told read write wor
     let record_of : ℕ → List ℕ → Record = packed_record (session_with c.session c.nulls c.wide) (nonces_of work.0) (pack_settings c) in
     pack_ends record_of b rest old new status work.3.0 input work.3.1 read write (subst (λ o. Packs record_of o rest old new work.3.0) told work.3.2)
 
-same_source : {X : Type 0} (x y : X) → Here x ≡ Here y → x ≡ y
-same_source x y e = cc
-
 ran_done : {I O E : Type 0} (remaining : I → Option (List ℕ)) (read_faults : I → ℕ) (contents : O → Option (List ℕ)) (write_faults : O → ℕ) (words : E → Option (List ℕ)) (word_faults : E → ℕ) (old new : Shelf I O E) (c : CommandLine) (status : Status)
     (source : I) (b : List ℕ) → old.sources (source_name c) ≡ Here source → remaining source ≡ Some b → IsWholeInput c b → NoneFailed read_faults write_faults word_faults old new c
     → (status ≡ statuses.Memory → ⊥) → Ran remaining read_faults contents write_faults words word_faults old new c status → status ≡ statuses.Done
 ran_done remaining read_faults contents write_faults words word_faults old new c status source b here told input none memory ran =
     work_ends _ c b (remaining ran.source) (remaining ran.spent) (contents ran.sink) (contents ran.filled) status input
-    (ap remaining (same_source ran.source source (sym ran.took_source ∙ here)) ∙ told)
+    (ap remaining (same_here ran.source source (sym ran.took_source ∙ here)) ∙ told)
     (λ e. none.reads ran.source ran.spent ran.took_source ran.gave_source (subst (HasReadCause (read_faults ran.source) (read_faults ran.spent)) e ran.read))
     (λ e. none.writes ran.sink ran.filled ran.took_sink ran.gave_sink (subst (HasWriteCause (write_faults ran.sink) (write_faults ran.filled)) e ran.write))
     (λ e. none.words (ran.random e)) memory ran.work

@@ -4,7 +4,7 @@ use Rattle.std.specs.Prelude.{Result, Ok, Err}
 use Rattle.std.specs.List.{concat}
 use Rattle.outside_io.specs.Told.{Appends}
 use Rattle.outside_io.specs.Shelf.{Shelf}
-use Rattle.outside_io.specs.declared.host.Place.TheVariants.{Here, Back}
+use Rattle.outside_io.specs.declared.host.Place.TheVariants.{Back}
 use Rattle.capture_file.specs.Capture.{Record, IsCapture, IsFront, magic}
 use Rattle.capture_file.proofs.FormatLemmas.{one_reading, no_record_in_nothing}
 use Rattle.capture_walk.specs.Leaves.{Leaves}
@@ -23,6 +23,7 @@ use Rattle.rist_top.specs.Exact.{WritesReached}
 use Rattle.rist_top.specs.Ran.{Ran}
 use Rattle.rist_top.specs.declared.status.Status.{Status}
 use Rattle.rist_top.specs.declared.status.Status.TheVariants as statuses
+use Rattle.rist_top.proofs.PlaceLemmas.{same_here}
 
 -- a capture's records are the whole records at its front
 front_of : (b : List ℕ) (rs : List Record) → IsCapture rs b → IsFront rs b
@@ -36,9 +37,6 @@ front_of b rs c = record {
 -- octets are a capture of one list of records
 one_capture : (b : List ℕ) (rs ss : List Record) → IsCapture rs b → IsCapture ss b → rs ≡ ss
 one_capture b rs ss p q = one_reading b rs ss (front_of b rs p) (front_of b ss q)
-
-same_here : {X : Type 0} (x y : X) → Here x ≡ Here y → x ≡ y
-same_here x y e = cc
 
 same_back : {X : Type 0} (x y : X) → Back x ≡ Back y → x ≡ y
 same_back x y e = cc

@@ -1,3 +1,4 @@
+pub mod PlaceLemmas
 pub mod ExactLemmas
 pub mod CompleteLemmas
 pub mod UntouchedLemmas

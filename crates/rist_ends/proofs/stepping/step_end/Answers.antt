@@ -1,7 +1,7 @@
 -- What is due goes out, and then all that waits: as the end at its own tick.
 use Rattle.std.proofs.Common.{◌∷◌, subst}
 use Rattle.receiver_rules.specs.declared.limits.Limits.{Limits}
-use Rattle.reorder_buffer.specs.Release.{Writes, WritesPart}
+use Rattle.outside_io.specs.Told.{Writes, WritesPart}
 use Rattle.receiver_rules.specs.Steps.{time_step, end_step}
 use Rattle.receiver_rules.specs.History.{released_bytes}
 use Rattle.rist_ends.proofs.SteppingLemmas.{end_state, end_part, writes_both, part_both}

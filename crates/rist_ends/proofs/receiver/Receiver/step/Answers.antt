@@ -5,7 +5,8 @@ use Rattle.receiver_rules.specs.History.{released_bytes}
 use Rattle.receiver_rules.specs.ReceiverSteps.{buffer_history}
 use Rattle.reorder_buffer.specs.State.{State}
 use Rattle.reorder_buffer.specs.StateAfter.{IsStateAfter}
-use Rattle.reorder_buffer.specs.Release.{Writes}
+use Rattle.outside_io.specs.Told.{Writes}
+use Rattle.reorder_buffer.proofs.PhaseLemmas.{not_failed}
 use Rattle.rist_ends.specs.Receiver.{ReceiverState, IsReceiverAfter}
 use Rattle.rist_ends.specs.Counts.{AreCountsOf}
 use Rattle.rist_ends.specs.Told.{step_of, input_of}
@@ -13,7 +14,7 @@ use Rattle.rist_ends.specs.Stepping.{SaysVerdictOn}
 use Rattle.rist_ends.specs.Outcome.{Answers}
 use Rattle.rist_ends.proofs.CountLemmas.{counted}
 use Rattle.rist_ends.proofs.OutcomeLemmas.{answers_told, on_stepped}
-use Rattle.rist_ends.proofs.SteppingLemmas.{not_failed, open_phase}
+use Rattle.rist_ends.proofs.SteppingLemmas.{open_phase}
 use Rattle.rist_ends.proofs.receiver.Receiver.step.Goals as goal
 
 pub returns-in-Ok-clause-verdict : goal.returns-in-Ok-clause-verdict

@@ -6,7 +6,7 @@ use Rattle.capture_file.specs.Heads.{record_of}
 use Rattle.receiver_rules.specs.Steps.{tick_of}
 use Rattle.receiver_rules.specs.ReceiverSteps.{Input, ReceiverStep, buffer_history}
 use Rattle.receiver_rules.specs.History.{released_bytes}
-use Rattle.capture_walk.specs.Writes.{Writes, WritesPart}
+use Rattle.outside_io.specs.Told.{Writes, WritesPart}
 use Rattle.rist_ends.specs.Told.{input_of}
 use Rattle.rist_replay.specs.Steps.{step_of, input_read, receiver_history, history_of}
 use Rattle.rist_replay.specs.Visiting.{HasReplayed}
