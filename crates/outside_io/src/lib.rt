@@ -8,6 +8,7 @@ mod channel;
 mod copying;
 mod entropy;
 mod failing;
+mod file_identity;
 mod filling;
 mod host;
 mod mem_host;

@@ -1,14 +1,15 @@
-// Files and standard streams. What they give and take is not told: the trusted edge of the system.
+//! Files and standard streams. What they give and take is not told: the trusted edge of the system.
 ghost use Rattle.std.specs.Prelude.{◌≡◌, ◌≤◌, ◌<◌, length, take, false, IfOk, OnOk, OnErr};
-ghost use Rattle.outside_io.specs.Real.{silent, source_faults, sink_faults, ReadsBehind, WritesBehind, IsSourceNamed, IsSinkNamed};
+ghost use Rattle.outside_io.specs.Real.{silent, source_faults, sink_faults, ReadsBehind, WritesBehind, WritesFront, WritesFrontBehind, IsSourceNamed, IsSinkNamed};
 ghost use Rattle.std.specs.Io.{ReadsAtMost};
 ghost use Rattle.std.specs.Io.KnownBytes.{ReadConsumes, Appends as WriterAppends};
-ghost use Rattle.outside_io.specs.Causes.{HasCause};
+ghost use Rattle.outside_io.specs.Causes.{HasCause, Rose};
 ghost use Rattle.outside_io.specs.Shelf.{nowhere};
 ghost use Rattle.outside_io.specs.Told.{Appends, AppendsPart, Takes, IsEmpty};
 
+use crate::file_identity::FileIdentity;
 use crate::{Failed, Host, HostBad, RealEntropy, Sink, Source};
-use std::fs::{self, Files};
+use std::fs::{self, Files, OpenFile};
 use std::io::{self, Input, Print, Printer, Read, Write};
 use std::marker::Model;
 use std::random::RandomSource;
@@ -51,7 +52,7 @@ pub struct Writing<W> {
     faults: u64,
 }
 
-// Writes the piece, all of it where it can, and says how much.
+/// Writes the piece, all of it where it can, and says how much.
 fn write_through<W: Write>(writer: &mut W, piece: &[u8]) -> usize
     ensures within { result ≤ length piece.now }
     ensures value { WriterAppends (W.contents writer.old) (W.contents writer.new) (take result piece.now) }
@@ -76,8 +77,9 @@ impl<W: Write> Sink for Writing<W> {
         ensures ok { OnOk result (Appends silent silent piece.now) }
         ensures err { OnErr result (AppendsPart silent silent piece.now) }
         ensures cause { HasCause self.old.faults self.new.faults result }
-        // A piece that is taken was written whole, where the writer tells.
+        // A piece that is taken was written whole, where the writer tells, and else a front part of it.
         ensures whole { OnOk result (WriterAppends (W.contents self.old.inner) (W.contents self.new.inner) piece.now) }
+        ensures front { OnErr result (WritesFront (W.contents self.old.inner) (W.contents self.new.inner) piece.now) }
     {
         if write_through(&mut self.inner, piece) == piece.len() {
             return Ok(());
@@ -131,6 +133,7 @@ impl<F: Write, O: Write> Sink for RealSink<F, O> {
         ensures err { OnErr result (AppendsPart silent silent piece.now) }
         ensures cause { HasCause (sink_faults self.old) (sink_faults self.new) result }
         ensures whole { OnOk result (WritesBehind F.contents O.contents self.old self.new piece.now) }
+        ensures front { OnErr result (WritesFrontBehind F.contents O.contents self.old self.new piece.now) }
     {
         match self {
             RealSink::File(sink) => sink.put(piece),
@@ -139,7 +142,7 @@ impl<F: Write, O: Write> Sink for RealSink<F, O> {
     }
 }
 
-// Standard input under the name `-`, and else the file of this name.
+/// Standard input under the name `-`, and else the file of this name.
 fn open_source<R: Files + Input>(rt: &R, name: &str) -> io::Result<RealSource<R::File, R::Reader>>
     ensures named { IfOk result (λ source. IsSourceNamed name.now source) }
     ensures fresh { IfOk result (λ source. source_faults source ≡ 0) }
@@ -156,7 +159,33 @@ fn open_source<R: Files + Input>(rt: &R, name: &str) -> io::Result<RealSource<R:
     }
 }
 
-// Standard output under the name `-`, and else a new file of this name.
+/// The regular file that a source reads, if it is one.
+fn file_read<F: OpenFile, I>(source: &RealSource<F, I>) -> io::Result<Option<FileIdentity>> {
+    match source {
+        RealSource::File(reading) => Ok(FileIdentity::of(&reading.inner.metadata()?)),
+        RealSource::Stream(_) => Ok(None),
+    }
+}
+
+/// A source, and the regular file that it reads, if it is one.
+fn open_known_source<R: Files + Input>(
+    rt: &R,
+    name: &str,
+) -> io::Result<(RealSource<R::File, R::Reader>, Option<FileIdentity>)> {
+    let source = open_source(rt, name)?;
+    let file = file_read(&source)?;
+    Ok((source, file))
+}
+
+/// Whether a name is that of this regular file.
+fn is_named<R: Files>(rt: &R, name: &str, file: Option<FileIdentity>) -> bool {
+    match (fs::metadata(rt, name), file) {
+        (Ok(metadata), Some(file)) => FileIdentity::of(&metadata) == Some(file),
+        _ => false,
+    }
+}
+
+/// Standard output under the name `-`, and else a new file of this name.
 fn create_sink<'a, R: Files + Print>(
     rt: &'a R,
     name: &str,
@@ -176,11 +205,13 @@ fn create_sink<'a, R: Files + Print>(
     }
 }
 
-/// The system's files, its standard streams under the name `-`, and its random source.
+/// The system's files, its standard streams under the name `-`, and its random source. A file that is read as the source
+/// isn't opened as the sink: that would empty it.
 #[derive(Drop)]
 pub struct RealHost<'a, R> {
     rt: &'a R,
     faults: u64,
+    read: Option<FileIdentity>,
 }
 
 impl<'a, R> Model for RealHost<'a, R> {
@@ -196,7 +227,20 @@ impl<'a, R> RealHost<'a, R> {
     pub fn new(rt: &'a R) -> RealHost<'a, R>
         ensures value { result.faults ≡ 0 }
     {
-        RealHost { rt, faults: 0 }
+        RealHost {
+            rt,
+            faults: 0,
+            read: None,
+        }
+    }
+
+    /// One more call failed.
+    fn refuse(&mut self) -> HostBad
+        ensures value { result ≡ HostBad.Failed }
+        ensures cause { Rose self.old.faults self.new.faults }
+    {
+        self.faults = self.faults.saturating_add(1);
+        HostBad::Failed
     }
 }
 
@@ -214,22 +258,22 @@ impl<'a, R: Files + Input + Print + RandomSource> Host for RealHost<'a, R> {
     ghost faults = { λ host. host.faults };
 
     fn source(&mut self, name: &str) -> Result<Self::Input, HostBad> {
-        match open_source(self.rt, name) {
-            Ok(source) => Ok(source),
-            Err(_) => {
-                self.faults = self.faults.saturating_add(1);
-                Err(HostBad::Failed)
+        match open_known_source(self.rt, name) {
+            Ok((source, file)) => {
+                self.read = file;
+                Ok(source)
             }
+            Err(_) => Err(self.refuse()),
         }
     }
 
     fn sink(&mut self, name: &str) -> Result<Self::Output, HostBad> {
+        if name != "-" && is_named(self.rt, name, self.read) {
+            return Err(self.refuse());
+        }
         match create_sink(self.rt, name) {
             Ok(sink) => Ok(sink),
-            Err(_) => {
-                self.faults = self.faults.saturating_add(1);
-                Err(HostBad::Failed)
-            }
+            Err(_) => Err(self.refuse()),
         }
     }
 
@@ -240,7 +284,9 @@ impl<'a, R: Files + Input + Print + RandomSource> Host for RealHost<'a, R> {
         })
     }
 
-    fn back_source(&mut self, _name: &str, _object: Self::Input) {}
+    fn back_source(&mut self, _name: &str, _object: Self::Input) {
+        self.read = None;
+    }
 
     fn back_sink(&mut self, _name: &str, _object: Self::Output) {}
 

@@ -1,4 +1,4 @@
-// What no clause says: that calls succeed, and that files and streams do what they say.
+//! What no clause says: that calls succeed, and that files and streams do what they say.
 use crate::{
     Bytes, Entropy, Failed, Host, HostBad, MemHost, MemParts, MemSource, NoMemory, Pieces, Place,
     RealHost, Sink, Slot, Source, Store8, Words, read_full,
@@ -101,7 +101,42 @@ fn a_file_gives_what_it_took(rt: HostRuntime) -> Result<(), Fail> {
     assert_eq!(rt; &buf[..4], b"ABCD".as_slice());
     assert_eq!(rt; source.read(&mut buf), Ok(0));
     host.back_source("taken.bin", source);
+    // A file that is there is written anew, and none can be made in a folder that isn't there.
+    let Ok(mut sink) = host.sink("taken.bin") else {
+        return Err(Fail::new("no file"));
+    };
+    assert_eq!(rt; sink.put(b"E"), Ok(()));
+    host.back_sink("taken.bin", sink);
+    assert!(rt; fs::read(&rt, "taken.bin")?.as_slice() == b"E".as_slice());
+    assert!(rt; matches!(host.sink("no such folder/taken.bin"), Err(HostBad::Failed)));
     fs::remove_file(&rt, "taken.bin")?;
+    Ok(())
+}
+
+#[test]
+fn a_file_is_not_written_over_while_it_is_read(rt: HostRuntime) -> Result<(), Fail> {
+    fs::write(&rt, "both.bin", b"ABC")?;
+    let mut host = RealHost::new(&rt);
+    let Ok(mut source) = host.source("both.bin") else {
+        return Err(Fail::new("no file"));
+    };
+    for name in ["both.bin", "./both.bin"] {
+        assert!(rt;
+            matches!(host.sink(name), Err(HostBad::Failed)),
+            "as {name}"
+        );
+    }
+    let mut buf = [0; 8];
+    assert_eq!(rt; source.read(&mut buf), Ok(3));
+    assert_eq!(rt; &buf[..3], b"ABC".as_slice());
+    // A stream isn't a file, and a file that was given back can be written.
+    assert!(rt; host.sink("-").is_ok());
+    host.back_source("both.bin", source);
+    assert!(rt; host.sink("both.bin").is_ok());
+    fs::remove_file(&rt, "both.bin")?;
+    // What is no regular file can be read and written at once.
+    assert!(rt; host.source("/dev/null").is_ok());
+    assert!(rt; host.sink("/dev/null").is_ok());
     Ok(())
 }
 
@@ -143,13 +178,14 @@ fn the_system_gives_random_words_and_each_failure_has_its_text(
     let Ok(mut entropy) = host.entropy() else {
         return Err(Fail::new("no random source"));
     };
-    // Eight words that are all alike come once in 2^224 runs.
-    let first = entropy.word();
-    let mut alike = first.is_ok();
-    for _ in 0..7 {
-        alike = alike && entropy.word() == first;
+    // Of 64 words some bit is always 0, or always 1, once in 2^58 runs.
+    let (mut ever, mut always) = (0, u32::MAX);
+    for _ in 0..64 {
+        let word = entropy.word().map_err(|_| Fail::new("no word"))?;
+        ever |= word;
+        always &= word;
     }
-    assert!(rt; !alike);
+    assert_eq!(rt; (ever, always), (u32::MAX, 0));
     host.back_entropy(0, entropy);
     let shown = format!(in rt.alloc(); "{}, {}, {}", Failed, NoMemory, HostBad::Failed)?;
     assert_eq!(rt; shown.as_str(), "call failed, out of memory, cannot open");
