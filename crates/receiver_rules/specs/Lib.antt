@@ -6,5 +6,3 @@ pub mod Rows
 pub mod Sent
 pub mod Seen
 pub mod Bounds
-pub mod Plain
-pub mod PlainRun

@@ -100,18 +100,52 @@ is_duplicate accepted p = list_any (λ k. k.number == p.number) accepted
 abbrev pub is_beyond_capacity : Limits → List Packet → Moment → Packet → Bool
 is_beyond_capacity limits accepted moment p = list_any (λ k. is_buffered accepted moment k && nat_le limits.capacity (distance k.number p.number)) accepted
 
--- the verdict on an arrival at an effective time: the first test that fits decides
+-- which tests fit an arrival, in the order in which they are made
+pub record Tests : Type 0 where
+  -- it is of another flow
+  pub stranger : Bool
+  -- its number is at the end of all numbers or above it
+  pub exhausted : Bool
+  -- its deadline has passed
+  pub late : Bool
+  -- a packet of the same or a higher number was played out
+  pub behind : Bool
+  -- its deadline lies beyond the arrival window
+  pub early : Bool
+  -- a kept packet has its number
+  pub twice : Bool
+  -- a buffered number lies the capacity or more away
+  pub span : Bool
+
+-- the first test that fits decides
+abbrev pub first_verdict : Tests → Verdict
+first_verdict tests =
+    if tests.stranger then Stranger
+    else if tests.exhausted then Exhausted
+    else if tests.late then Late
+    else if tests.behind then Behind
+    else if tests.early then Early
+    else if tests.twice then Twice
+    else if tests.span then Span
+    else Kept
+
+-- the tests on a packet of a flow at an effective time, by the packets that were kept before it
+abbrev pub tests_of : Limits → Anchor → List Packet → ℕ → ℕ → Packet → Tests
+tests_of limits anchor accepted t flow p =
+    record {
+      stranger = not (flow == anchor.flow);
+      exhausted = nat_le (2 ^ 62) p.number;
+      late = int_le p.deadline (pos t);
+      behind = is_behind_playout accepted (At t) p;
+      early = int_lt (pos (t + 2 * limits.playout_delay)) p.deadline;
+      twice = is_duplicate accepted p;
+      span = is_beyond_capacity limits accepted (At t) p;
+    }
+
+-- the verdict on an arrival at an effective time
 abbrev pub verdict_of : Limits → Anchor → List Packet → ℕ → Arrival → Verdict
 verdict_of limits anchor accepted t arrival =
-    let p = placed_packet limits anchor (highest_of accepted) arrival in
-    if not (arrival.flow == anchor.flow) then Stranger
-    else if nat_le (2 ^ 62) p.number then Exhausted
-    else if int_le p.deadline (pos t) then Late
-    else if is_behind_playout accepted (At t) p then Behind
-    else if int_lt (pos (t + 2 * limits.playout_delay)) p.deadline then Early
-    else if is_duplicate accepted p then Twice
-    else if is_beyond_capacity limits accepted (At t) p then Span
-    else Kept
+    first_verdict (tests_of limits anchor accepted t arrival.flow (placed_packet limits anchor (highest_of accepted) arrival))
 
 -- the verdict by which a packet is kept
 abbrev pub is_kept : Verdict → Bool

@@ -1,6 +1,6 @@
 //! The receiver's rules, as definitions over the list of all steps: numbers and deadlines, which packets are
 //! kept, the verdict on each arrival, and what is released. Beside them the small functions that every body of
-//! the rules needs, and plain, slow programs that answer what the definitions say.
+//! the rules needs.
 #![tactic(auto)]
 
 mod anchor;
@@ -8,9 +8,6 @@ mod arrival;
 pub mod laws;
 mod limits;
 pub mod place;
-pub mod plain;
-#[cfg(test)]
-mod tests;
 mod tick;
 mod verdict;
 

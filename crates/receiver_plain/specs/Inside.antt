@@ -1,0 +1,3 @@
+-- What only the bodies of the plain programs need.
+pub mod Kept
+pub mod Run

@@ -1,0 +1,21 @@
+-- What a plain program keeps, as packets.
+use Rattle.std.specs.Prelude.{ℕ, ℤ, pos, List, [], map}
+use Rattle.receiver_plain.specs.declared.kept.Kept.{Kept as KeptOne}
+use Rattle.receiver_rules.specs.Packets.{Packet}
+use Rattle.receiver_rules.specs.Seen.{packet_at}
+
+-- a packet that a program keeps, with its place
+abbrev pub kept_packet : KeptOne → Packet
+kept_packet kept = packet_at kept.place kept.payload.now
+
+-- the packets that a program keeps, in their order
+abbrev pub kept_packets : List KeptOne → List Packet
+kept_packets kept = map kept_packet kept
+
+-- a packet of which only the number is read
+abbrev pub at_number : ℕ → Packet
+at_number n = record { number = n; timestamp = 0; deadline = pos 0; payload = [] }
+
+-- a packet of which only the number and the deadline are read
+abbrev pub at_deadline : ℕ → ℤ → Packet
+at_deadline n deadline = record { number = n; timestamp = 0; deadline = deadline; payload = [] }

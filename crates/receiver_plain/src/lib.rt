@@ -1,0 +1,13 @@
+//! Plain, slow programs that answer what the receiver's rules say: they keep every packet, and make each test over all
+//! of them. Tests compare the programs that run with them.
+#![tactic(auto)]
+
+mod kept;
+mod programs;
+mod running;
+mod steps;
+#[cfg(test)]
+mod tests;
+
+pub use programs::{released, verdicts};
+pub use steps::{Event, Step};

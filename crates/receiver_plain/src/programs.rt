@@ -1,0 +1,41 @@
+//! The two questions that the rules answer of a list of steps.
+ghost use Rattle.std.specs.Prelude.{◌≡◌, map, IfOk};
+ghost use Rattle.std.specs.List.{All};
+ghost use Rattle.receiver_rules.specs.History.{released_payloads, verdicts_of};
+ghost use Rattle.receiver_rules.specs.Bounds.{AreInRange};
+ghost use Rattle.receiver_plain.specs.Told.{history_of, IsFit, payload_of};
+
+use crate::kept::payloads_out;
+use crate::running::run_of;
+use crate::steps::Step;
+use receiver_rules::{Limits, Verdict};
+use std::alloc::{AllocError, Global};
+
+/// The verdict on each arrival of a list of steps, in order.
+pub fn verdicts(
+    alloc: Global,
+    limits: &Limits,
+    steps: &[Step<'_>],
+) -> Result<Vec<Verdict>, AllocError>
+    requires limits { AreInRange limits.now }
+    requires steps { All IsFit steps.now }
+    ensures { IfOk result (λ verdicts. verdicts.items ≡ verdicts_of limits.now (history_of steps.now)) }
+{
+    let run = run_of(alloc, limits, steps)?;
+    Ok(run.verdicts)
+}
+
+/// The payloads that are out after a list of steps, in the order of their release.
+pub fn released<'a>(
+    alloc: Global,
+    limits: &Limits,
+    steps: &[Step<'a>],
+) -> Result<Vec<&'a [u8]>, AllocError>
+    requires limits { AreInRange limits.now }
+    requires steps { All IsFit steps.now }
+    ensures { IfOk result (λ payloads. map payload_of payloads.items ≡ released_payloads limits.now (history_of steps.now)) }
+{
+    let run = run_of(alloc, limits, steps)?;
+    let until = if run.has_ended { None } else { Some(run.time) };
+    payloads_out(alloc, run.kept.as_slice(), run.ordered.as_slice(), until)
+}

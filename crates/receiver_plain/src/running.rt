@@ -1,0 +1,134 @@
+//! What a plain program knows after some steps.
+ghost use Rattle.std.specs.Prelude.{◌≡◌, ◌<◌, ◌^◌, ◌∷◌, List, if◌then◌else◌, IfOk, OnOk, unwrap_or};
+ghost use Rattle.std.specs.List.{All};
+ghost use Rattle.std.specs.Option.{ForSome};
+ghost use Rattle.seq_unwrap.specs.Nearest.{cycle_of};
+ghost use Rattle.receiver_rules.specs.Steps.{Step as RuleStep};
+ghost use Rattle.receiver_rules.specs.Packets.{highest_of, is_kept, insert_by_number};
+ghost use Rattle.receiver_rules.specs.History.{new_anchor as anchor_fixed};
+ghost use Rattle.receiver_rules.specs.Seen.{seen, packet_at};
+ghost use Rattle.receiver_rules.specs.Bounds.{AreInRange, IsEarlyAnchor};
+ghost use Rattle.receiver_plain.specs.Told.{step_of, history_of, IsFit};
+ghost use Rattle.receiver_plain.specs.Inside.Kept.{kept_packets};
+ghost use Rattle.receiver_plain.specs.Inside.Run.{IsSmallRun, RunShows, SameButKept, IsBrought, IsKeptAfter};
+
+use crate::kept::{Kept, insert_in_order, judge_arrival};
+use crate::steps::{Event, Step};
+use receiver_rules::place::{Place, highest_after, new_anchor, place_of};
+use receiver_rules::{Anchor, Arrival, Highest, Limits, Verdict};
+use std::alloc::{AllocError, Global};
+
+/// What a plain program knows after some steps: all that was kept, the newest first and by rising number.
+#[derive(Drop)]
+pub struct Run<'a> {
+    pub time: u64,
+    pub has_ended: bool,
+    pub anchor: Option<Anchor>,
+    pub highest: Option<Highest>,
+    pub kept: Vec<Kept<'a>>,
+    pub ordered: Vec<Kept<'a>>,
+    pub verdicts: Vec<Verdict>,
+}
+
+pub fn run_of<'a>(alloc: Global, limits: &Limits, steps: &[Step<'a>]) -> Result<Run<'a>, AllocError>
+    requires limits { AreInRange limits.now }
+    requires steps { All IsFit steps.now }
+    ensures small { IfOk result IsSmallRun }
+    ensures shows { IfOk result (λ run. RunShows limits.now run (history_of steps.now)) }
+{
+    let mut run = Run {
+        time: 0,
+        has_ended: false,
+        anchor: None,
+        highest: None,
+        kept: Vec::new(alloc),
+        ordered: Vec::new(alloc),
+        verdicts: Vec::new(alloc),
+    };
+    for step in steps {
+        take(&mut run, limits, step)?;
+    }
+    Ok(run)
+}
+
+fn take<'a>(run: &mut Run<'a>, limits: &Limits, step: &Step<'a>) -> Result<(), AllocError>
+    requires limits { AreInRange limits.now }
+    requires step { IsFit step.now }
+    requires small { IsSmallRun run.old }
+    ensures small { OnOk result (IsSmallRun run.new) }
+    ensures shows { OnOk result ((history : List RuleStep) → RunShows limits.now run.old history → RunShows limits.now run.new (step_of step.now ∷ history)) }
+{
+    run.time = run.time.max(step.tick);
+    match &step.event {
+        Event::Media(arrival) => bring(run, limits, arrival),
+        Event::TimeOnly => Ok(()),
+        Event::End => {
+            run.has_ended = true;
+            Ok(())
+        }
+    }
+}
+
+fn bring<'a>(run: &mut Run<'a>, limits: &Limits, arrival: &Arrival<'a>) -> Result<(), AllocError>
+    requires limits { AreInRange limits.now }
+    requires word { arrival.now.word < cycle_of arrival.now.width }
+    requires small { IsSmallRun run.old }
+    ensures small { OnOk result (IsSmallRun run.new) }
+    ensures after { OnOk result (IsBrought limits.now (seen arrival.now) run.old run.new) }
+{
+    let anchor = first_of(run.anchor, run.time, arrival);
+    let place = place_of(limits, &anchor, run.highest, arrival);
+    let verdict = judge_arrival(
+        limits,
+        &anchor,
+        run.kept.as_slice(),
+        run.time,
+        arrival,
+        &place,
+    );
+    run.anchor = Some(anchor);
+    run.verdicts.push(verdict)?;
+    settle(run, verdict, place, arrival.payload)
+}
+
+fn first_of(first: Option<Anchor>, time: u64, arrival: &Arrival<'_>) -> Anchor
+    requires time { time < 2 ^ 61 }
+    requires early { ForSome first (IsEarlyAnchor time) }
+    ensures value { result ≡ unwrap_or first (anchor_fixed time (seen arrival.now)) }
+    ensures early { IsEarlyAnchor time result }
+{
+    match first {
+        Some(anchor) => anchor,
+        None => new_anchor(time, arrival),
+    }
+}
+
+/// Keeps a packet where its verdict says so.
+fn settle<'a>(
+    run: &mut Run<'a>,
+    verdict: Verdict,
+    place: Place,
+    payload: &'a [u8],
+) -> Result<(), AllocError>
+    requires known { run.old.highest ≡ highest_of (kept_packets run.old.kept.items) }
+    ensures same { OnOk result (SameButKept run.old run.new) }
+    ensures kept { OnOk result (kept_packets run.new.kept.items ≡ (if is_kept verdict then packet_at place payload.now ∷ kept_packets run.old.kept.items else kept_packets run.old.kept.items)) }
+    ensures ordered { OnOk result (kept_packets run.new.ordered.items ≡ (if is_kept verdict then insert_by_number (packet_at place payload.now) (kept_packets run.old.ordered.items) else kept_packets run.old.ordered.items)) }
+    ensures known { OnOk result (run.new.highest ≡ highest_of (kept_packets run.new.kept.items)) }
+{
+    if verdict.is_kept() {
+        keep(run, place, payload)?;
+    }
+    Ok(())
+}
+
+/// Puts a packet before those that were kept, and at its place among those in order.
+fn keep<'a>(run: &mut Run<'a>, place: Place, payload: &'a [u8]) -> Result<(), AllocError>
+    ensures { OnOk result (IsKeptAfter (packet_at place payload.now) run.old run.new) }
+{
+    let packet = Kept { place, payload };
+    run.kept.insert(0, packet)?;
+    insert_in_order(&mut run.ordered, &packet)?;
+    run.highest = Some(highest_after(run.highest, place.number, place.timestamp));
+    Ok(())
+}
