@@ -1,12 +1,38 @@
 -- The worked runs, computed from the definitions.
-use Rattle.std.specs.Prelude.{◌≡◌, ◌*◌, ◌-◌, List, [], ◌∷◌}
+use Rattle.std.specs.Prelude.{◌≡◌, ℕ, ◌*◌, ◌-◌, List, [], ◌∷◌, reverse}
 use Rattle.seq_unwrap.specs.declared.width.Width.TheVariants.{W16}
 use Rattle.receiver_rules.specs.Sent.{CopyOf, reached_numbers}
 use Rattle.std.proofs.Common.{refl}
 use Rattle.receiver_rules.specs.declared.verdict.Verdict.TheVariants.{Kept, Stranger, Late, Behind, Early, Twice, Span}
-use Rattle.receiver_rules.specs.Steps.{Step, time_step, end_step}
+use Rattle.receiver_rules.specs.declared.verdict.Verdict.{Verdict}
+use Rattle.receiver_rules.specs.declared.limits.Limits.{Limits}
+use Rattle.receiver_rules.specs.Steps.{Media, Step, time_step, end_step}
+use Rattle.receiver_rules.specs.History.{verdicts_of, released_bytes}
 use Rattle.seq_unwrap.specs.Nearest.{nearest}
-use Rattle.receiver_rules.specs.Rows.{usual, brings, stranger, verdicts, written}
+
+-- ---- how a run is written: in the order in which it happened
+
+-- a delay of one second, and a span of 8
+abbrev usual : Limits
+usual = record { playout_delay = 90000; capacity = 8 }
+
+-- an arrival of flow 1, with one octet
+abbrev brings : ℕ → ℕ → ℕ → ℕ → Step
+brings tick word timestamp octet = record { tick = tick; event = Media (record { flow = 1; width = W16; word = word; timestamp = timestamp; payload = octet ∷ [] }) }
+
+-- an arrival of flow 2
+abbrev stranger : ℕ → Step
+stranger tick = record { tick = tick; event = Media (record { flow = 2; width = W16; word = 11; timestamp = 900; payload = 66 ∷ [] }) }
+
+-- the verdicts of a run
+abbrev verdicts : List Step → List Verdict
+verdicts run = verdicts_of usual (reverse run)
+
+-- what a run releases
+abbrev written : List Step → List ℕ
+written run = released_bytes usual (reverse run)
+
+-- ---- the runs
 
 -- an arrival one tick before its deadline is kept, and the packet before it has gone out by then
 abbrev just_in_time : List Step

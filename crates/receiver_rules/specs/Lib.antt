@@ -2,7 +2,6 @@ pub mod Steps
 pub mod ReceiverSteps
 pub mod Packets
 pub mod History
-pub mod Rows
 pub mod Sent
 pub mod Seen
 pub mod Bounds

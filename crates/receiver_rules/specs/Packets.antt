@@ -31,8 +31,8 @@ highest_of (p ∷ ps) = Some (higher p (highest_of ps))
 
 -- the first packet's number is 2^40 and its word; each other's is the one nearest to the highest kept number
 abbrev pub number_of : Option Highest → Arrival → ℕ
-number_of None arrival = 2 ^ 40 + arrival.sequence_number
-number_of (Some highest) arrival = nearest (cycle_of arrival.width) highest.number arrival.sequence_number
+number_of None arrival = 2 ^ 40 + arrival.word
+number_of (Some highest) arrival = nearest (cycle_of arrival.width) highest.number arrival.word
 
 -- the timestamp likewise, beside that of the highest kept packet
 abbrev pub timestamp_of : Option Highest → Arrival → ℕ

@@ -8,7 +8,7 @@ use Rattle.receiver_rules.specs.declared.place.Place.{Place}
 
 -- an arrival as the rules see it
 abbrev pub seen : Offered → Arrival
-seen arrival = record { flow = arrival.flow; width = arrival.width; sequence_number = arrival.word; timestamp = arrival.stamp; payload = arrival.payload.now }
+seen arrival = record { flow = arrival.flow; width = arrival.width; word = arrival.word; timestamp = arrival.stamp; payload = arrival.payload.now }
 
 -- a tick, or the end of all
 abbrev pub moment_of : Option ℕ → Moment

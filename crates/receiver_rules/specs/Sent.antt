@@ -24,7 +24,7 @@ HasSteadyTimestamps p = (m n : ℕ) → m ≤ n → p.timestamp m ≤ p.timestam
 -- a copy of a number, as it is seen at the other end
 abbrev pub copy_of : SentStream → ℕ → Arrival
 copy_of p n =
-    record { flow = p.flow; width = p.width; sequence_number = n % cycle_of p.width; timestamp = p.timestamp n % 4294967296; payload = p.payload n }
+    record { flow = p.flow; width = p.width; word = n % cycle_of p.width; timestamp = p.timestamp n % 4294967296; payload = p.payload n }
 
 -- what a step brings: a copy of this number, or no copy
 pub data Content : Type 0 where

@@ -8,7 +8,7 @@ use Rattle.std.specs.Prelude.{ℕ, ◌*◌, ◌/◌, max, List, [], ◌∷◌, B
 pub record Arrival : Type 0 where
   pub flow : ℕ
   pub width : Width
-  pub sequence_number : ℕ
+  pub word : ℕ
   pub timestamp : ℕ
   pub payload : List ℕ
 
