@@ -30,6 +30,34 @@ pub record TakesBack {N X : Type 0} (old new : N → Place X) (name : N) (object
 abbrev pub IsAway : {X : Type 0} → Place X → Type 0
 IsAway {X} place = (object : X) → place ≢ Here object
 
+-- the source of this name is out, and all other sources stand as they stood
+abbrev pub HandsOutSource : {I O E : Type 0} → Shelf I O E → Shelf I O E → List ℕ → I → Type 0
+HandsOutSource old new name object = HandsOut old.sources new.sources name object
+
+-- likewise a sink
+abbrev pub HandsOutSink : {I O E : Type 0} → Shelf I O E → Shelf I O E → List ℕ → O → Type 0
+HandsOutSink old new name object = HandsOut old.sinks new.sinks name object
+
+-- the next source of random words is out, and all others stand as they stood
+abbrev pub HandsOutNext : {I O E : Type 0} → Shelf I O E → Shelf I O E → E → Type 0
+HandsOutNext old new object = HandsOut old.entropies new.entropies old.next_entropy object
+
+-- all but the sources stands as it stood
+abbrev pub ChangesSources : {I O E : Type 0} → Shelf I O E → Shelf I O E → Type 0
+ChangesSources old new = new ≡ record old { sources = new.sources }
+
+-- all but the sinks
+abbrev pub ChangesSinks : {I O E : Type 0} → Shelf I O E → Shelf I O E → Type 0
+ChangesSinks old new = new ≡ record old { sinks = new.sinks }
+
+-- all but the sources of random words
+abbrev pub ChangesEntropies : {I O E : Type 0} → Shelf I O E → Shelf I O E → Type 0
+ChangesEntropies old new = new ≡ record old { entropies = new.entropies }
+
+-- all but the sources of random words, and which of them comes next
+abbrev pub ChangesDrawing : {I O E : Type 0} → Shelf I O E → Shelf I O E → Type 0
+ChangesDrawing old new = new ≡ record old { entropies = new.entropies; next_entropy = new.next_entropy }
+
 -- all stands as it stood
 abbrev pub Stays : {N X : Type 0} → (N → Place X) → (N → Place X) → Type 0
 Stays {N} old new = (n : N) → new n ≡ old n

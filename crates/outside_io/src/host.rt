@@ -1,7 +1,7 @@
 // What hands out sources and sinks by name, and random words by place, and takes them back.
 ghost use Rattle.std.specs.Prelude.{◌≡◌, ◌<◌, ◌+◌, ℕ, Bool, IsTrue, IfOk, OnOk, OnErr};
 ghost use Rattle.outside_io.specs.Told.{IsEmpty};
-ghost use Rattle.outside_io.specs.Shelf.{Shelf, Stays, HandsOut, TakesBack, HasHostCause};
+ghost use Rattle.outside_io.specs.Shelf.{Shelf, Stays, HandsOutSource, HandsOutSink, HandsOutNext, ChangesSources, ChangesSinks, ChangesEntropies, ChangesDrawing, TakesBack, HasHostCause};
 
 use crate::{Entropy, Sink, Source};
 use std::fmt::{self, Display, Formatter, Write};
@@ -64,44 +64,44 @@ pub trait Host {
 
     /// Hands out the source of this name.
     fn source(&mut self, name: &str) -> Result<Self::Input, HostBad>
-        ensures ok { IsTrue tells → IfOk result (λ object. HandsOut (shelf self.old).sources (shelf self.new).sources name.now object) }
+        ensures ok { IsTrue tells → IfOk result (λ object. HandsOutSource (shelf self.old) (shelf self.new) name.now object) }
         ensures err { IsTrue tells → OnErr result (Stays (shelf self.old).sources (shelf self.new).sources) }
-        ensures same { IsTrue tells → shelf self.new ≡ record (shelf self.old) { sources = (shelf self.new).sources } }
+        ensures same { IsTrue tells → ChangesSources (shelf self.old) (shelf self.new) }
         ensures cause { HasHostCause (faults self.old) (faults self.new) result };
 
     /// Hands out the sink of this name. Where it tells, it is empty.
     fn sink(&mut self, name: &str) -> Result<Self::Output, HostBad>
-        ensures ok { IsTrue tells → IfOk result (λ object. HandsOut (shelf self.old).sinks (shelf self.new).sinks name.now object) }
+        ensures ok { IsTrue tells → IfOk result (λ object. HandsOutSink (shelf self.old) (shelf self.new) name.now object) }
         ensures fresh { IfOk result (λ object. IsEmpty (Self.Output.contents object)) }
         ensures err { IsTrue tells → OnErr result (Stays (shelf self.old).sinks (shelf self.new).sinks) }
-        ensures same { IsTrue tells → shelf self.new ≡ record (shelf self.old) { sinks = (shelf self.new).sinks } }
+        ensures same { IsTrue tells → ChangesSinks (shelf self.old) (shelf self.new) }
         ensures cause { HasHostCause (faults self.old) (faults self.new) result };
 
     /// Hands out the next source of random words: the first one asked for stands at place 0. At most 256 are handed out.
     fn entropy(&mut self) -> Result<Self::Random, HostBad>
-        ensures ok { IsTrue tells → IfOk result (λ object. HandsOut (shelf self.old).entropies (shelf self.new).entropies (shelf self.old).next_entropy object) }
+        ensures ok { IsTrue tells → IfOk result (λ object. HandsOutNext (shelf self.old) (shelf self.new) object) }
         ensures next { IsTrue tells → OnOk result ((shelf self.new).next_entropy ≡ (shelf self.old).next_entropy + 1) }
         ensures within { IsTrue tells → OnOk result ((shelf self.old).next_entropy < 256) }
         ensures err { IsTrue tells → OnErr result (Stays (shelf self.old).entropies (shelf self.new).entropies) }
         ensures err_next { IsTrue tells → OnErr result ((shelf self.new).next_entropy ≡ (shelf self.old).next_entropy) }
-        ensures same { IsTrue tells → shelf self.new ≡ record (shelf self.old) { entropies = (shelf self.new).entropies; next_entropy = (shelf self.new).next_entropy } }
+        ensures same { IsTrue tells → ChangesDrawing (shelf self.old) (shelf self.new) }
         ensures cause { HasHostCause (faults self.old) (faults self.new) result };
 
     /// Takes back the source of this name. Under a name that isn't out it lets the source go.
     fn back_source(&mut self, name: &str, object: Self::Input)
         ensures state { IsTrue tells → TakesBack (shelf self.old).sources (shelf self.new).sources name.now object }
-        ensures same { IsTrue tells → shelf self.new ≡ record (shelf self.old) { sources = (shelf self.new).sources } }
+        ensures same { IsTrue tells → ChangesSources (shelf self.old) (shelf self.new) }
         ensures cause { faults self.new ≡ faults self.old };
 
     /// Takes back the sink of this name. Under a name that isn't out it lets the sink go.
     fn back_sink(&mut self, name: &str, object: Self::Output)
         ensures state { IsTrue tells → TakesBack (shelf self.old).sinks (shelf self.new).sinks name.now object }
-        ensures same { IsTrue tells → shelf self.new ≡ record (shelf self.old) { sinks = (shelf self.new).sinks } }
+        ensures same { IsTrue tells → ChangesSinks (shelf self.old) (shelf self.new) }
         ensures cause { faults self.new ≡ faults self.old };
 
     /// Takes back the source of random words of this place. At a place that isn't out it lets the source go.
     fn back_entropy(&mut self, place: u8, object: Self::Random)
         ensures state { IsTrue tells → TakesBack (shelf self.old).entropies (shelf self.new).entropies place object }
-        ensures same { IsTrue tells → shelf self.new ≡ record (shelf self.old) { entropies = (shelf self.new).entropies } }
+        ensures same { IsTrue tells → ChangesEntropies (shelf self.old) (shelf self.new) }
         ensures cause { faults self.new ≡ faults self.old };
 }

@@ -2,11 +2,11 @@
 ghost use Rattle.std.specs.Prelude.{◌≡◌, ◌<◌, ◌+◌, ◌⊎◌, true, Some, IfSome, IfNone, IfOk, IfErr, IsTrue, OnOk, OnErr};
 ghost use Rattle.outside_io.specs.Calls.{no_calls, FailsNext, CountsCall};
 ghost use Rattle.outside_io.specs.Told.{IsEmpty};
-ghost use Rattle.outside_io.specs.Shelf.{Stays, HandsOut, TakesBack, IsAway, HasHostCause};
+ghost use Rattle.outside_io.specs.Shelf.{Stays, HandsOutSource, HandsOutSink, HandsOutNext, ChangesSources, ChangesSinks, ChangesEntropies, ChangesDrawing, TakesBack, IsAway, HasHostCause};
 ghost use Rattle.outside_io.specs.declared.host.HostBad.TheVariants.{Failed};
 ghost use Rattle.outside_io.specs.ByPlace.{object_at};
 ghost use Rattle.outside_io.specs.Slots.{place_of};
-ghost use Rattle.outside_io.specs.MemHost.{mem_shelf, mem_calls, HasNoEmptySink};
+ghost use Rattle.outside_io.specs.MemHost.{mem_shelf, mem_calls, IsRefused, HasNoEmptySink, HasNoNextEntropy};
 ghost use Rattle.outside_io.specs.declared.host.Place.TheVariants.{Back};
 
 use crate::by_place::{put_place, returned_place, take_place};
@@ -95,12 +95,12 @@ impl Host for MemHost {
     ghost faults = { λ host. host.calls.faults };
 
     fn source(&mut self, name: &str) -> Result<MemSource, HostBad>
-        ensures ok { IsTrue true → IfOk result (λ object. HandsOut (mem_shelf self.old).sources (mem_shelf self.new).sources name.now object) }
+        ensures ok { IsTrue true → IfOk result (λ object. HandsOutSource (mem_shelf self.old) (mem_shelf self.new) name.now object) }
         ensures err { IsTrue true → OnErr result (Stays (mem_shelf self.old).sources (mem_shelf self.new).sources) }
-        ensures same { IsTrue true → mem_shelf self.new ≡ record (mem_shelf self.old) { sources = (mem_shelf self.new).sources } }
+        ensures same { IsTrue true → ChangesSources (mem_shelf self.old) (mem_shelf self.new) }
         ensures cause { HasHostCause (mem_calls self.old).faults (mem_calls self.new).faults result }
         // It fails exactly where the call is to fail or nothing stands under the name to be handed out.
-        ensures refused { IfErr result (λ bad. (bad ≡ Failed) × (FailsNext (mem_calls self.old) ⊎ IsAway ((mem_shelf self.old).sources name.now))) }
+        ensures refused { IfErr result (λ bad. IsRefused bad (mem_calls self.old) (IsAway ((mem_shelf self.old).sources name.now))) }
         ensures complete { OnOk result (FailsNext (mem_calls self.old) → ⊥) }
         ensures calls { CountsCall (mem_calls self.old) (mem_calls self.new) result }
     {
@@ -118,13 +118,13 @@ impl Host for MemHost {
     }
 
     fn sink(&mut self, name: &str) -> Result<Store8, HostBad>
-        ensures ok { IsTrue true → IfOk result (λ object. HandsOut (mem_shelf self.old).sinks (mem_shelf self.new).sinks name.now object) }
+        ensures ok { IsTrue true → IfOk result (λ object. HandsOutSink (mem_shelf self.old) (mem_shelf self.new) name.now object) }
         ensures fresh { IfOk result (λ object. IsEmpty (Some object.contents)) }
         ensures err { IsTrue true → OnErr result (Stays (mem_shelf self.old).sinks (mem_shelf self.new).sinks) }
-        ensures same { IsTrue true → mem_shelf self.new ≡ record (mem_shelf self.old) { sinks = (mem_shelf self.new).sinks } }
+        ensures same { IsTrue true → ChangesSinks (mem_shelf self.old) (mem_shelf self.new) }
         ensures cause { HasHostCause (mem_calls self.old).faults (mem_calls self.new).faults result }
         // It fails exactly where the call is to fail or no empty sink stands under the name to be handed out.
-        ensures refused { IfErr result (λ bad. (bad ≡ Failed) × (FailsNext (mem_calls self.old) ⊎ HasNoEmptySink ((mem_shelf self.old).sinks name.now))) }
+        ensures refused { IfErr result (λ bad. IsRefused bad (mem_calls self.old) (HasNoEmptySink ((mem_shelf self.old).sinks name.now))) }
         ensures complete { OnOk result (FailsNext (mem_calls self.old) → ⊥) }
         ensures calls { CountsCall (mem_calls self.old) (mem_calls self.new) result }
     {
@@ -142,15 +142,15 @@ impl Host for MemHost {
     }
 
     fn entropy(&mut self) -> Result<Words, HostBad>
-        ensures ok { IsTrue true → IfOk result (λ object. HandsOut (mem_shelf self.old).entropies (mem_shelf self.new).entropies (mem_shelf self.old).next_entropy object) }
+        ensures ok { IsTrue true → IfOk result (λ object. HandsOutNext (mem_shelf self.old) (mem_shelf self.new) object) }
         ensures next { IsTrue true → OnOk result ((mem_shelf self.new).next_entropy ≡ (mem_shelf self.old).next_entropy + 1) }
         ensures within { IsTrue true → OnOk result ((mem_shelf self.old).next_entropy < 256) }
         ensures err { IsTrue true → OnErr result (Stays (mem_shelf self.old).entropies (mem_shelf self.new).entropies) }
         ensures err_next { IsTrue true → OnErr result ((mem_shelf self.new).next_entropy ≡ (mem_shelf self.old).next_entropy) }
-        ensures same { IsTrue true → mem_shelf self.new ≡ record (mem_shelf self.old) { entropies = (mem_shelf self.new).entropies; next_entropy = (mem_shelf self.new).next_entropy } }
+        ensures same { IsTrue true → ChangesDrawing (mem_shelf self.old) (mem_shelf self.new) }
         ensures cause { HasHostCause (mem_calls self.old).faults (mem_calls self.new).faults result }
         // It fails exactly where the call is to fail or 256 were handed out, or nothing stands at the place.
-        ensures refused { IfErr result (λ bad. (bad ≡ Failed) × (FailsNext (mem_calls self.old) ⊎ (255 < (mem_shelf self.old).next_entropy) ⊎ IsAway ((mem_shelf self.old).entropies (mem_shelf self.old).next_entropy))) }
+        ensures refused { IfErr result (λ bad. IsRefused bad (mem_calls self.old) (HasNoNextEntropy (mem_shelf self.old))) }
         ensures complete { OnOk result (FailsNext (mem_calls self.old) → ⊥) }
         ensures calls { CountsCall (mem_calls self.old) (mem_calls self.new) result }
     {
@@ -172,7 +172,7 @@ impl Host for MemHost {
 
     fn back_source(&mut self, name: &str, object: MemSource)
         ensures state { IsTrue true → TakesBack (mem_shelf self.old).sources (mem_shelf self.new).sources name.now object }
-        ensures same { IsTrue true → mem_shelf self.new ≡ record (mem_shelf self.old) { sources = (mem_shelf self.new).sources } }
+        ensures same { IsTrue true → ChangesSources (mem_shelf self.old) (mem_shelf self.new) }
         ensures cause { (mem_calls self.new).faults ≡ (mem_calls self.old).faults }
         // It counts as no call.
         ensures calls { mem_calls self.new ≡ mem_calls self.old }
@@ -182,7 +182,7 @@ impl Host for MemHost {
 
     fn back_sink(&mut self, name: &str, object: Store8)
         ensures state { IsTrue true → TakesBack (mem_shelf self.old).sinks (mem_shelf self.new).sinks name.now object }
-        ensures same { IsTrue true → mem_shelf self.new ≡ record (mem_shelf self.old) { sinks = (mem_shelf self.new).sinks } }
+        ensures same { IsTrue true → ChangesSinks (mem_shelf self.old) (mem_shelf self.new) }
         ensures cause { (mem_calls self.new).faults ≡ (mem_calls self.old).faults }
         // It counts as no call.
         ensures calls { mem_calls self.new ≡ mem_calls self.old }
@@ -192,7 +192,7 @@ impl Host for MemHost {
 
     fn back_entropy(&mut self, place: u8, object: Words)
         ensures state { IsTrue true → TakesBack (mem_shelf self.old).entropies (mem_shelf self.new).entropies place object }
-        ensures same { IsTrue true → mem_shelf self.new ≡ record (mem_shelf self.old) { entropies = (mem_shelf self.new).entropies } }
+        ensures same { IsTrue true → ChangesEntropies (mem_shelf self.old) (mem_shelf self.new) }
         ensures cause { (mem_calls self.new).faults ≡ (mem_calls self.old).faults }
         // It counts as no call.
         ensures calls { mem_calls self.new ≡ mem_calls self.old }
