@@ -1,6 +1,10 @@
 //! The program: words and the real host in, a status out. Its text goes to the error output.
 #![tactic(auto)]
 
+ghost use Rattle.std.specs.Prelude.{◌≡◌};
+ghost use Rattle.std.specs.Process.{exit_status};
+ghost use Rattle.rist_top.specs.ExitCodes.{exit_code_of};
+
 use outside_io::RealHost;
 use rist_top::{Status, USAGE, run};
 use std::env;
@@ -20,6 +24,7 @@ fn words_of(rt: &HostRuntime) -> Result<Vec<String>, Status> {
     Ok(words)
 }
 
+/// How the words of the command line end with the real host.
 fn status_of(rt: &HostRuntime) -> Status {
     match words_of(rt) {
         Ok(words) => run(rt.alloc(), &words, &mut RealHost::new(rt)),
@@ -27,8 +32,10 @@ fn status_of(rt: &HostRuntime) -> Status {
     }
 }
 
-fn main(rt: HostRuntime) -> ExitCode {
-    let status = status_of(&rt);
+/// Says on the error output how the program ended, and gives its exit status.
+fn ended(rt: &HostRuntime, status: Status) -> ExitCode
+    ensures exit { exit_status result ≡ exit_code_of status }
+{
     if status != Status::Done {
         // A text that can't be written changes no status.
         let _ = eprintln!(rt; "rist: {status}");
@@ -37,4 +44,9 @@ fn main(rt: HostRuntime) -> ExitCode {
         let _ = eprint!(rt; "{USAGE}");
     }
     ExitCode::from(status.exit_code())
+}
+
+fn main(rt: HostRuntime) -> ExitCode {
+    let status = status_of(&rt);
+    ended(&rt, status)
 }
