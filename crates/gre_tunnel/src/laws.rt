@@ -8,17 +8,20 @@ use crate::reading::{DATAGRAM, KEEPALIVE};
 
 /// Octets begin with one header at most, and with one rest behind it.
 pub fn one_header_is_spelled()
-    ensures { (g h : Header) (x y octets : List ℕ) → Spells g x octets → Spells h y octets → (g ≡ h) × (x ≡ y) }
+    ensures { (g h : Header) (x y octets : List ℕ) → Spells g x octets → Spells h y octets
+        → (g ≡ h) × (x ≡ y) }
 {}
 
 /// A header that is spelled is read, whatever follows it.
 pub fn what_is_spelled_is_read()
-    ensures { (header : Header) (rest octets : List ℕ) → Spells header rest octets → reading_of octets ≡ Ok (value_of header) }
+    ensures { (header : Header) (rest octets : List ℕ) → Spells header rest octets
+        → reading_of octets ≡ Ok (value_of header) }
 {}
 
 /// What is read of octets is the value of a header with which they begin.
 pub fn what_is_read_is_spelled()
-    ensures { (octets : List ℕ) (value : Gre) → All (λ octet. octet < 256) octets → reading_of octets ≡ Ok value
+    ensures { (octets : List ℕ) (value : Gre) → All (λ octet. octet < 256) octets
+        → reading_of octets ≡ Ok value
         → (header : Header) × Spells header (drop value.rest octets) octets × (value ≡ value_of header) }
 {}
 

@@ -27,7 +27,8 @@ struct Flags {
 fn flags_of(word: u16) -> Flags
     ensures version { result.version ≡ word % 8 }
     ensures checksum { result.checksum ≡ (bit_at word 15 == 1) }
-    ensures reserved { result.reserved ≡ ((bit_at word 14 == 1) || ((bit_at word 11 == 1) || (bit_at word 10 == 1))) }
+    ensures reserved { result.reserved
+        ≡ ((bit_at word 14 == 1) || ((bit_at word 11 == 1) || (bit_at word 10 == 1))) }
     ensures key { result.key ≡ (bit_at word 13 == 1) }
     ensures sequence { result.sequence ≡ (bit_at word 12 == 1) }
 {
@@ -101,10 +102,12 @@ impl Gre {
         ensures value { result ≡ reading_of octets.now }
 
         // What is read is the value of a header with which the octets begin.
-        ensures found { IfOk result (λ gre. (header : Header) × Spells header (drop gre.rest octets.now) octets.now × (gre ≡ value_of header)) }
+        ensures found { IfOk result (λ gre. (header : Header)
+            × Spells header (drop gre.rest octets.now) octets.now × (gre ≡ value_of header)) }
 
         // A header with which the octets begin is read, whatever follows.
-        ensures only { (header : Header) (rest : List ℕ) → Spells header rest octets.now → result ≡ Ok (value_of header) }
+        ensures only { (header : Header) (rest : List ℕ) → Spells header rest octets.now
+            → result ≡ Ok (value_of header) }
     {
         value_of(octets)
     }

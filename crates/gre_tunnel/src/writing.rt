@@ -44,7 +44,8 @@ pub fn write(
     ensures within { result ≤ 12 }
 
     // What is written is read back as it was given, whatever follows it.
-    ensures read_back { (more : List ℕ) → reading_of (take result out.new ++ more) ≡ Ok (value_of (header_with key sequence protocol)) }
+    ensures read_back { (more : List ℕ)
+        → reading_of (take result out.new ++ more) ≡ Ok (value_of (header_with key sequence protocol)) }
 {
     let flags = KEY * u16::from(key.is_some())
         + SEQUENCE * u16::from(sequence.is_some())

@@ -11,11 +11,13 @@ pub fn one_message_is_spelled()
 
 /// A message that is spelled is read.
 pub fn what_is_spelled_is_read()
-    ensures { (message : Message) (octets : List ℕ) → Spells message octets → reading_of octets ≡ Ok (value_of message) }
+    ensures { (message : Message) (octets : List ℕ) → Spells message octets
+        → reading_of octets ≡ Ok (value_of message) }
 {}
 
 /// What is read of octets is the value of a message that they spell.
 pub fn what_is_read_is_spelled()
-    ensures { (octets : List ℕ) (value : Keepalive) → All (λ octet. octet < 256) octets → reading_of octets ≡ Ok value
+    ensures { (octets : List ℕ) (value : Keepalive) → All (λ octet. octet < 256) octets
+        → reading_of octets ≡ Ok value
         → (message : Message) × Spells message octets × (value ≡ value_of message) }
 {}

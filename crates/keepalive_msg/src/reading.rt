@@ -24,7 +24,8 @@ pub fn read(octets: &[u8]) -> Result<Keepalive, KeepBad>
     ensures value { result ≡ reading_of octets.now }
 
     // What is read is the value of a message that the octets spell.
-    ensures found { IfOk result (λ keepalive. (message : Message) × Spells message octets.now × (keepalive ≡ value_of message)) }
+    ensures found { IfOk result (λ keepalive. (message : Message) × Spells message octets.now
+        × (keepalive ≡ value_of message)) }
 
     // A message that is spelled is read.
     ensures only { (message : Message) → Spells message octets.now → result ≡ Ok (value_of message) }

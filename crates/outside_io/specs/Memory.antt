@@ -1,6 +1,6 @@
 -- What a contract sees of sources, sinks and random words in memory.
-use Rattle.std.specs.Prelude.{ℕ, ◌<◌, ◌≤◌, ◌≡◌, ◌⊎◌, ◌+◌, ◌-◌, min, List, length, get_or}
-use Rattle.outside_io.specs.Calls.{Calls}
+use Rattle.std.specs.Prelude.{ℕ, ◌<◌, ◌≤◌, ◌≡◌, ◌⊎◌, ◌+◌, ◌-◌, min, List, length, drop, get_or}
+use Rattle.outside_io.specs.Calls.{Calls, no_calls, call_done}
 
 -- a source: the octets that remain
 pub record MemorySource : Type 0 where
@@ -13,6 +13,14 @@ pub record CutSource : Type 0 where
   pub given : ℕ
   pub cuts : List ℕ
   pub calls : Calls
+
+-- nothing was read of these octets
+abbrev pub cut_source : List ℕ → List ℕ → List ℕ → CutSource
+cut_source octets cuts failing = record { remaining = octets; given = 0; cuts = cuts; calls = no_calls failing }
+
+-- a source after a read that gave so many octets
+abbrev pub after_read : CutSource → ℕ → CutSource
+after_read s count = record { remaining = drop count s.remaining; given = s.given + count; cuts = s.cuts; calls = call_done s.calls }
 
 -- random words: those that remain
 pub record MemoryWords : Type 0 where

@@ -30,7 +30,8 @@ impl Model for Bytes {
 impl Bytes {
     /// The calls that are to fail are listed by their places, from 0.
     pub fn with(alloc: Global, octets: &[u8], failing: &[u64]) -> Result<Bytes, NoMemory>
-        ensures value { IfOk result (λ source. source ≡ record { remaining = octets.now; calls = no_calls failing.now }) }
+        ensures value { IfOk result (λ source. source
+            ≡ record { remaining = octets.now; calls = no_calls failing.now }) }
     {
         Ok(Bytes {
             octets: Vec::from_slice(alloc, octets)?,
@@ -59,12 +60,14 @@ impl Source for Bytes {
     fn read(&mut self, buf: &mut [u8]) -> Result<usize, Failed>
         ensures within { ReadsAtMost result buf.new }
         ensures ok { IfOk result (λ count. Takes (Some self.old.remaining) (Some self.new.remaining) (take count buf.new)) }
-        ensures end { IfOk result (λ count. count ≡ 0 → 0 < length buf.new → IsEmpty (Some self.new.remaining)) }
+        ensures end { IfOk result (λ count. count ≡ 0 → 0 < length buf.new
+            → IsEmpty (Some self.new.remaining)) }
         ensures err { OnErr result (Some self.new.remaining ≡ Some self.old.remaining) }
         ensures cause { HasCause self.old.calls.faults self.new.calls.faults result }
         // It gives all that fits.
         ensures count { IfOk result (λ count. count ≡ min (length buf.old) (length self.old.remaining)) }
-        ensures state { IfOk result (λ count. self.new ≡ record { remaining = drop count self.old.remaining; calls = call_done self.old.calls }) }
+        ensures state { IfOk result (λ count. self.new
+            ≡ record { remaining = drop count self.old.remaining; calls = call_done self.old.calls }) }
         ensures same { OnErr result (self.new ≡ record self.old { calls = call_failed self.old.calls }) }
         // It fails exactly where the call is to fail.
         ensures refused { OnErr result (FailsNext self.old.calls) }

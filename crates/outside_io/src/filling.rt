@@ -11,7 +11,8 @@ pub fn read_full<S: Source>(source: &mut S, buf: &mut [u8]) -> Result<usize, Fai
     ensures within { IfOk result (λ count. count ≤ length buf.new) }
     ensures ok { IfOk result (λ count. Takes (S.remaining source.old) (S.remaining source.new) (take count buf.new)) }
     ensures end { IfOk result (λ count. count < length buf.new → IsEmpty (S.remaining source.new)) }
-    ensures err { OnErr result ((count : ℕ) × (count < length buf.new) × Takes (S.remaining source.old) (S.remaining source.new) (take count buf.new)) }
+    ensures err { OnErr result ((count : ℕ) × (count < length buf.new)
+        × Takes (S.remaining source.old) (S.remaining source.new) (take count buf.new)) }
     ensures ahead { OnErr result (S.ahead source.new ≡ []) }
     ensures cause { HasCause (S.faults source.old) (S.faults source.new) result }
 {

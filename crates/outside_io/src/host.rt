@@ -80,10 +80,12 @@ pub trait Host {
     /// Hands out the next source of random words: the first one asked for stands at place 0. At most 256 are handed out.
     fn entropy(&mut self) -> Result<Self::Random, HostBad>
         ensures ok { IsTrue tells → IfOk result (λ object. HandsOutNext (shelf self.old) (shelf self.new) object) }
-        ensures next { IsTrue tells → OnOk result ((shelf self.new).next_entropy ≡ (shelf self.old).next_entropy + 1) }
+        ensures next { IsTrue tells → OnOk result ((shelf self.new).next_entropy
+            ≡ (shelf self.old).next_entropy + 1) }
         ensures within { IsTrue tells → OnOk result ((shelf self.old).next_entropy < 256) }
         ensures err { IsTrue tells → OnErr result (Stays (shelf self.old).entropies (shelf self.new).entropies) }
-        ensures err_next { IsTrue tells → OnErr result ((shelf self.new).next_entropy ≡ (shelf self.old).next_entropy) }
+        ensures err_next { IsTrue tells
+            → OnErr result ((shelf self.new).next_entropy ≡ (shelf self.old).next_entropy) }
         ensures same { IsTrue tells → ChangesDrawing (shelf self.old) (shelf self.new) }
         ensures cause { HasHostCause (faults self.old) (faults self.new) result };
 

@@ -59,7 +59,8 @@ impl MemHost {
     /// The source that came back under this name.
     pub fn returned_source(&self, name: &str) -> Option<&MemSource>
         ensures some { IfSome result (λ object. (mem_shelf self.now).sources name.now ≡ Back object.now) }
-        ensures none { IfNone result ((object : _) → (mem_shelf self.now).sources name.now ≡ Back object → ⊥) }
+        ensures none { IfNone result ((object : _) → (mem_shelf self.now).sources name.now ≡ Back object
+            → ⊥) }
     {
         returned(&self.sources, name)
     }
@@ -143,10 +144,12 @@ impl Host for MemHost {
 
     fn entropy(&mut self) -> Result<Words, HostBad>
         ensures ok { IsTrue true → IfOk result (λ object. HandsOutNext (mem_shelf self.old) (mem_shelf self.new) object) }
-        ensures next { IsTrue true → OnOk result ((mem_shelf self.new).next_entropy ≡ (mem_shelf self.old).next_entropy + 1) }
+        ensures next { IsTrue true → OnOk result ((mem_shelf self.new).next_entropy
+            ≡ (mem_shelf self.old).next_entropy + 1) }
         ensures within { IsTrue true → OnOk result ((mem_shelf self.old).next_entropy < 256) }
         ensures err { IsTrue true → OnErr result (Stays (mem_shelf self.old).entropies (mem_shelf self.new).entropies) }
-        ensures err_next { IsTrue true → OnErr result ((mem_shelf self.new).next_entropy ≡ (mem_shelf self.old).next_entropy) }
+        ensures err_next { IsTrue true → OnErr result ((mem_shelf self.new).next_entropy
+            ≡ (mem_shelf self.old).next_entropy) }
         ensures same { IsTrue true → ChangesDrawing (mem_shelf self.old) (mem_shelf self.new) }
         ensures cause { HasHostCause (mem_calls self.old).faults (mem_calls self.new).faults result }
         // It fails exactly where the call is to fail or 256 were handed out, or nothing stands at the place.

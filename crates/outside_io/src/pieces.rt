@@ -1,9 +1,9 @@
 // A source in memory that is cut at stated places.
 ghost use Rattle.std.specs.Prelude.{◌≡◌, ◌≤◌, ◌<◌, ◌+◌, length, drop, take, Some, IfOk, OnOk, OnErr};
 ghost use Rattle.std.specs.Io.{ReadsAtMost};
-ghost use Rattle.outside_io.specs.Calls.{no_calls, FailsNext, call_done, call_failed};
+ghost use Rattle.outside_io.specs.Calls.{FailsNext, call_failed};
 ghost use Rattle.outside_io.specs.Causes.{HasCause};
-ghost use Rattle.outside_io.specs.Memory.{CutSource, IsNextCut, IsEarlier, ReadsToCut};
+ghost use Rattle.outside_io.specs.Memory.{CutSource, cut_source, after_read, IsNextCut, IsEarlier, ReadsToCut};
 ghost use Rattle.outside_io.specs.Told.{Takes, IsEmpty};
 
 use crate::bytes::give;
@@ -37,7 +37,7 @@ impl Pieces {
         cuts: &[usize],
         failing: &[u64],
     ) -> Result<Pieces, NoMemory>
-        ensures value { IfOk result (λ source. source ≡ record { remaining = octets.now; given = 0; cuts = cuts.now; calls = no_calls failing.now }) }
+        ensures value { IfOk result (λ source. source ≡ cut_source octets.now cuts.now failing.now) }
     {
         Ok(Pieces {
             octets: Vec::from_slice(alloc, octets)?,
@@ -80,12 +80,13 @@ impl Source for Pieces {
     fn read(&mut self, buf: &mut [u8]) -> Result<usize, Failed>
         ensures within { ReadsAtMost result buf.new }
         ensures ok { IfOk result (λ count. Takes (Some self.old.remaining) (Some self.new.remaining) (take count buf.new)) }
-        ensures end { IfOk result (λ count. count ≡ 0 → 0 < length buf.new → IsEmpty (Some self.new.remaining)) }
+        ensures end { IfOk result (λ count. count ≡ 0 → 0 < length buf.new
+            → IsEmpty (Some self.new.remaining)) }
         ensures err { OnErr result (Some self.new.remaining ≡ Some self.old.remaining) }
         ensures cause { HasCause self.old.calls.faults self.new.calls.faults result }
         // It gives what stands before the next cut, as far as it fits.
         ensures cut { IfOk result (λ count. ReadsToCut self.old (length buf.old) count) }
-        ensures state { IfOk result (λ count. self.new ≡ record { remaining = drop count self.old.remaining; given = self.old.given + count; cuts = self.old.cuts; calls = call_done self.old.calls }) }
+        ensures state { IfOk result (λ count. self.new ≡ after_read self.old count) }
         ensures same { OnErr result (self.new ≡ record self.old { calls = call_failed self.old.calls }) }
         // It fails exactly where the call is to fail.
         ensures refused { OnErr result (FailsNext self.old.calls) }

@@ -2,7 +2,7 @@
 ghost use Rattle.std.specs.Prelude.{◌≡◌, ◌<◌, length, MatchOption, IfSome, IfNone, IsTrue, false, []};
 ghost use Rattle.outside_io.specs.MemHost.{HasNoEmptySink};
 ghost use Rattle.outside_io.specs.declared.host.Place.TheVariants.{Here, Back};
-ghost use Rattle.outside_io.specs.Slots.{place_of, index_of};
+ghost use Rattle.outside_io.specs.Slots.{place_of, IsFirstOf};
 ghost use Rattle.outside_io.specs.Shelf.{Stays, HandsOut, TakesBack, IsAway};
 
 use crate::{Place, Store8};
@@ -19,7 +19,7 @@ pub struct Slot<T> {
 
 // The first slot of this name.
 fn find<T>(slots: &[Slot<T>], name: &str) -> Option<usize>
-    ensures value { MatchOption result (index_of slots.now name.now ≡ length slots.now) (λ i. (i ≡ index_of slots.now name.now) × (i < length slots.now)) }
+    ensures value { IsFirstOf slots.now name.now result }
 {
     let mut i = 0;
     while i < slots.len() {
@@ -74,7 +74,8 @@ pub(crate) fn returned<'a, T>(slots: &'a [Slot<T>], name: &str) -> Option<&'a T>
 
 // Whether an empty sink stands under this name, to be handed out.
 pub(crate) fn is_fresh(slots: &[Slot<Store8>], name: &str) -> bool
-    ensures value { (sink : _) → IsTrue result → place_of slots.now name.now ≡ Here sink → sink.contents ≡ [] }
+    ensures value { (sink : _) → IsTrue result → place_of slots.now name.now ≡ Here sink
+        → sink.contents ≡ [] }
     ensures none { result ≡ false → HasNoEmptySink (place_of slots.now name.now) }
 {
     match find(slots, name) {

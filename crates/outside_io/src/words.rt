@@ -29,7 +29,8 @@ impl Model for Words {
 impl Words {
     /// The calls that are to fail are listed by their places, from 0.
     pub fn with(alloc: Global, words: &[u32], failing: &[u64]) -> Result<Words, NoMemory>
-        ensures value { IfOk result (λ given. given ≡ record { remaining = words.now; calls = no_calls failing.now }) }
+        ensures value { IfOk result (λ given. given
+            ≡ record { remaining = words.now; calls = no_calls failing.now }) }
     {
         Ok(Words {
             words: Vec::from_slice(alloc, words)?,

@@ -68,7 +68,8 @@ fn judge(
 }
 
 pub fn insert_in_order<'a>(ordered: &mut Vec<Kept<'a>>, packet: &Kept<'a>) -> Result<(), AllocError>
-    ensures { OnOk result (kept_packets ordered.new.items ≡ insert_by_number (kept_packet packet.now) (kept_packets ordered.old.items)) }
+    ensures { OnOk result (kept_packets ordered.new.items
+        ≡ insert_by_number (kept_packet packet.now) (kept_packets ordered.old.items)) }
 {
     let at = place_among(ordered.as_slice(), packet);
     ordered.insert(at, *packet)?;
@@ -152,7 +153,8 @@ pub fn payloads_out<'a>(
     until: Option<u64>,
 ) -> Result<Vec<&'a [u8]>, AllocError>
     requires { ForSome until (λ t. t < 2 ^ 61) }
-    ensures { IfOk result (λ payloads. map payload_of payloads.items ≡ map (λ p. p.payload) (filter (is_played_out (kept_packets kept.now) (moment_of until)) (kept_packets ordered.now))) }
+    ensures { IfOk result (λ payloads. map payload_of payloads.items
+        ≡ map (λ p. p.payload) (filter (is_played_out (kept_packets kept.now) (moment_of until)) (kept_packets ordered.now))) }
 {
     let mut payloads = Vec::new(alloc);
     for k in ordered {

@@ -33,7 +33,8 @@ pub fn released<'a>(
 ) -> Result<Vec<&'a [u8]>, AllocError>
     requires limits { AreInRange limits.now }
     requires steps { All IsFit steps.now }
-    ensures { IfOk result (λ payloads. map payload_of payloads.items ≡ released_payloads limits.now (history_of steps.now)) }
+    ensures { IfOk result (λ payloads. map payload_of payloads.items
+        ≡ released_payloads limits.now (history_of steps.now)) }
 {
     let run = run_of(alloc, limits, steps)?;
     let until = if run.has_ended { None } else { Some(run.time) };

@@ -10,7 +10,7 @@ ghost use Rattle.receiver_rules.specs.Seen.{seen, packet_at};
 ghost use Rattle.receiver_rules.specs.Bounds.{AreInRange, IsEarlyAnchor};
 ghost use Rattle.receiver_plain.specs.Told.{step_of, history_of, IsFit};
 ghost use Rattle.receiver_plain.specs.Inside.Kept.{kept_packets};
-ghost use Rattle.receiver_plain.specs.Inside.Run.{IsSmallRun, RunShows, SameButKept, IsBrought, IsKeptAfter};
+ghost use Rattle.receiver_plain.specs.Inside.Run.{kept_with, ordered_with, IsSmallRun, RunShows, SameButKept, IsBrought, IsKeptAfter};
 
 use crate::kept::{Kept, insert_in_order, judge_arrival};
 use crate::steps::{Event, Step};
@@ -56,7 +56,8 @@ fn take<'a>(run: &mut Run<'a>, limits: &Limits, step: &Step<'a>) -> Result<(), A
     requires step { IsFit step.now }
     requires small { IsSmallRun run.old }
     ensures small { OnOk result (IsSmallRun run.new) }
-    ensures shows { OnOk result ((history : List RuleStep) → RunShows limits.now run.old history → RunShows limits.now run.new (step_of step.now ∷ history)) }
+    ensures shows { OnOk result ((history : List RuleStep) → RunShows limits.now run.old history
+        → RunShows limits.now run.new (step_of step.now ∷ history)) }
 {
     run.time = run.time.max(step.tick);
     match &step.event {
@@ -112,8 +113,10 @@ fn settle<'a>(
 ) -> Result<(), AllocError>
     requires known { run.old.highest ≡ highest_of (kept_packets run.old.kept.items) }
     ensures same { OnOk result (SameButKept run.old run.new) }
-    ensures kept { OnOk result (kept_packets run.new.kept.items ≡ (if is_kept verdict then packet_at place payload.now ∷ kept_packets run.old.kept.items else kept_packets run.old.kept.items)) }
-    ensures ordered { OnOk result (kept_packets run.new.ordered.items ≡ (if is_kept verdict then insert_by_number (packet_at place payload.now) (kept_packets run.old.ordered.items) else kept_packets run.old.ordered.items)) }
+    ensures kept { OnOk result (kept_packets run.new.kept.items
+        ≡ kept_with verdict (packet_at place payload.now) (kept_packets run.old.kept.items)) }
+    ensures ordered { OnOk result (kept_packets run.new.ordered.items
+        ≡ ordered_with verdict (packet_at place payload.now) (kept_packets run.old.ordered.items)) }
     ensures known { OnOk result (run.new.highest ≡ highest_of (kept_packets run.new.kept.items)) }
 {
     if verdict.is_kept() {

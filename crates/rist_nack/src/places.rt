@@ -6,7 +6,8 @@ ghost use Rattle.rist_nack.specs.Requests.{set_places};
 pub(crate) fn next_place(mask: &mut u16, place: &mut u8) -> Option<u8>
     requires { place.old ≤ 17 }
     ensures within { place.new ≤ 17 }
-    ensures places { MatchOption result ((set_places (17 - place.old) mask.old place.old ≡ []) × (set_places (17 - place.new) mask.new place.new ≡ []))
+    ensures places { MatchOption result ((set_places (17 - place.old) mask.old place.old ≡ [])
+        × (set_places (17 - place.new) mask.new place.new ≡ []))
         (λ i. (i < 17) × (set_places (17 - place.old) mask.old place.old ≡ i ∷ set_places (17 - place.new) mask.new place.new)) }
 {
     while *place < 17 {

@@ -171,7 +171,8 @@ impl<'a> Requests<'a> {
     pub(crate) fn step(&mut self) -> Option<Option<Words<'a>>>
         ensures asks { MatchOption result ((asks_left self.old ≡ []) × (asks_left self.new ≡ []))
             (λ words. asks_left self.old ≡ asks_given words ++ asks_left self.new) }
-        ensures shorter { MatchOption result (self.new ≡ self.old) (λ words. length self.new.packets < length self.old.packets) }
+        ensures shorter { MatchOption result (self.new ≡ self.old) (λ words. length self.new.packets
+            < length self.old.packets) }
     {
         let packet = self.packets.next()?;
         let before = self.count;

@@ -2,7 +2,7 @@
 ghost use Rattle.std.specs.Prelude.{◌≡◌, ◌≤◌, ◌<◌, ◌+◌, ◌*◌, ◌↔◌, length, take, OnOk, OnErr, IsErr};
 ghost use Rattle.rtcp_compound.specs.Compound.{application, feedback};
 ghost use Rattle.rtcp_compound.specs.Name.{rist_name};
-ghost use Rattle.rtcp_compound.specs.Writing.{with_packet, app_octets, feedback_octets};
+ghost use Rattle.rtcp_compound.specs.Writing.{Gains, app_octets, feedback_octets};
 ghost use Rattle.rist_nack.specs.Written.{words_spelling, upper_spelling};
 
 use octet_fields::put_at;
@@ -29,7 +29,9 @@ fn put_words(out: &mut [u8], words: &[(u16, u16)]) -> usize
 /// doesn't fit.
 pub fn put_range(out: &mut CompoundOut, media: u32, words: &[(u16, u16)]) -> Result<(), Full>
     requires { 0 < length out.old.octets }
-    ensures ok { OnOk result (out.new ≡ with_packet out.old (application 0 media rist_name (words_spelling words.now)) (app_octets 0 media rist_name (words_spelling words.now))) }
+    ensures ok { OnOk result (Gains out.old out.new
+        (application 0 media rist_name (words_spelling words.now))
+        (app_octets 0 media rist_name (words_spelling words.now))) }
     ensures full { IsErr result ↔ (OUT_LEN < length out.old.octets + 12 + 4 * length words.now) }
     ensures same { OnErr result (out.new ≡ out.old) }
 {
@@ -50,7 +52,9 @@ pub fn put_mask(
     words: &[(u16, u16)],
 ) -> Result<(), Full>
     requires { 0 < length out.old.octets }
-    ensures ok { OnOk result (out.new ≡ with_packet out.old (feedback 205 1 sender media (words_spelling words.now)) (feedback_octets 205 1 sender media (words_spelling words.now))) }
+    ensures ok { OnOk result (Gains out.old out.new
+        (feedback 205 1 sender media (words_spelling words.now))
+        (feedback_octets 205 1 sender media (words_spelling words.now))) }
     ensures full { IsErr result ↔ (OUT_LEN < length out.old.octets + 12 + 4 * length words.now) }
     ensures same { OnErr result (out.new ≡ out.old) }
 {
@@ -66,7 +70,9 @@ pub fn put_mask(
 /// `Full` where it doesn't fit.
 pub fn put_seqext(out: &mut CompoundOut, media: u32, upper: u16) -> Result<(), Full>
     requires { 0 < length out.old.octets }
-    ensures ok { OnOk result (out.new ≡ with_packet out.old (application 1 media rist_name (upper_spelling upper)) (app_octets 1 media rist_name (upper_spelling upper))) }
+    ensures ok { OnOk result (Gains out.old out.new
+        (application 1 media rist_name (upper_spelling upper))
+        (app_octets 1 media rist_name (upper_spelling upper))) }
     ensures full { IsErr result ↔ (OUT_LEN < length out.old.octets + 16) }
     ensures same { OnErr result (out.new ≡ out.old) }
 {

@@ -47,7 +47,8 @@ impl Rtt {
     pub fn sample(&mut self, now: u64, echo: &Echo<'_>) -> Sample
         // Exactly an answer of the future, or of more than 10 s ago, is stale.
         ensures stale { (result ≡ Sample.Stale) ↔ IsStale now echo.now.stamp }
-        ensures taken { result ≡ Sample.Taken → self.new ≡ smoothed self.old (sample_of now echo.now.stamp echo.now.delay) }
+        ensures taken { result ≡ Sample.Taken
+            → self.new ≡ smoothed self.old (sample_of now echo.now.stamp echo.now.delay) }
         ensures same { result ≡ Sample.Stale → self.new ≡ self.old }
     {
         if echo.stamp > now || now - echo.stamp > STALE_AFTER {

@@ -25,7 +25,7 @@ fn put_body(words: &mut [u8; 268], stamp: u64, delay: u32, more: &[u8]) -> usize
 /// microseconds. `Full` where it doesn't fit.
 pub fn put_request(out: &mut CompoundOut, media: u32, stamp: u64) -> Result<(), Full>
     requires { 0 < length out.old.octets }
-    ensures ok { OnOk result (out.new ≡ with_packet out.old (request media stamp) (request_octets media stamp)) }
+    ensures ok { OnOk result (Gains out.old out.new (request media stamp) (request_octets media stamp)) }
     ensures full { IsErr result ↔ (OUT_LEN < length out.old.octets + 24) }
     ensures same { OnErr result (out.new ≡ out.old) }
 {
@@ -38,7 +38,9 @@ pub fn put_request(out: &mut CompoundOut, media: u32, stamp: u64) -> Result<(), 
 /// long it took to answer in microseconds. `Full` where it doesn't fit.
 pub fn put_answer(out: &mut CompoundOut, echo: &Echo<'_>, delay: u32) -> Result<(), Full>
     requires { 0 < length out.old.octets }
-    ensures ok { OnOk result (out.new ≡ with_packet out.old (response (echo_seen echo.now) delay) (response_octets (echo_seen echo.now) delay)) }
+    ensures ok { OnOk result (Gains out.old out.new
+        (response (echo_seen echo.now) delay)
+        (response_octets (echo_seen echo.now) delay)) }
     ensures full { IsErr result ↔ (OUT_LEN < length out.old.octets + 24 + length (copied echo.now.more.now)) }
     ensures same { OnErr result (out.new ≡ out.old) }
 {

@@ -21,6 +21,10 @@ plain count kind numbers words = record { count = count; kind = kind; body = num
 abbrev pub with_packet : Written → Content → List ℕ → Written
 with_packet old packet octets = record { packets = old.packets ++ packet ∷ []; octets = old.octets ++ octets }
 
+-- one packet more stands behind those put so far, with these octets
+abbrev pub Gains : Written → Written → Content → List ℕ → Type 0
+Gains old new packet octets = new ≡ with_packet old packet octets
+
 -- a sender's report with no blocks
 abbrev pub sr_octets : ℕ → ℕ → ℕ → ℕ → ℕ → ℕ → List ℕ
 sr_octets ssrc seconds fraction rtp_time packets octets = spelling (plain 0 200 (ssrc ∷ seconds ∷ fraction ∷ rtp_time ∷ packets ∷ octets ∷ []) [])

@@ -7,7 +7,8 @@ use crate::name::RIST_NAME;
 
 /// Octets spell at most one list of packets.
 pub fn one_reading()
-    ensures { (octets : List ℕ) (ps qs : List Content) → IsCompound ps octets → IsCompound qs octets → ps ≡ qs }
+    ensures { (octets : List ℕ) (ps qs : List Content) → IsCompound ps octets → IsCompound qs octets
+        → ps ≡ qs }
 {}
 
 /// The name that is written is the one that is looked for.

@@ -3,7 +3,7 @@
 ghost use Rattle.std.specs.Prelude.{◌≡◌, ◌≤◌, ◌<◌, ◌+◌, ◌*◌, ◌%◌, ◌↔◌, ◌⊎◌, ◌++◌, [], length, take, OnOk, OnErr, IsErr};
 ghost use Rattle.std.specs.Int.{w32, to_be_bytes};
 ghost use Rattle.rtcp_compound.specs.Compound.{IsCompound, Holds, IsReport, spelling, content, sender_report, receiver_report, description, application, feedback};
-ghost use Rattle.rtcp_compound.specs.Writing.{numbers_spelling, plain, with_packet, sr_octets, rr_octets, sdes_octets, name_item, app_octets, feedback_octets};
+ghost use Rattle.rtcp_compound.specs.Writing.{numbers_spelling, plain, Gains, sr_octets, rr_octets, sdes_octets, name_item, app_octets, feedback_octets};
 
 use crate::refusal::Full;
 use octet_fields::put_at;
@@ -83,8 +83,11 @@ impl CompoundOut {
         requires small { length numbers.now + length name.now < 32 }
         requires body { Holds kind count (numbers_spelling numbers.now ++ (name.now ++ words.now)) }
         requires first { length self.old.octets ≡ 0 → IsReport kind }
-        ensures ok { OnOk result (self.new ≡ with_packet self.old (content (plain count kind numbers.now (name.now ++ words.now))) (spelling (plain count kind numbers.now (name.now ++ words.now)))) }
-        ensures full { IsErr result ↔ (OUT_LEN < length self.old.octets + length (spelling (plain count kind numbers.now (name.now ++ words.now)))) }
+        ensures ok { OnOk result (Gains self.old self.new
+            (content (plain count kind numbers.now (name.now ++ words.now)))
+            (spelling (plain count kind numbers.now (name.now ++ words.now)))) }
+        ensures full { IsErr result
+            ↔ (OUT_LEN < length self.old.octets + length (spelling (plain count kind numbers.now (name.now ++ words.now)))) }
         ensures same { OnErr result (self.new ≡ self.old) }
     {
         let body = 4 * numbers.len() + name.len() + words.len();
@@ -112,7 +115,9 @@ impl CompoundOut {
         packets: u32,
         octets: u32,
     ) -> Result<(), Full>
-        ensures ok { OnOk result (self.new ≡ with_packet self.old (sender_report ssrc seconds fraction rtp_time packets octets []) (sr_octets ssrc seconds fraction rtp_time packets octets)) }
+        ensures ok { OnOk result (Gains self.old self.new
+            (sender_report ssrc seconds fraction rtp_time packets octets [])
+            (sr_octets ssrc seconds fraction rtp_time packets octets)) }
         ensures full { IsErr result ↔ (OUT_LEN < length self.old.octets + 28) }
         ensures same { OnErr result (self.new ≡ self.old) }
     {
@@ -127,7 +132,7 @@ impl CompoundOut {
 
     /// Puts a receiver's report with no blocks. `Full` where it doesn't fit.
     pub fn put_rr(&mut self, ssrc: u32) -> Result<(), Full>
-        ensures ok { OnOk result (self.new ≡ with_packet self.old (receiver_report ssrc []) (rr_octets ssrc)) }
+        ensures ok { OnOk result (Gains self.old self.new (receiver_report ssrc []) (rr_octets ssrc)) }
         ensures full { IsErr result ↔ (OUT_LEN < length self.old.octets + 8) }
         ensures same { OnErr result (self.new ≡ self.old) }
     {
@@ -137,7 +142,9 @@ impl CompoundOut {
     /// Puts a source description with one chunk, whose CNAME is `rist`. `Full` where it doesn't fit.
     pub fn put_sdes(&mut self, ssrc: u32) -> Result<(), Full>
         requires { 0 < length self.old.octets }
-        ensures ok { OnOk result (self.new ≡ with_packet self.old (description 1 (to_be_bytes w32 ssrc ++ name_item)) (sdes_octets ssrc)) }
+        ensures ok { OnOk result (Gains self.old self.new
+            (description 1 (to_be_bytes w32 ssrc ++ name_item))
+            (sdes_octets ssrc)) }
         ensures full { IsErr result ↔ (OUT_LEN < length self.old.octets + 16) }
         ensures same { OnErr result (self.new ≡ self.old) }
     {
@@ -155,7 +162,9 @@ impl CompoundOut {
         requires begun { 0 < length self.old.octets }
         requires subtype { subtype ≤ 31 }
         requires whole { length words.now % 4 ≡ 0 }
-        ensures ok { OnOk result (self.new ≡ with_packet self.old (application subtype ssrc name words.now) (app_octets subtype ssrc name words.now)) }
+        ensures ok { OnOk result (Gains self.old self.new
+            (application subtype ssrc name words.now)
+            (app_octets subtype ssrc name words.now)) }
         ensures full { IsErr result ↔ (OUT_LEN < length self.old.octets + 12 + length words.now) }
         ensures same { OnErr result (self.new ≡ self.old) }
     {
@@ -176,7 +185,9 @@ impl CompoundOut {
         requires kind { (kind ≡ 205) ⊎ (kind ≡ 206) }
         requires format { format ≤ 31 }
         requires whole { length words.now % 4 ≡ 0 }
-        ensures ok { OnOk result (self.new ≡ with_packet self.old (feedback kind format sender media words.now) (feedback_octets kind format sender media words.now)) }
+        ensures ok { OnOk result (Gains self.old self.new
+            (feedback kind format sender media words.now)
+            (feedback_octets kind format sender media words.now)) }
         ensures full { IsErr result ↔ (OUT_LEN < length self.old.octets + 12 + length words.now) }
         ensures same { OnErr result (self.new ≡ self.old) }
     {

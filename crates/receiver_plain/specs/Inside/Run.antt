@@ -27,6 +27,14 @@ pub record RunShows (limits : Limits) (run : Run) (history : List Step) : Type 0
   pub ordered : kept_packets run.ordered.items ≡ by_number (accepted_packets limits history)
   pub verdicts : run.verdicts.items ≡ verdicts_of limits history
 
+-- a packet before those that were kept, where its verdict keeps it
+abbrev pub kept_with : Verdict → Packet → List Packet → List Packet
+kept_with verdict p packets = if is_kept verdict then p ∷ packets else packets
+
+-- at its place among those in order, where its verdict keeps it
+abbrev pub ordered_with : Verdict → Packet → List Packet → List Packet
+ordered_with verdict p packets = if is_kept verdict then insert_by_number p packets else packets
+
 -- only what is kept has changed
 pub record SameButKept (old new : Run) : Type 0 where
   pub time : new.time ≡ old.time
@@ -59,5 +67,5 @@ pub record IsBrought (limits : Limits) (arrival : Arrival) (old new : Run) : Typ
   pub ended : new.has_ended ≡ old.has_ended
   pub anchor : new.anchor ≡ Some (anchor_here old arrival)
   pub verdicts : new.verdicts.items ≡ old.verdicts.items ++ verdict_here limits old arrival ∷ []
-  pub kept : kept_packets new.kept.items ≡ (if is_kept (verdict_here limits old arrival) then packet_here limits old arrival ∷ kept_packets old.kept.items else kept_packets old.kept.items)
-  pub ordered : kept_packets new.ordered.items ≡ (if is_kept (verdict_here limits old arrival) then insert_by_number (packet_here limits old arrival) (kept_packets old.ordered.items) else kept_packets old.ordered.items)
+  pub kept : kept_packets new.kept.items ≡ kept_with (verdict_here limits old arrival) (packet_here limits old arrival) (kept_packets old.kept.items)
+  pub ordered : kept_packets new.ordered.items ≡ ordered_with (verdict_here limits old arrival) (packet_here limits old arrival) (kept_packets old.ordered.items)
