@@ -1,6 +1,6 @@
 //! Echoes as they are written (this profile).
 ghost use Rattle.std.specs.Prelude.{◌≡◌, ◌<◌, ◌≤◌, ◌+◌, ◌↔◌, length, take, OnOk, OnErr, IsErr};
-ghost use Rattle.rtcp_compound.specs.Writing.{with_packet};
+ghost use Rattle.rtcp_compound.specs.Writing.{Gains};
 ghost use Rattle.rist_rtt.specs.Echo.{echo_seen, echo_words, copied, request, response, request_octets, response_octets};
 
 use crate::echo::Echo;
