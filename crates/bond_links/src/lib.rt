@@ -1,0 +1,12 @@
+//! Link bonding: which links a media packet goes on. A contract sees a bond as its number of links, or their
+//! weights (`Bonding`).
+#![tactic(auto)]
+
+mod bond;
+mod plan;
+#[cfg(test)]
+mod tests;
+mod weights;
+
+pub use bond::Bond;
+pub use plan::Plan;

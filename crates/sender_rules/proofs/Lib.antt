@@ -1,0 +1,3 @@
+mod Rows
+pub mod BondingLemmas
+pub mod StoredLemmas

@@ -1,0 +1,5 @@
+pub mod Bonding
+pub mod Sendings
+pub mod Stored
+pub mod Retransmissions
+pub mod Rows
