@@ -5,7 +5,7 @@ use Rattle.std.specs.Int.{w32, to_be_bytes}
 use Rattle.std.specs.Map.{lookup}
 use Rattle.std.proofs.lemmas.Bool.Decides.{nat_tests}
 use Rattle.aes_block.specs.Cipher.{key_octets}
-use Rattle.aes_block.specs.declared.cipher.Key.{Key}
+use Rattle.aes_block.specs.declared.key.Key.{Key}
 use Rattle.lru.specs.LruCache.{LruCache, lru_cache, promoted, put_entries}
 use Rattle.lru.proofs.CallerLemmas.{Contains-lookup, Contains-promoted, Contains-put_entries}
 use Rattle.psk_keys.specs.Keys.{AreDerived, key_of}

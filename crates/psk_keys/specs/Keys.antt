@@ -2,7 +2,7 @@
 use Rattle.std.specs.Prelude.{◌≡◌, ℕ, ◌/◌, ◌⊎◌, List, [], ◌∷◌, take, if◌then◌else◌, ◌==◌, Contains}
 use Rattle.std.specs.Int.{w32, to_be_bytes}
 use Rattle.aes_block.specs.Cipher.{key_octets}
-use Rattle.aes_block.specs.declared.cipher.Key.{Key}
+use Rattle.aes_block.specs.declared.key.Key.{Key}
 use Rattle.psk_keys.specs.Pbkdf2.{pbkdf2}
 
 -- the rounds of a derivation
