@@ -1,7 +1,7 @@
 use Rattle.std.proofs.Common.{suc, ◌+◌, ◌-◌, Bool, cond, take, drop, ◌++◌, sym, ap, ◌∙◌, refl, arith}
 use Rattle.ts_nulls.specs.Packets.{packet_len, null_packet}
 use Rattle.ts_nulls.proofs.RestoreLemmas.{Puts-at, Puts-there, Puts-room, Puts-next, Puts-end}
-use Rattle.ts_nulls.proofs.restoring.put_back.Goals as goal
+use Rattle.ts_nulls.proofs.restoring.put_packets.Goals as goal
 
 pub put_next-end-requires-clause-room : goal.put_next-end-requires-clause-room
 put_next-end-requires-clause-room c =
