@@ -1,20 +1,26 @@
 #!/bin/sh
 # Measures `aes_ctr::apply` on datagrams of 1,400 octets, `psk_keys::pbkdf2` of 1,024 rounds, and
 # OpenSSL's AES-128-CTR beside them, with the processor's AES instructions and without them.
-# Figures are of processor time. It takes about two minutes, needs rt, bash and openssl, and writes
-# only below a new folder in /tmp.
+# Figures are of processor time. It takes a minute where the crates were proved in place, and some ten from a
+# fresh clone. It needs rt, bash and openssl, and writes only below a new folder in /tmp.
 set -e
 top=$(cd "$(dirname "$0")/.." && pwd)
 work=$(mktemp -d /tmp/cipher_speed.XXXXXX)
 trap 'rm -rf "$work"' EXIT
 mkdir -p "$work/crates/speed/src"
-for crate in aes_block aes_ctr psk_keys; do
-    mkdir "$work/crates/$crate"
-    for part in src specs proofs; do
-        cp -r "$top/crates/$crate/$part" "$work/crates/$crate/"
-    done
+# The crates that are measured, and those of the repository that they stand on, as crates.txt has them.
+needed=
+add() {
+    case " $needed " in *" $1 "*) return ;; esac
+    line=$(grep "^$1:" "$top/crates.txt") || return 0
+    needed="$needed $1"
+    for below in ${line#*:}; do add "$below"; done
+}
+for crate in aes_ctr psk_keys; do add "$crate"; done
+for crate in $needed; do
+    cp -r "$top/crates/$crate" "$work/crates/"
+    grep "^$crate:" "$top/crates.txt" >> "$work/crates.txt"
 done
-sed -n -e '/^aes_block/p' -e '/^aes_ctr/p' -e '/^psk_keys/p' "$top/crates.txt" > "$work/crates.txt"
 echo 'speed: aes_block aes_ctr psk_keys anyhow' >> "$work/crates.txt"
 cat > "$work/crates/speed/src/main.rt" <<'RATTLE'
 #![tactic(auto)]

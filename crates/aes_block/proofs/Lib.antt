@@ -1,5 +1,7 @@
-mod TableLemmas
+mod LaneLemmas
+mod MixLemmas
+mod TowerLemmas
 mod WordLemmas
 mod ScheduleLemmas
-mod CipherLemmas
+mod RoundLemmas
 mod Vectors

@@ -6,7 +6,7 @@ use Rattle.std.proofs.lemmas.List.{get_or-map, get_or-take, length-take-le, map-
 use Rattle.std.proofs.lemmas.List.FromFn.{get_or-map-range_with_len}
 use Rattle.aes_block.specs.Field.{times_x}
 use Rattle.aes_block.specs.Schedule.{power_of_x, step_word, next_word, words_of, schedule}
-use Rattle.aes_block.specs.Columns.{word_octets}
+use Rattle.aes_block.specs.Inside.Words.{word_octets}
 use Rattle.aes_block.specs.declared.key_schedule.TheConstants.{ROUND_CONSTANTS}
 use Rattle.aes_block.proofs.WordLemmas.{word_octets-bit_xor}
 

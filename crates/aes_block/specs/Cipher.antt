@@ -2,8 +2,8 @@
 use Rattle.std.specs.Prelude.{ℕ, zero, suc, ◌+◌, ◌-◌, ◌*◌, ◌/◌, List, [], ◌++◌, length, slice_index_or}
 use Rattle.aes_block.specs.State.{sub_bytes, shift_rows, mix_columns, add_round_key}
 use Rattle.aes_block.specs.Schedule.{schedule}
-use Rattle.aes_block.specs.declared.cipher.Key.{Key}
-use Rattle.aes_block.specs.declared.cipher.Key.TheVariants.{Short, Long}
+use Rattle.aes_block.specs.declared.key.Key.{Key}
+use Rattle.aes_block.specs.declared.key.Key.TheVariants.{Short, Long}
 
 -- how many rounds a key has: 10 for 16 octets, 14 for 32 (section 5)
 abbrev pub round_count : List ℕ → ℕ

@@ -2,5 +2,4 @@ pub mod Field
 pub mod State
 pub mod Schedule
 pub mod Cipher
-pub mod Columns
-pub mod Kept
+pub mod Inside

@@ -1,24 +1,27 @@
 // The key schedule (FIPS 197, section 5.2), in words with the first octet highest.
 
-ghost use Rattle.std.specs.Prelude.{◌≡◌, ◌+◌, ◌*◌, ◌/◌, ◌%◌, ◌<◌, ◌≤◌, [], ◌∷◌, length, take, map, bit_xor, slice_index};
+ghost use Rattle.std.specs.Prelude.{◌≡◌, ◌+◌, ◌*◌, ◌/◌, ◌%◌, ◌<◌, ◌≤◌, ℕ, [], ◌∷◌, slice_index_or, length, take, map, bit_xor, slice_index};
 ghost use Rattle.std.specs.Simd.Lanes.{zip2};
 ghost use Rattle.aes_block.specs.Schedule.{power_of_x, rot_word, step_word, sub_word, words_of};
-ghost use Rattle.aes_block.specs.Cipher.{expanded_key, round_count};
-ghost use Rattle.aes_block.specs.Columns.{word_octets};
+ghost use Rattle.aes_block.specs.Cipher.{expanded_key, round_count, round_key};
+ghost use Rattle.aes_block.specs.Inside.Words.{word_octets};
 
-use crate::columns::{substitute, word_from};
+use crate::words::{substitute, word_from};
 
-/// The words of the longest schedule: four for each of 14 rounds, and four before the first.
-pub(crate) const SCHEDULE_WORDS: usize = 60;
+/// How many round keys the longest schedule has: one for each of 14 rounds, and one before the first.
+pub(crate) const ROUND_KEYS: usize = 15;
+
+/// Its words, four a round key.
+const SCHEDULE_WORDS: usize = 60;
 
 // The powers of x from the first on (FIPS 197, section 5.2).
 static ROUND_CONSTANTS: [u8; 10] = [0x01, 0x02, 0x04, 0x08, 0x10, 0x20, 0x40, 0x80, 0x1b, 0x36];
 
-fn constant_at(table: &[u8; 10], place: usize) -> u8
-    requires { place < 10 }
-    ensures { result ≡ slice_index table.now place }
+fn constant_at(table: &[u8; 10], index: usize) -> u8
+    requires { index < 10 }
+    ensures { result ≡ slice_index table.now index }
 {
-    table[place]
+    table[index]
 }
 
 fn round_constant(place: usize) -> u8
@@ -32,8 +35,7 @@ fn round_constant(place: usize) -> u8
 fn substituted(word: u32) -> u32
     ensures { word_octets result ≡ sub_word (word_octets word) }
 {
-    let [a, b, c, d] = word.to_be_bytes();
-    u32::from_be_bytes([substitute(a), substitute(b), substitute(c), substitute(d)])
+    u32::from_be_bytes(substitute(word.to_be_bytes()))
 }
 
 // A word moved one octet to the left and through the S-box, with a constant added to its first octet.
@@ -42,12 +44,8 @@ fn turned(word: u32, constant: u8) -> u32
         ≡ zip2 bit_xor (sub_word (rot_word (word_octets word))) (constant ∷ 0 ∷ 0 ∷ 0 ∷ []) }
 {
     let [a, b, c, d] = word.to_be_bytes();
-    u32::from_be_bytes([
-        substitute(b) ^ constant,
-        substitute(c),
-        substitute(d),
-        substitute(a),
-    ])
+    let [e, f, g, h] = substitute([b, c, d, a]);
+    u32::from_be_bytes([e ^ constant, f, g, h])
 }
 
 // What is added to the word a key's length before word `place`, from the word before it.
@@ -82,9 +80,7 @@ fn loaded(key: &[u8]) -> [u32; SCHEDULE_WORDS]
 pub(crate) fn expanded(key: &[u8]) -> [u32; SCHEDULE_WORDS]
     requires least { 16 ≤ length key.now }
     requires most { length key.now ≤ 32 }
-    ensures words { map word_octets (take (length key.now / 4) result) ≡ words_of key.now }
-    ensures schedule { map word_octets (take (4 * (round_count key.now + 1)) result)
-        ≡ expanded_key key.now }
+    ensures { map word_octets (take (4 * (round_count key.now + 1)) result) ≡ expanded_key key.now }
 {
     let key_words = key.len() / 4;
     let mut words = loaded(key);
@@ -92,4 +88,31 @@ pub(crate) fn expanded(key: &[u8]) -> [u32; SCHEDULE_WORDS]
         words[place] = words[place - key_words] ^ step(key_words, place, words[place - 1]);
     }
     words
+}
+
+// A round key of a schedule.
+fn key_at(words: &[u32; SCHEDULE_WORDS], round: usize) -> [u8; 16]
+    requires { round < ROUND_KEYS }
+    ensures { result ≡ round_key (map word_octets words.now) round }
+{
+    let first = 4 * round;
+    let [a0, a1, a2, a3] = words[first].to_be_bytes();
+    let [b0, b1, b2, b3] = words[first + 1].to_be_bytes();
+    let [c0, c1, c2, c3] = words[first + 2].to_be_bytes();
+    let [d0, d1, d2, d3] = words[first + 3].to_be_bytes();
+    [
+        a0, a1, a2, a3, b0, b1, b2, b3, c0, c1, c2, c3, d0, d1, d2, d3,
+    ]
+}
+
+/// The round keys of a schedule.
+pub(crate) fn round_keys(words: &[u32; SCHEDULE_WORDS]) -> [[u8; 16]; ROUND_KEYS]
+    ensures { (r : ℕ) → r < ROUND_KEYS
+        → slice_index_or result r [] ≡ round_key (map word_octets words.now) r }
+{
+    let mut keys = [[0; 16]; ROUND_KEYS];
+    for round in 0..ROUND_KEYS {
+        keys[round] = key_at(words, round);
+    }
+    keys
 }

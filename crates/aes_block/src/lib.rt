@@ -1,12 +1,17 @@
-//! The Advanced Encryption Standard (FIPS 197): one block of 16 octets enciphered under a key of
-//! 128 or 256 bits.
+//! The Advanced Encryption Standard (FIPS 197): blocks of 16 octets enciphered under a key of 128 or 256 bits, on vectors
+//! of 16 lanes, with no look-up in memory by an index that depends on the key or the text.
 #![tactic(auto)]
 
 mod cipher;
-mod columns;
+mod key;
 mod key_schedule;
-mod tables;
+mod lanes;
+mod rounds;
+mod substitution;
 #[cfg(test)]
 mod tests;
+mod tower;
+mod words;
 
-pub use cipher::{Aes, Key};
+pub use cipher::Aes;
+pub use key::Key;

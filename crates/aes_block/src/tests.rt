@@ -1,5 +1,6 @@
 use crate::{Aes, Key};
 use std::process::Abort;
+use std::simd::prelude::*;
 
 // The octets of two halves in base 16.
 fn long_key(high: u128, low: u128) -> Key {
@@ -46,9 +47,17 @@ fn long_key(high: u128, low: u128) -> Key {
 }
 
 fn assert_enciphered(rt: &impl Abort, key: &Key, block: u128, expected: u128) {
+    let expected = expected.to_be_bytes();
     let mut octets = block.to_be_bytes();
-    Aes::new(key).encrypt(&mut octets);
-    assert_eq!(rt; octets, expected.to_be_bytes());
+    let aes = Aes::new(key);
+    assert!(rt; aes.key().octets() == key.octets());
+    aes.encrypt(&mut octets);
+    assert_eq!(rt; octets, expected);
+    let lanes = u8x16::from_array(block.to_be_bytes());
+    let zeros = u8x16::splat(0);
+    let (_, second, _, fourth) = aes.encrypt_four((zeros, lanes, zeros, lanes));
+    assert_eq!(rt; second.to_array(), expected);
+    assert_eq!(rt; fourth.to_array(), expected);
 }
 
 // FIPS 197, appendices B, C.1 and C.3.

@@ -1,2 +1,3 @@
 mod CtrLemmas
+mod AddLemmas
 mod Vectors

@@ -1,1 +1,2 @@
 pub mod Ctr
+pub mod Inside

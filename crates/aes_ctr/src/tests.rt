@@ -1,4 +1,4 @@
-ghost use Rattle.std.specs.Prelude.{◌≤◌};
+ghost use Rattle.std.specs.Prelude.{◌≤◌, length};
 
 use crate::apply;
 use aes_block::{Aes, Key};
@@ -82,26 +82,27 @@ fn keystream(count: usize) -> [u8; 2048]
     text
 }
 
-#[test]
-fn a_short_text_has_its_part_of_the_keystream_after_a_wrap(rt: HostRuntime) {
-    for count in 0..34 {
-        let text = keystream(count);
-        assert!(rt; text[..count] == BEGIN[..count]);
-        assert!(rt; text[count..].iter().all(|octet| *octet == 0));
-    }
-}
-
-fn assert_keystream_ends(rt: &impl Abort, count: usize, expected: &[u8; 33])
-    requires least { 33 ≤ count }
+// The keystream ends with the last so many of these octets, and nothing behind it is touched.
+fn assert_keystream_ends(rt: &impl Abort, count: usize, expected: &[u8])
+    requires fits { length expected.now ≤ count }
     requires most { count ≤ 2048 }
 {
     let text = keystream(count);
-    assert!(rt; text[count - 33..count] == expected[..]);
+    assert!(rt;
+        text[count - expected.len()..count] == expected[..],
+        "{count} octets"
+    );
+    assert!(rt;
+        text[count..].iter().all(|octet| *octet == 0),
+        "behind {count} octets"
+    );
 }
 
 #[test]
-fn a_datagram_has_its_part_of_the_keystream_after_a_wrap(rt: HostRuntime) {
-    assert_keystream_ends(&rt, 33, &BEGIN);
+fn a_text_of_any_length_has_its_part_of_the_keystream_after_a_wrap(rt: HostRuntime) {
+    for count in [0, 1, 15, 16, 17, 31, 33] {
+        assert_keystream_ends(&rt, count, &BEGIN[..count]);
+    }
     assert_keystream_ends(&rt, 1500, &END_1500);
     assert_keystream_ends(&rt, 2048, &END_2048);
 }

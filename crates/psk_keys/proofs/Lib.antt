@@ -1,4 +1,3 @@
 mod SumLemmas
 mod Vectors
 mod KeyLemmas
-mod CacheLemmas

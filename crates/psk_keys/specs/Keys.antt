@@ -1,8 +1,7 @@
--- The keys of a session (this profile): what PBKDF2 (RFC 8018) derives from its passphrase and the four octets of a nonce.
-use Rattle.std.specs.Prelude.{◌≡◌, ℕ, ◌/◌, ◌⊎◌, List, [], ◌∷◌, take, if◌then◌else◌, ◌==◌, Contains}
-use Rattle.std.specs.Int.{w32, to_be_bytes}
-use Rattle.aes_block.specs.Cipher.{key_octets}
-use Rattle.aes_block.specs.declared.cipher.Key.{Key}
+-- The keys of a session (this profile): what PBKDF2 (RFC 8018) derives from its passphrase and the four octets of a
+-- nonce.
+use Rattle.std.specs.Prelude.{◌≡◌, ℕ, ◌-◌, ◌/◌, ◌⊎◌, List, [], ◌∷◌, take, if◌then◌else◌, ◌==◌}
+use Rattle.psk_keys.specs.declared.cached.TheConstants.{CACHED_KEYS}
 use Rattle.psk_keys.specs.Pbkdf2.{pbkdf2}
 
 -- the rounds of a derivation
@@ -17,10 +16,6 @@ key_of pass bits nonce = take (bits / 8) (pbkdf2 pass nonce round_count)
 abbrev pub IsKeyLength : ℕ → Type 0
 IsKeyLength bits = (bits ≡ 128) ⊎ (bits ≡ 256)
 
--- each key that is cached is the one of its nonce
-pub record AreDerived (pass : List ℕ) (bits : ℕ) (entries : List (ℕ × Key)) : Type 0 where
-  pub each : (e : ℕ × Key) → Contains entries e → key_octets e.1 ≡ key_of pass bits (to_be_bytes w32 e.0)
-
 -- ---- the cache
 
 -- without the first of these nonces that is this one
@@ -34,3 +29,7 @@ pub record KeysState : Type 0 where
   pub phrase : List ℕ
   pub bits : ℕ
   pub cached : List ℕ
+
+-- the keys once that of a nonce was used: it is the latest, and the last of four made room
+abbrev pub after_use : ℕ → KeysState → KeysState
+after_use nonce keys = record keys { cached = nonce ∷ take (CACHED_KEYS - 1) (without nonce keys.cached) }

@@ -1,4 +1,4 @@
 pub mod Hmac
 pub mod Pbkdf2
-pub mod Keyed
 pub mod Keys
+pub mod Inside

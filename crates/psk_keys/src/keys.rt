@@ -1,24 +1,19 @@
 // The keys of a session by nonce, the four that were used last cached.
 
-ghost use Rattle.std.specs.Prelude.{◌≡◌, ◌≤◌, ◌/◌, ◌⊎◌, [], ◌∷◌, length, take, Contains, IfOk};
+ghost use Rattle.std.specs.Prelude.{◌≡◌, ◌≤◌, ◌<◌, ◌/◌, [], length, take, slice_index, IfOk};
 ghost use Rattle.std.specs.Int.{w32, to_be_bytes, from_be_bytes};
-ghost use Rattle.std.specs.Map.{keys_of};
 ghost use Rattle.aes_block.specs.Cipher.{key_octets};
-ghost use Rattle.psk_keys.specs.Keys.{AreDerived, IsKeyLength, KeysState, key_of, without};
+ghost use Rattle.psk_keys.specs.Keys.{IsKeyLength, KeysState, key_of, after_use};
 
+use crate::cached::{CACHED_KEYS, Cached, put_first, taken};
 use crate::{Phrase, pbkdf2};
-use aes_block::Key;
-use lru::LruCache;
+use aes_block::{Aes, Key};
 use outside_io::NoMemory;
 use std::alloc::Global;
 use std::marker::Model;
-use std::num::NonZeroUsize;
 
 /// The rounds of a derivation (this profile).
 const ROUND_COUNT: u32 = 1024;
-
-/// How many keys are cached (this profile).
-const CACHED_KEYS: usize = 4;
 
 // The front of some octets as a key of so many bits.
 fn key_from(octets: [u8; 32], bits: u16) -> Key
@@ -50,25 +45,33 @@ fn number_of(nonce: [u8; 4]) -> u32
     u32::from_be_bytes(nonce)
 }
 
-/// The keys that a passphrase gives for nonces. A derivation is dear, so the four keys that were used last are
-/// cached. A contract sees the passphrase, the bits of a key, and the nonces of the cached keys, the latest first.
+/// The keys that a passphrase gives for nonces. A derivation is dear, so the four keys that were used last are cached,
+/// each with its round keys, in memory that is taken once. A contract sees the passphrase, the bits of a key, and the
+/// nonces of the cached keys, the latest first.
 #[derive(Drop)]
 pub struct Keys {
     phrase: Phrase,
     bits: u16,
-    derived: LruCache<u32, Key>,
+    cached: Vec<Cached>,
 }
 
 impl Model for Keys {
+    ghost use Rattle.std.specs.Prelude.{◌≤◌, length};
+    ghost use Rattle.std.specs.Vec.{vec_capacity};
+    ghost use Rattle.psk_keys.specs.Keys.{IsKeyLength, KeysState};
+    ghost use Rattle.psk_keys.specs.Inside.Cached.{AreDerived, nonces_of};
+    ghost use Rattle.psk_keys.specs.declared.cached.TheConstants.{CACHED_KEYS};
+
     ghost Value = { KeysState };
 
-    ghost view = { λ k. record { phrase = k.phrase; bits = k.bits; cached = keys_of k.derived.entries } };
+    ghost view = { λ k. record { phrase = k.phrase; bits = k.bits; cached = nonces_of k.cached.items } };
 
-    ghost invariant = { λ k. AreDerived k.phrase k.bits k.derived.entries × (k.derived.cap ≡ 4) × IsKeyLength k.bits };
+    ghost invariant = { λ k. AreDerived k.phrase k.bits k.cached.items × (length k.cached.items ≤ CACHED_KEYS)
+        × (CACHED_KEYS ≤ vec_capacity k.cached) × IsKeyLength k.bits };
 }
 
 impl Keys {
-    /// Keys of 128 or 256 bits.
+    /// Keys of 128 or 256 bits. This alone takes memory.
     pub fn with(alloc: Global, phrase: Phrase, bits: u16) -> Result<Keys, NoMemory>
         requires bits { IsKeyLength bits }
         ensures value { IfOk result (λ keys. keys ≡ record { phrase = phrase; bits = bits; cached = [] }) }
@@ -76,37 +79,50 @@ impl Keys {
         Ok(Keys {
             phrase,
             bits,
-            derived: LruCache::new(alloc, NonZeroUsize::new(CACHED_KEYS).unwrap())?,
+            cached: Vec::with_capacity(alloc, CACHED_KEYS)?,
         })
     }
 
-    /// The key of a nonce. Where memory is refused, it isn't cached.
-    pub fn key_for(&mut self, nonce: [u8; 4]) -> Key
-        ensures value { key_octets result ≡ key_of self.old.phrase self.old.bits nonce }
-        ensures same { self.new ≡ record self.old { cached = self.new.cached } }
-        // A nonce whose key is cached becomes the latest. Another one comes first, and the last of four makes
-        // room, unless memory is refused.
-        ensures used { Contains self.old.cached (from_be_bytes w32 nonce)
-            → self.new.cached ≡ from_be_bytes w32 nonce ∷ without (from_be_bytes w32 nonce) self.old.cached }
-        ensures cached { (Contains self.old.cached (from_be_bytes w32 nonce) → ⊥)
-            → (self.new.cached ≡ from_be_bytes w32 nonce ∷ take 3 self.old.cached)
-            ⊎ (self.new.cached ≡ self.old.cached) }
+    /// Makes the key of a nonce the latest: a cached one comes to the front, and another is derived, for which the last
+    /// of four makes room.
+    pub fn turn_to(&mut self, nonce: [u8; 4])
+        ensures used { self.new ≡ after_use (from_be_bytes w32 nonce) self.old }
+        ensures some { 0 < length self.new.cached }
     {
         let number = number_of(nonce);
-        if let Some(key) = self.derived.peek(&number).copied() {
-            self.derived.promote(&number);
-            return key;
-        }
-        let key = derived_key(self.phrase.octets(), self.bits, nonce);
-        let _ = self.derived.put(number, key);
-        key
+        let front = match taken(&mut self.cached, number) {
+            Some(front) => front,
+            None => Cached {
+                nonce: number,
+                cipher: Aes::new(&derived_key(self.phrase.octets(), self.bits, nonce)),
+            },
+        };
+        put_first(&mut self.cached, front);
+    }
+
+    /// The latest key with its round keys.
+    pub fn latest(&self) -> &Aes
+        requires some { 0 < length self.now.cached }
+        ensures key { result.now
+            ≡ key_of self.now.phrase self.now.bits (to_be_bytes w32 (slice_index self.now.cached 0)) }
+    {
+        &self.cached[0].cipher
+    }
+
+    /// The key of a nonce, which becomes the latest.
+    pub fn key_for(&mut self, nonce: [u8; 4]) -> Key
+        ensures value { key_octets result ≡ key_of self.old.phrase self.old.bits nonce }
+        ensures used { self.new ≡ after_use (from_be_bytes w32 nonce) self.old }
+    {
+        self.turn_to(nonce);
+        self.latest().key()
     }
 
     /// How many keys are cached.
     pub fn cached(&self) -> usize
         ensures value { result ≡ length self.now.cached }
-        ensures within { length self.now.cached ≤ 4 }
+        ensures within { length self.now.cached ≤ CACHED_KEYS }
     {
-        self.derived.len()
+        self.cached.len()
     }
 }

@@ -1,6 +1,8 @@
-//! Keys from a passphrase: HMAC (RFC 2104) and PBKDF2 (RFC 8018) over SHA-256, and a session's keys by nonce (this profile).
+//! Keys from a passphrase: HMAC (RFC 2104) and PBKDF2 (RFC 8018) over SHA-256, and a session's keys by nonce (this
+//! profile).
 #![tactic(auto)]
 
+mod cached;
 mod derivation;
 mod keys;
 mod mac;
@@ -8,6 +10,7 @@ mod phrase;
 #[cfg(test)]
 mod tests;
 
+pub use cached::CACHED_KEYS;
 pub use derivation::pbkdf2;
 pub use keys::{Keys, derived_key};
 pub use mac::hmac;

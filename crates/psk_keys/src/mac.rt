@@ -27,7 +27,7 @@ pub(crate) struct Mac {
 }
 
 impl Mac {
-    ghost use Rattle.psk_keys.specs.Keyed.{IsKeyed};
+    ghost use Rattle.psk_keys.specs.Inside.Keyed.{IsKeyed};
 
     pub(crate) fn of(key: &[u8]) -> Mac
         ensures { IsKeyed result key.now }

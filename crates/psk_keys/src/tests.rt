@@ -97,13 +97,6 @@ fn a_phrase_keeps_its_octets(rt: HostRuntime) {
     assert!(rt; Phrase::of(&longest).octets() == longest.as_slice());
 }
 
-fn octets_of(key: &Key) -> &[u8] {
-    match key {
-        Key::Short(octets) => octets,
-        Key::Long(octets) => octets,
-    }
-}
-
 // Python's hashlib: pbkdf2_hmac('sha256', b'correct horse', nonce, 1024), of the nonces 1 and 5.
 const FIRST: (u128, u128) = (
     0x89eab5119215f773089c8d36b10231b0,
@@ -121,7 +114,7 @@ fn the_first_key_comes_again_after_a_fifth(rt: HostRuntime) -> Result<(), Fail> 
     for nonce in [1_u32, 2, 3, 4, 5, 1, 1] {
         let key = keys.key_for(nonce.to_be_bytes());
         let want = pbkdf2(b"correct horse", &nonce.to_be_bytes(), 1024);
-        assert!(rt; octets_of(&key) == want.as_slice(), "nonce {nonce}");
+        assert!(rt; key.octets() == want.as_slice(), "nonce {nonce}");
         if let Key::Long(octets) = key
             && (nonce == 1 || nonce == 5)
         {
@@ -132,7 +125,10 @@ fn the_first_key_comes_again_after_a_fifth(rt: HostRuntime) -> Result<(), Fail> 
     assert_eq!(rt; keys.cached(), 4);
     let mut short = Keys::with(rt.alloc(), Phrase::of(b"correct horse"), 128)?;
     let key = short.key_for([0, 0, 0, 1]);
-    assert!(rt; octets_of(&key) == FIRST.0.to_be_bytes().as_slice());
+    assert!(rt; key.octets() == FIRST.0.to_be_bytes().as_slice());
+    assert_eq!(rt; short.cached(), 1);
+    short.turn_to([0, 0, 0, 1]);
+    assert!(rt; short.latest().key().octets() == FIRST.0.to_be_bytes().as_slice());
     assert_eq!(rt; short.cached(), 1);
     Ok(())
 }

@@ -1,7 +1,7 @@
 // A sealer's pairs of nonce and sequence number.
 ghost use Rattle.std.specs.Prelude.{◌≡◌, ◌≤◌, ◌<◌, ◌+◌, ◌-◌, ◌^◌, IfOk, OnOk, OnErr, Some, codes};
 ghost use Rattle.outside_io.specs.Causes.{HasCause};
-ghost use Rattle.psk_seal.specs.Nonces.{AreNonces, Draws, DrawsFewer};
+ghost use Rattle.psk_seal.specs.Nonces.{AreNonces, Draws, EndsAtFault};
 ghost use Rattle.psk_seal.specs.Sealer.{SealerState};
 ghost use Rattle.psk_seal.specs.Pairs.{pair_at};
 
@@ -58,21 +58,27 @@ pub struct Sealer {
 }
 
 impl Model for Sealer {
+    ghost use Rattle.std.specs.Prelude.{◌≤◌};
+    ghost use Rattle.psk_seal.specs.Nonces.{AreNonces};
+    ghost use Rattle.psk_seal.specs.Sealer.{SealerState};
+    ghost use Rattle.psk_seal.specs.declared.sealer.TheConstants.{MAX_PAIRS};
+
     ghost Value = { SealerState };
 
     ghost view = { λ s. record { nonces = s.nonces; given = s.given } };
 
-    ghost invariant = { λ s. AreNonces s.nonces × (s.given ≤ 2 ^ 36) };
+    ghost invariant = { λ s. AreNonces s.nonces × (s.given ≤ MAX_PAIRS) };
 }
 
 impl Sealer {
     /// Draws sixteen random words, each of which gives a nonce.
     pub fn with<E: Entropy>(entropy: &mut E) -> Result<Sealer, EntropyFault>
-        ensures ok { IfOk result (λ sealer. Draws (E.remaining entropy.old) (E.remaining entropy.new) sealer.nonces 16) }
+        ensures ok { IfOk result (λ sealer.
+            Draws (E.remaining entropy.old) (E.remaining entropy.new) sealer.nonces NONCE_COUNT) }
         ensures nonces { IfOk result (λ sealer. AreNonces sealer.nonces) }
         ensures fresh { IfOk result (λ sealer. sealer.given ≡ 0) }
-        // What was drawn before a fault was drawn.
-        ensures err { OnErr result (DrawsFewer (E.remaining entropy.old) (E.remaining entropy.new)) }
+        // What was drawn before a fault was drawn, and nothing more.
+        ensures err { OnErr result (EndsAtFault E.remaining E.faults entropy.old entropy.new) }
         ensures cause { HasCause (E.faults entropy.old) (E.faults entropy.new) result }
     {
         let mut nonces = [0; NONCE_COUNT];
@@ -89,8 +95,8 @@ impl Sealer {
     pub fn next(&mut self) -> Result<Pair, Spent>
         ensures value { IfOk result (λ pair. pair ≡ pair_at self.old.nonces self.old.given) }
         ensures state { OnOk result (self.new ≡ record self.old { given = self.old.given + 1 }) }
-        ensures complete { OnOk result (self.old.given < 2 ^ 36) }
-        ensures spent { OnErr result (self.old.given ≡ 2 ^ 36) }
+        ensures complete { OnOk result (self.old.given < MAX_PAIRS) }
+        ensures spent { OnErr result (self.old.given ≡ MAX_PAIRS) }
         ensures same { OnErr result (self.new ≡ self.old) }
     {
         if self.given == MAX_PAIRS {
@@ -106,8 +112,8 @@ impl Sealer {
 
     /// How many pairs it has still to give.
     pub fn left(&self) -> u64
-        ensures value { result ≡ 2 ^ 36 - self.now.given }
-        ensures within { self.now.given ≤ 2 ^ 36 }
+        ensures value { result ≡ MAX_PAIRS - self.now.given }
+        ensures within { self.now.given ≤ MAX_PAIRS }
     {
         MAX_PAIRS - self.given
     }
@@ -115,7 +121,7 @@ impl Sealer {
     // Goes to the pair of this number.
     #[cfg(test)]
     pub(crate) fn skip_to(&mut self, given: u64)
-        requires within { given ≤ 2 ^ 36 }
+        requires within { given ≤ MAX_PAIRS }
     {
         self.given = given;
     }

@@ -3,10 +3,9 @@ use Rattle.std.proofs.Common.{◌≡◌, ℕ, List, [], ◌∷◌, length, bit_x
 use Rattle.std.specs.Int.Bits.{xor_assoc, xor_self, xor_zero_r}
 use Rattle.std.specs.Simd.Lanes.{zip2}
 use Rattle.std.proofs.lemmas.List.FromFn.{length-map-range_with_len}
-use Rattle.psk_seal.specs.Pairs.{first_counter_block}
 use Rattle.aes_ctr.specs.Ctr.{ctr, keystream, keystream_octet}
 use Rattle.std.proofs.lemmas.Simd.{length-zip2}
-use Rattle.rist_wire.specs.Cipher.{key_by, ciphered, ciphered_under, ciphered_by}
+use Rattle.rist_wire.specs.Cipher.{first_counter_block, key_by, ciphered, ciphered_under, ciphered_by}
 
 sum-twice : (octet key : ℕ) → bit_xor (bit_xor octet key) key ≡ octet
 sum-twice octet key = xor_assoc octet key key ∙ ap (bit_xor octet) (xor_self key) ∙ xor_zero_r octet

@@ -32,7 +32,7 @@ use Rattle.rist_wire.specs.declared.item.Item.TheVariants.{Media as MediaItem}
 use Rattle.rist_wire.specs.declared.item.Kind.{Kind}
 use Rattle.rist_wire.specs.declared.item.Kind.TheVariants.{Media as MediaKind, Keepalive as KeepaliveKind}
 use Rattle.rist_wire.specs.Cipher.{key_by, ciphered, ciphered_under}
-use Rattle.psk_seal.specs.Pairs.{first_counter_block}
+use Rattle.rist_wire.specs.Cipher.{first_counter_block}
 use Rattle.rist_wire.specs.Media.{MediaValue, can_restore, flow_of, is_again, width_by, word_by}
 use Rattle.rist_wire.specs.Messages.{word_in, known_word, media_with, tested_media, media_by, rtp_item, item_by}
 use Rattle.rist_wire.specs.Item.{item_of}

@@ -1,9 +1,8 @@
 -- How datagrams of a session with a passphrase are enciphered (this profile): AES (FIPS 197) in counter mode
 -- (NIST SP 800-38A) under a key that PBKDF2 (RFC 8018) derives.
-use Rattle.std.specs.Prelude.{ℕ, List, Option, Some, None, unwrap_or}
+use Rattle.std.specs.Prelude.{ℕ, List, ◌++◌, replicate, Option, Some, None, unwrap_or}
 use Rattle.std.specs.Int.{w32, to_be_bytes}
 use Rattle.psk_keys.specs.Keys.{KeysState, key_of}
-use Rattle.psk_seal.specs.Pairs.{first_counter_block}
 use Rattle.aes_ctr.specs.Ctr.{ctr}
 
 -- a passphrase, and the bits of its keys
@@ -30,6 +29,10 @@ key_under (Some secret) (Some nonce) = Some (key_of secret.pass secret.bits (to_
 -- the same by a passphrase and the bits of its keys
 abbrev pub key_by : Option (List ℕ) → ℕ → Option ℕ → Option (List ℕ)
 key_by pass bits key = key_under (secret_with pass bits) key
+
+-- the first counter block of a datagram: its sequence number's four octets, and twelve zeros
+abbrev pub first_counter_block : ℕ → List ℕ
+first_counter_block sequence = to_be_bytes w32 sequence ++ replicate 12 0
 
 -- a text under a key, from the block of a sequence number: enciphered, and deciphered again
 unfoldable pub ciphered : List ℕ → ℕ → List ℕ → List ℕ

@@ -80,7 +80,8 @@ datagram_of session pair kind octets = datagram_on session.profile session pair 
 
 -- The datagram of a message on its channel, which is read back as that message. In a session with a passphrase it is
 -- enciphered under the pair.
-pub record IsDatagram (session : Session) (pair : Option Pair) (kind : Kind) (message : List ℕ) (way : Channel) (datagram : List ℕ) : Type 0 where
+pub record IsDatagram (session : Session) (pair : Option Pair) (kind : Kind) (message : List ℕ)
+    (way : Channel) (datagram : List ℕ) : Type 0 where
   pub channel : way ≡ channel_of session kind
   pub octets : datagram ≡ datagram_of session pair kind message
   pub item : item_of session way datagram ≡ item_by kind message

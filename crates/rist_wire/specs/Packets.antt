@@ -1,11 +1,12 @@
 -- The RTP packets of media.
-use Rattle.std.specs.Prelude.{ℕ, ◌+◌, ◌/◌, ◌%◌, ◌||◌, List, if◌then◌else◌, Option, Some, None, is_some}
+use Rattle.std.specs.Prelude.{ℕ, ◌+◌, ◌/◌, ◌%◌, ◌^◌, ◌||◌, List, if◌then◌else◌, Option, Some, None, is_some}
 use Rattle.std.specs.Int.{from_bool}
 use Rattle.seq_unwrap.specs.declared.width.Width.{Width}
 use Rattle.seq_unwrap.specs.declared.width.Width.TheVariants.{W16, W32}
 use Rattle.seq_unwrap.specs.Nearest.{cycle_of}
 use Rattle.ts_nulls.specs.Shape.{Shape}
 use Rattle.rist_ext.specs.declared.ext_word.ExtWord.{ExtWord}
+use Rattle.rist_ext.specs.declared.ext_word.TheConstants.{RIST_PROFILE}
 use Rattle.rist_ext.specs.Extension.{spelling as extension_spelling, nothing_unread}
 use Rattle.rtp_packet.specs.declared.writing.RtpHead.{RtpHead}
 use Rattle.rtp_packet.specs.Rtp.{RtpPacket, spelling as rtp_spelling}
@@ -16,7 +17,7 @@ use Rattle.rist_wire.specs.Writing.{MediaOut}
 -- the upper half of a number of 32 bits
 abbrev pub upper_for : Width → ℕ → Option ℕ
 upper_for W16 number = None
-upper_for W32 number = Some (number / 65536 % 65536)
+upper_for W32 number = Some (number / 2 ^ 16 % 2 ^ 16)
 
 -- the word of the extension
 abbrev pub word_for : Width → ℕ → Option Shape → ExtWord
@@ -25,11 +26,16 @@ word_for width number strip = record { strip = strip; upper = upper_for width nu
 -- the extension stands exactly where null packets were deleted or numbers have 32 bits
 abbrev pub extension_for : ExtWord → Option (ℕ × List ℕ)
 extension_for word =
-    if is_some word.strip || is_some word.upper then Some (0x5249, extension_spelling word nothing_unread) else None
+    if is_some word.strip || is_some word.upper then Some (RIST_PROFILE, extension_spelling word nothing_unread)
+    else None
 
 -- the header: the lowest bit of the source (SSRC) says that the packet is sent again
 abbrev pub head_for : MediaOut → RtpHead
-head_for media = record { number = media.number % 65536; stamp = media.stamp; ssrc = media.flow + from_bool media.again }
+head_for media = record {
+  number = media.number % 2 ^ 16;
+  stamp = media.stamp;
+  ssrc = media.flow + from_bool media.again;
+}
 
 -- the packet of media
 abbrev pub packet_for : Width → MediaOut → RtpPacket

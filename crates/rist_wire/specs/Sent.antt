@@ -2,6 +2,7 @@
 use Rattle.std.specs.Prelude.{◌≡◌, ℕ, ◌%◌, ◌^◌, ◌<◌, ◌≤◌, List, length, true, Option, IfSome}
 use Rattle.outside_io.specs.declared.channel.Channel.{Channel}
 use Rattle.psk_seal.specs.declared.sealer.Pair.{Pair}
+use Rattle.rtp_packet.specs.declared.rtp.TheConstants.{MAX_PAYLOAD}
 use Rattle.ts_nulls.specs.Shape.{IsShape}
 use Rattle.rist_wire.specs.declared.item.Kind.TheVariants.{Media as MediaKind}
 use Rattle.rist_wire.specs.declared.session.Session.{Session}
@@ -16,7 +17,7 @@ pub record IsMediaOut (media : MediaOut) : Type 0 where
   pub flow : media.flow < 2 ^ 32
   pub stamp : media.stamp < 2 ^ 32
   pub strip : IfSome media.strip (λ shape. IsShape shape.units shape.nulls)
-  pub payload : length media.payload ≤ 1500
+  pub payload : length media.payload ≤ MAX_PAYLOAD
   pub whole : can_restore media.strip media.payload ≡ true
 
 -- on which channel media goes

@@ -2,6 +2,7 @@
 use Rattle.std.specs.Prelude.{ℕ, ◌+◌, ◌-◌, ◌^◌, ◌<◌, Bool, false, List, ◌==◌, Option, Some, None, IfSome}
 use Rattle.ts_nulls.specs.Shape.{Shape}
 use Rattle.psk_seal.specs.declared.sealer.Pair.{Pair}
+use Rattle.psk_seal.specs.declared.sealer.TheConstants.{MAX_PAIRS}
 use Rattle.psk_seal.specs.Pairs.{pair_at}
 use Rattle.psk_seal.specs.Sealer.{SealerState}
 use Rattle.rist_wire.specs.declared.session.Session.{Session}
@@ -57,9 +58,9 @@ after_pair (Some sealer) = Some (record sealer { given = sealer.given + 1 })
 -- all pairs were given
 abbrev pub is_spent : Option SealerState → Bool
 is_spent None = false
-is_spent (Some sealer) = sealer.given == 2 ^ 36
+is_spent (Some sealer) = sealer.given == MAX_PAIRS
 
 -- how many pairs are left
 abbrev pub pairs_left : Option SealerState → Option ℕ
 pairs_left None = None
-pairs_left (Some sealer) = Some (2 ^ 36 - sealer.given)
+pairs_left (Some sealer) = Some (MAX_PAIRS - sealer.given)

@@ -1,8 +1,7 @@
 // Keys and counter blocks of enciphered datagrams.
 ghost use Rattle.std.specs.Prelude.{◌≡◌, None};
 ghost use Rattle.psk_keys.specs.Keys.{IsKeyLength};
-ghost use Rattle.psk_seal.specs.Pairs.{first_counter_block};
-ghost use Rattle.rist_wire.specs.Cipher.{key_by, ciphered, ciphered_under, key_under, secret_of};
+ghost use Rattle.rist_wire.specs.Cipher.{key_by, ciphered, ciphered_under, first_counter_block, key_under, secret_of};
 
 use crate::session::Session;
 use aes_block::Aes;
@@ -22,20 +21,6 @@ fn derived_by(session: &Session, nonce: Option<u32>) -> Option<Aes>
         ))),
         (Some(_), None) => None,
         (None, _) => None,
-    }
-}
-
-/// The key behind a header with this key field, where keys are kept.
-pub(crate) fn key_under(keys: &mut Option<Keys>, nonce: Option<u32>) -> Option<Aes>
-    ensures key { result ≡ key_under (secret_of keys.old) nonce }
-    ensures same { secret_of keys.new ≡ secret_of keys.old }
-{
-    let Some(keys) = keys else {
-        return None;
-    };
-    match nonce {
-        Some(nonce) => Some(Aes::new(&keys.key_for(nonce.to_be_bytes()))),
-        None => None,
     }
 }
 
@@ -61,6 +46,26 @@ pub(crate) fn cipher_under(key: &Option<Aes>, sequence: Option<u32>, text: &mut 
 {
     if let Some(key) = key {
         cipher(key, sequence.unwrap_or(0), text);
+    }
+}
+
+/// Deciphers a text in place under the key behind a header with this key field, where keys are kept. The key is cached
+/// with its round keys.
+pub(crate) fn decipher(
+    keys: &mut Option<Keys>,
+    nonce: Option<u32>,
+    sequence: Option<u32>,
+    text: &mut [u8],
+)
+    ensures text { text.new ≡ ciphered_under (key_under (secret_of keys.old) nonce) sequence text.old }
+    ensures same { secret_of keys.new ≡ secret_of keys.old }
+{
+    let Some(keys) = keys else {
+        return;
+    };
+    if let Some(nonce) = nonce {
+        keys.turn_to(nonce.to_be_bytes());
+        cipher(keys.latest(), sequence.unwrap_or(0), text);
     }
 }
 

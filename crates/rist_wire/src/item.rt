@@ -1,4 +1,6 @@
+use crate::bad::WireBad;
 use crate::media::Media;
+use crate::reading::item_in;
 use keepalive_msg::Keepalive;
 use rtcp_compound::Compound;
 
@@ -15,7 +17,7 @@ pub enum Item<'a> {
 
 /// What follows a datagram's headers.
 #[derive(Clone, Copy, Debug, PartialEq, Eq)]
-pub(crate) enum Kind {
+pub enum Kind {
     /// An RTP packet.
     Media,
     /// An RTCP compound.
@@ -24,9 +26,24 @@ pub(crate) enum Kind {
     Keepalive,
 }
 
-/// Where the message of a datagram lies: it begins at this place, and goes on to the end.
+/// Where the message of a datagram lies: behind its headers, up to the end.
 #[derive(Clone, Copy, Debug, PartialEq, Eq)]
-pub(crate) struct Part {
-    pub(crate) kind: Kind,
-    pub(crate) from: usize,
+pub struct Part {
+    /// What the message is.
+    pub kind: Kind,
+    /// The offset of its first octet in the datagram.
+    pub from: usize,
+}
+
+impl Part {
+    ghost use Rattle.std.specs.Prelude.{◌≡◌, ◌≤◌, length, drop};
+    ghost use Rattle.rist_wire.specs.Messages.{item_by};
+
+    /// The item that the message of this datagram says, or the first test that fails.
+    pub fn item<'a>(&self, octets: &'a [u8]) -> Result<Item<'a>, WireBad>
+        requires within { self.now.from ≤ length octets.now }
+        ensures value { result ≡ item_by self.now.kind (drop self.now.from octets.now) }
+    {
+        item_in(self.kind, &octets[self.from..])
+    }
 }

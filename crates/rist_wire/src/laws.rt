@@ -1,17 +1,23 @@
 //! What the definitions of items and of datagrams mean.
-ghost use Rattle.std.specs.Prelude.{◌≡◌, ◌≤◌, ◌+◌, ℕ, List, Option, Some, Ok, true, is_some, length};
+ghost use Rattle.std.specs.Prelude.{◌≡◌, ◌≤◌, ◌<◌, ◌+◌, ℕ, List, Option, Some, Ok, true, is_some, length};
+ghost use Rattle.aes_ctr.specs.Ctr.{counter_block};
 ghost use Rattle.psk_seal.specs.declared.sealer.Pair.{Pair};
+ghost use Rattle.psk_seal.specs.Nonces.{AreNonces};
+ghost use Rattle.psk_seal.specs.Pairs.{pair_at};
 ghost use Rattle.ts_nulls.specs.Nulls.{stripping_of, blanking_of};
 ghost use Rattle.ts_nulls.specs.Shape.{Shape};
 ghost use Rattle.outside_io.specs.declared.profile.Profile.TheVariants.{Main};
 ghost use Rattle.rist_wire.specs.declared.session.Session.{Session};
 ghost use Rattle.rist_wire.specs.declared.item.Item.TheVariants.{Media as MediaItem};
 ghost use Rattle.rist_wire.specs.Session.{IsSession};
+ghost use Rattle.rist_wire.specs.Cipher.{first_counter_block};
 ghost use Rattle.rist_wire.specs.Media.{can_restore, restored_payload};
 ghost use Rattle.rist_wire.specs.Item.{item_of};
 ghost use Rattle.rist_wire.specs.Writing.{IsPair, MediaOut};
 ghost use Rattle.rist_wire.specs.Packets.{media_value};
 ghost use Rattle.rist_wire.specs.Sent.{IsMediaOut, media_channel, media_datagram};
+
+use psk_seal::MAX_PAIRS;
 
 /// A payload whose null packets were deleted can be sent, and its content has them in their places.
 pub fn what_was_stripped_can_be_restored()
@@ -25,13 +31,24 @@ pub fn what_was_stripped_can_be_restored()
 
 /// A datagram of media is taken as that media in its session, with a pair exactly where there is a passphrase.
 pub fn media_that_is_written_is_taken()
-    ensures { (session : Session) (pair : Option Pair) (media : MediaOut) → IsSession session → (session.profile ≡ Main → IsPair pair)
+    ensures { (session : Session) (pair : Option Pair) (media : MediaOut)
+        → IsSession session → (session.profile ≡ Main → IsPair pair)
         → is_some pair ≡ is_some session.pass → IsMediaOut media
-        → item_of session (media_channel session) (media_datagram session pair media) ≡ Ok (MediaItem (media_value session.width media)) }
+        → item_of session (media_channel session) (media_datagram session pair media)
+        ≡ Ok (MediaItem (media_value session.width media)) }
 {}
 
 /// A datagram of media has at most 36 octets more than its payload.
 pub fn media_has_few_octets_of_headers()
     ensures { (session : Session) (pair : Option Pair) (media : MediaOut)
         → length (media_datagram session pair media) ≤ length media.payload + 36 }
+{}
+
+/// No counter block of the cipher is used twice under one nonce, by any two datagrams of one sealer: a datagram's text
+/// has at most 2,048 octets, so 128 blocks.
+pub fn no_counter_block_is_used_twice()
+    ensures { (nonces : List ℕ) (p q j k : ℕ) → AreNonces nonces → p < MAX_PAIRS → q < MAX_PAIRS → j < 128 → k < 128
+        → (pair_at nonces p).nonce ≡ (pair_at nonces q).nonce
+        → counter_block (first_counter_block (pair_at nonces p).sequence) j
+        ≡ counter_block (first_counter_block (pair_at nonces q).sequence) k → (p ≡ q) × (j ≡ k) }
 {}

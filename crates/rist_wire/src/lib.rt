@@ -18,7 +18,7 @@ mod shutter;
 mod tunnel;
 
 pub use bad::WireBad;
-pub use item::Item;
+pub use item::{Item, Kind, Part};
 pub use media::Media;
 pub use opener::Opener;
 pub use outside_io::Profile;

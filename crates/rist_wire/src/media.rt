@@ -2,9 +2,10 @@ ghost use Rattle.std.specs.Prelude.{◌≡◌, ◌≤◌, ◌<◌, true, length,
 ghost use Rattle.seq_unwrap.specs.Nearest.{cycle_of};
 ghost use Rattle.rist_wire.specs.Media.{can_restore, content_of, restored_payload};
 
+use rtp_packet::MAX_PAYLOAD;
 use seq_unwrap::Width;
 use std::marker::Model;
-use ts_nulls::{Strip, restore};
+use ts_nulls::{Strip, put_back};
 
 /// Media of a flow, a view of the octets of its datagram.
 #[derive(Debug, Drop)]
@@ -26,6 +27,7 @@ pub struct Media<'a> {
 impl<'a> Model for Media<'a> {
     ghost use Rattle.std.specs.Prelude.{◌≡◌, ◌≤◌, ◌<◌, true, length};
     ghost use Rattle.seq_unwrap.specs.Nearest.{cycle_of};
+    ghost use Rattle.rtp_packet.specs.declared.rtp.TheConstants.{MAX_PAYLOAD};
     ghost use Rattle.rist_wire.specs.Media.{MediaValue, can_restore};
 
     ghost Value = { MediaValue };
@@ -40,33 +42,31 @@ impl<'a> Model for Media<'a> {
       payload = m.payload.now;
     } };
 
-    ghost invariant = { λ m. (length m.payload.now ≤ 1500) × (can_restore m.strip m.payload.now ≡ true) × (m.word < cycle_of m.width) };
+    ghost invariant = { λ m. (length m.payload.now ≤ MAX_PAYLOAD) × (can_restore m.strip m.payload.now ≡ true)
+        × (m.word < cycle_of m.width) };
 }
 
 // Copies a payload to the front of a block, with its null packets put back if some were deleted, and says how
 // many octets that makes.
-fn put_restored(strip: &Option<Strip>, payload: &[u8], out: &mut [u8; 1500]) -> usize
-    requires payload { length payload.now ≤ 1500 }
+fn put_restored(strip: &Option<Strip>, payload: &[u8], out: &mut [u8; MAX_PAYLOAD]) -> usize
+    requires payload { length payload.now ≤ MAX_PAYLOAD }
     requires whole { can_restore strip.now payload.now ≡ true }
     ensures octets { take result out.new ≡ restored_payload strip.now payload.now }
-    ensures within { result ≤ 1500 }
+    ensures within { result ≤ MAX_PAYLOAD }
 {
     let Some(strip) = strip else {
         out[..payload.len()].copy_from_slice(payload);
         return payload.len();
     };
-    match restore(strip, payload, out) {
-        Ok(len) => len,
-        Err(_) => unreachable!(),
-    }
+    put_back(strip, payload, out)
 }
 
 impl<'a> Media<'a> {
     /// Copies the payload to the front of `out` with its null packets in their places, and says how many octets
     /// it has.
-    pub fn content(&self, out: &mut [u8; 1500]) -> usize
+    pub fn content(&self, out: &mut [u8; MAX_PAYLOAD]) -> usize
         ensures octets { take result out.new ≡ content_of self.now }
-        ensures within { result ≤ 1500 }
+        ensures within { result ≤ MAX_PAYLOAD }
     {
         put_restored(&self.strip, self.payload, out)
     }
@@ -74,11 +74,19 @@ impl<'a> Media<'a> {
     /// The payload as it was sent: without the null packets that were deleted.
     pub fn payload(&self) -> &'a [u8]
         ensures value { result.now ≡ self.now.payload }
-        ensures within { length result.now ≤ 1500 }
+        ensures within { length result.now ≤ MAX_PAYLOAD }
         // The bits of the number fit their width.
         ensures fits { self.now.word < cycle_of self.now.width }
     {
         self.payload
+    }
+
+    /// The bits of the number that were sent, which fit their width.
+    pub fn word(&self) -> u32
+        ensures value { result ≡ self.now.word }
+        ensures fits { result < cycle_of self.now.width }
+    {
+        self.word
     }
 
     /// Which null packets were deleted, where some were.

@@ -6,7 +6,6 @@ ghost use Rattle.rist_wire.specs.Item.{message_of, plain_of, item_of};
 
 use crate::bad::WireBad;
 use crate::item::{Item, Kind, Part};
-use crate::reading::item_in;
 use crate::session::Session;
 use crate::tunnel::tunnel_part;
 use outside_io::{Channel, NoMemory, Profile};
@@ -89,9 +88,9 @@ impl Opener {
         })
     }
 
-    // Deciphers a datagram in place, exactly where its header is read with a key in a session with a
-    // passphrase, and says where its message lies.
-    fn open(&mut self, channel: Channel, octets: &mut [u8]) -> Result<Part, WireBad>
+    /// Deciphers a datagram in place, exactly where its GRE header is read with a key in a session with a
+    /// passphrase, also if a later test fails; and says where its message lies, of which `Part::item` gives the item.
+    pub fn open(&mut self, channel: Channel, octets: &mut [u8]) -> Result<Part, WireBad>
         ensures message { message_at octets.new result ≡ message_of self.old channel octets.old }
         ensures within { IfOk result (λ part. part.from ≤ length octets.new) }
         ensures octets { octets.new ≡ plain_of self.old channel octets.old }
@@ -100,15 +99,14 @@ impl Opener {
         message_part(&self.session, &mut self.keys, channel, octets)
     }
 
-    /// Takes a datagram: its item, or the first test that fails. It is deciphered in place exactly where its
-    /// GRE header is read with a key in a session with a passphrase, also if a later test fails.
+    /// Takes a datagram: its item, or the first test that fails. It deciphers it in place as `open` does.
     #[tactic(auto, unfolding(crate::specs::Item::item_of))]
     pub fn take<'a>(&mut self, channel: Channel, octets: &'a mut [u8]) -> Result<Item<'a>, WireBad>
         ensures value { result ≡ item_of self.old channel octets.entry.now }
         ensures same { self.new ≡ self.old }
     {
         match self.open(channel, octets) {
-            Ok(part) => item_in(part.kind, &octets[part.from..]),
+            Ok(part) => part.item(octets),
             Err(bad) => Err(bad),
         }
     }

@@ -8,7 +8,7 @@ ghost use Rattle.rist_wire.specs.Writing.{media_out};
 ghost use Rattle.rist_wire.specs.Packets.{upper_for, media_octets, media_value};
 
 use rist_ext::{ExtWord, RIST_PROFILE};
-use rtp_packet::{RtpHead, write};
+use rtp_packet::{MAX_PAYLOAD, RtpHead, write};
 use seq_unwrap::Width;
 use ts_nulls::Strip;
 
@@ -33,7 +33,7 @@ pub(crate) fn put_media(
     out: &mut [u8; 2048],
 ) -> usize
     requires flow { flow % 2 ≡ 0 }
-    requires payload { length payload.now ≤ 1500 }
+    requires payload { length payload.now ≤ MAX_PAYLOAD }
     requires whole { can_restore strip payload.now ≡ true }
     ensures octets { take result out.new ≡ media_octets width (media_out flow again number stamp strip payload.now) }
     ensures item { item_by MediaKind (take result out.new)

@@ -20,6 +20,7 @@ use crate::sealing::{nonce_of, put_datagram};
 use crate::session::Session;
 use outside_io::Channel;
 use psk_seal::{Pair, Sealer, Spent};
+use rtp_packet::MAX_PAYLOAD;
 use std::marker::Model;
 use ts_nulls::Strip;
 
@@ -124,14 +125,15 @@ impl Shutter {
     ) -> Result<(Channel, usize), Spent>
         requires paired { is_some self.old.sealer ≡ is_some self.old.session.pass }
         requires flow { flow % 2 ≡ 0 }
-        requires payload { length payload.now ≤ 1500 }
+        requires payload { length payload.now ≤ MAX_PAYLOAD }
         requires strip { IsSome strip → self.old.session.nulls ≡ true }
         requires whole { can_restore strip payload.now ≡ true }
         ensures datagram { IfOk result (λ sent. IsDatagram self.old.session (next_pair self.old.sealer)
             MediaKind (media_octets self.old.session.width (media_out flow again number stamp strip payload.now))
             sent.0 (take sent.1 out.new)) }
         ensures read_back { IfOk result (λ sent. item_of self.old.session sent.0 (take sent.1 out.new)
-            ≡ Ok (MediaItem (media_value self.old.session.width (media_out flow again number stamp strip payload.now)))) }
+            ≡ Ok (MediaItem (media_value self.old.session.width
+            (media_out flow again number stamp strip payload.now)))) }
         ensures within { IfOk result (λ sent. sent.1 ≤ 2048) }
         ensures state { OnOk result (self.new ≡ record self.old { sealer = after_pair self.old.sealer }) }
         ensures spent { is_err result ≡ is_spent self.old.sealer }

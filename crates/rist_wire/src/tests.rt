@@ -251,6 +251,45 @@ fn what_is_enciphered_is_taken_under_its_passphrase(rt: HostRuntime) -> Result<(
     Ok(())
 }
 
+// Datagrams that are refused in a session with the passphrase `secret`, why, and what stands after it. The first is
+// KEYED[0] with one bit of the destination turned, which is turned in its text too; the second names no key.
+static REFUSED: [([u8; 29], WireBad, [u8; 29]); 2] = [
+    (
+        *b"\x30\x00\x88\xb6\x00\x00\x00\x01\x00\x00\x00\x00\x51\x74\xfe\xec\xb4\xdd\xf6\x6f\x0d\x72\xb6\x64\x32\x18\xa1\xba\x0f",
+        WireBad::Port,
+        *b"\x30\x00\x88\xb6\x00\x00\x00\x01\x00\x00\x00\x00\x07\xb0\x05\xb0\x80\x21\x00\x00\x00\x00\x00\x00\x10\x20\x30\x40\x41",
+    ),
+    (
+        *b"\x10\x00\x88\xb6\x00\x00\x00\x01\x07\xb0\x07\xb0\x80\x21\x00\x00\x00\x00\x00\x00\x10\x20\x30\x40AAAAA",
+        WireBad::Clear,
+        *b"\x10\x00\x88\xb6\x00\x00\x00\x01\x07\xb0\x07\xb0\x80\x21\x00\x00\x00\x00\x00\x00\x10\x20\x30\x40AAAAA",
+    ),
+];
+
+#[test]
+fn a_refused_datagram_is_deciphered_exactly_where_its_header_has_a_key(
+    rt: HostRuntime,
+) -> Result<(), Fail> {
+    let session = main_session(Some(Phrase::of(b"secret")), 128, Width::W16);
+    let mut opener = Opener::with(rt.alloc(), &session).ok().ok_or("memory")?;
+    for (octets, bad, after) in REFUSED {
+        let mut block = octets;
+        assert!(rt; matches!(opener.take(Channel::Tunnel, &mut block), Err(found) if found == bad));
+        assert!(rt; block == after);
+        let mut block = octets;
+        assert_eq!(rt; opener.open(Channel::Tunnel, &mut block), Err(bad));
+        assert!(rt; block == after);
+    }
+    let mut block = KEYED[0];
+    let part = opener
+        .open(Channel::Tunnel, &mut block)
+        .ok()
+        .ok_or("a part")?;
+    assert_eq!(rt; (part.kind, part.from), (Kind::Media, 16));
+    assert!(rt; matches!(part.item(&block), Ok(Item::Media(media)) if media.word() == 0));
+    Ok(())
+}
+
 // Whether a datagram is the keepalive of the SSRC 0x10203040.
 fn is_keepalive(opener: &mut Opener, octets: &[u8]) -> bool
     requires { length octets.now ≤ 20 }

@@ -6,7 +6,7 @@ ghost use Rattle.rist_wire.specs.Cipher.{secret_of, secret_with};
 ghost use Rattle.rist_wire.specs.Tunnel.{datagram_kind, datagram_message, text_message, cipher_fault, tunnel_message, plain_datagram, message_at};
 
 use crate::bad::WireBad;
-use crate::cipher::{cipher_under, key_under};
+use crate::cipher::decipher;
 use crate::item::{Kind, Part};
 use crate::session::Session;
 use gre_tunnel::{Gre, KEEPALIVE};
@@ -95,8 +95,7 @@ pub(crate) fn tunnel_part(
         Ok(gre) => gre,
         Err(bad) => return Err(WireBad::Gre(bad)),
     };
-    let key = key_under(keys, gre.key);
-    cipher_under(&key, gre.sequence, &mut octets[gre.rest..]);
+    decipher(keys, gre.key, gre.sequence, &mut octets[gre.rest..]);
     match cipher_fault(session, &gre) {
         Some(bad) => Err(bad),
         None => text_part(session.port, &gre, octets),

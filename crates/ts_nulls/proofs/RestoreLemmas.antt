@@ -4,10 +4,11 @@ use Rattle.std.specs.Prelude.{◌==◌, if◌then◌else◌, is_ok, replicate, R
 use Rattle.std.specs.Int.{bit_at}
 use Rattle.std.proofs.lemmas.List.{append-nil, length-drop}
 use Rattle.ts_nulls.specs.Packets.{packet_len, null_packet}
-use Rattle.std.proofs.lemmas.Bool.{eq-eqb, ne_eqb}
+use Rattle.std.proofs.lemmas.Bool.{eq-eqb, ne_eqb, eqb-true}
 use Rattle.ts_nulls.specs.declared.nulls.NullBad.{NullBad}
 use Rattle.ts_nulls.specs.declared.nulls.NullBad.TheVariants.{Shape as BadShape}
-use Rattle.ts_nulls.specs.Nulls.{null_flags, kept_count, restored, restoring_of}
+use Rattle.ts_nulls.specs.Shape.{Shape}
+use Rattle.ts_nulls.specs.Nulls.{null_flags, kept_count, flags_of, restored, restoring_of}
 
 -- ---- how many are kept
 pub record Counts (units left places bits kept : ℕ) : Type 0 where
@@ -146,6 +147,19 @@ restoring-good units bits size kept long octets made s k e m =
 pub Ok-if : (test : Bool) (whole : List ℕ) (bad : NullBad) → test ≡ is_ok (if test then Ok whole else Err bad)
 Ok-if true whole bad = refl
 Ok-if false whole bad = refl
+
+-- a payload that can be restored has the length of the packets that were kept
+pub restoring-whole : (shape : Shape) (octets : List ℕ) → is_ok (restoring_of shape octets) ≡ true
+    → length octets ≡ packet_len shape.long * kept_count (flags_of shape)
+unfolding restoring_of
+restoring-whole shape octets ok =
+    eqb-true (length octets) (packet_len shape.long * kept_count (flags_of shape))
+    (Ok-if (length octets == packet_len shape.long * kept_count (flags_of shape)) (restored shape.long (flags_of shape) octets) BadShape ∙ ok)
+
+-- the one refusal
+pub refused : (result : Result (List ℕ) NullBad) → is_ok result ≡ false → Err BadShape ≡ result
+refused (Ok octets) e = absurd cc
+refused (Err BadShape) e = refl
 
 pub restoring-test : (units bits size kept : ℕ) (long : Bool) (octets : List ℕ) → size ≡ packet_len long → kept ≡ kept_count (null_flags 7 units bits)
     → (length octets == size * kept) ≡ is_ok (restoring_of (record { units = units; long = long; nulls = bits }) octets)

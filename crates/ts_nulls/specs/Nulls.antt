@@ -67,7 +67,8 @@ blanking_of payload = blanking_by (packets_in (length payload)) payload
 abbrev pub restored : Bool → List Bool → List ℕ → List ℕ
 restored long [] octets = []
 restored long (true ∷ flags) octets = null_packet long ++ restored long flags octets
-restored long (false ∷ flags) octets = take (packet_len long) octets ++ restored long flags (drop (packet_len long) octets)
+restored long (false ∷ flags) octets =
+    take (packet_len long) octets ++ restored long flags (drop (packet_len long) octets)
 
 -- how many weren't null
 abbrev pub kept_count : List Bool → ℕ
@@ -82,7 +83,8 @@ flags_of shape = null_flags 7 shape.units shape.nulls
 -- the whole payload, of what was kept; the length has to be that of the packets that weren't null
 unfoldable pub restoring_of : Shape → List ℕ → Result (List ℕ) NullBad
 restoring_of shape octets =
-    if length octets == packet_len shape.long * kept_count (flags_of shape) then Ok (restored shape.long (flags_of shape) octets)
+    if length octets == packet_len shape.long * kept_count (flags_of shape)
+    then Ok (restored shape.long (flags_of shape) octets)
     else Err BadShape
 
 -- what was written at the front of a block

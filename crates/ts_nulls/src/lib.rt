@@ -9,7 +9,8 @@ mod restoring;
 mod stripping;
 
 pub use nulls::{NullBad, Strip};
-pub use restoring::{can_restore, restore};
+pub use packets::{BLOCK_LEN, MAX_PACKETS_LEN};
+pub use restoring::{can_restore, put_back, restore};
 pub use stripping::strip;
 
 #[cfg(test)]

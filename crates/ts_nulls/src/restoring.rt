@@ -1,15 +1,15 @@
-ghost use Rattle.std.specs.Prelude.{◌≡◌, ◌+◌, ◌-◌, ◌*◌, ◌<◌, ◌≤◌, ◌++◌, ◌==◌, if◌then◌else◌, false, IfOk, OnErr, is_ok, length, take, drop};
+ghost use Rattle.std.specs.Prelude.{◌≡◌, ◌+◌, ◌-◌, ◌*◌, ◌<◌, ◌≤◌, ◌++◌, ◌==◌, if◌then◌else◌, true, false, Ok, IfOk, OnErr, is_ok, length, take, drop};
 ghost use Rattle.std.specs.Int.{bit_at};
 ghost use Rattle.ts_nulls.specs.Nulls.{null_flags, kept_count, restored, restoring_of, written};
 ghost use Rattle.ts_nulls.specs.Packets.{packet_len, null_packet};
 
 use crate::nulls::{NullBad, Strip};
-use crate::packets::packet_len;
+use crate::packets::{BLOCK_LEN, LONG_LEN, MAX_PACKETS, MAX_PACKETS_LEN, SYNC_BYTE, packet_len};
 use octet_fields::put_at;
 
 // Whether the packet at this place was null.
 fn was_null(nulls: u8, place: u8) -> bool
-    requires { place < 7 }
+    requires { place < MAX_PACKETS }
     ensures { result ≡ (bit_at nulls (6 - place) == 1) }
 {
     (nulls >> (6 - place)) & 1 == 1
@@ -17,7 +17,7 @@ fn was_null(nulls: u8, place: u8) -> bool
 
 // One where the packet at this place was kept.
 fn kept_at(nulls: u8, place: u8) -> usize
-    requires { place < 7 }
+    requires { place < MAX_PACKETS }
     ensures value { result ≡ (if bit_at nulls (6 - place) == 1 then 0 else 1) }
     ensures within { result ≤ 1 }
 {
@@ -25,9 +25,9 @@ fn kept_at(nulls: u8, place: u8) -> usize
 }
 
 fn kept_count(units: u8, nulls: u8) -> usize
-    requires { units ≤ 7 }
+    requires { units ≤ MAX_PACKETS }
     ensures count { result ≡ kept_count (null_flags 7 units nulls) }
-    ensures within { result ≤ 7 }
+    ensures within { result ≤ MAX_PACKETS }
 {
     let mut kept = 0;
     for place in 0..units {
@@ -42,8 +42,8 @@ fn put_null(out: &mut [u8], at: usize, long: bool) -> usize
     ensures end { result ≡ at + packet_len long }
     ensures octets { take result out.new ≡ take at out.old ++ null_packet long }
 {
-    let mut packet = [0xff; 204];
-    packet[0] = 0x47;
+    let mut packet = [0xff; LONG_LEN];
+    packet[0] = SYNC_BYTE;
     packet[1] = 0x1f;
     packet[3] = 0x10;
     put_at(out, at, &packet[..packet_len(long)])
@@ -60,7 +60,8 @@ fn put_next<'a>(
     requires room { at + packet_len long ≤ length out.old }
     requires rest { null ≡ false → packet_len long ≤ length rest.now }
     ensures end { result.0 ≡ at + packet_len long }
-    ensures octets { take result.0 out.new ≡ take at out.old ++ (if null then null_packet long else take (packet_len long) rest.now) }
+    ensures octets { take result.0 out.new
+        ≡ take at out.old ++ (if null then null_packet long else take (packet_len long) rest.now) }
     ensures rest { result.1.now ≡ (if null then rest.now else drop (packet_len long) rest.now) }
 {
     if null {
@@ -71,8 +72,8 @@ fn put_next<'a>(
 }
 
 // Writes all packets of a payload, and says how many octets they are.
-fn put_back(octets: &[u8], units: u8, long: bool, nulls: u8, out: &mut [u8; 1500]) -> usize
-    requires few { units ≤ 7 }
+fn put_packets(octets: &[u8], units: u8, long: bool, nulls: u8, out: &mut [u8; BLOCK_LEN]) -> usize
+    requires few { units ≤ MAX_PACKETS }
     requires whole { length octets.now ≡ packet_len long * kept_count (null_flags 7 units nulls) }
     ensures octets { take result out.new ≡ restored long (null_flags 7 units nulls) octets.now }
     ensures end { result ≡ packet_len long * units }
@@ -94,16 +95,25 @@ pub fn can_restore(strip: &Strip, payload: &[u8]) -> bool
     payload.len() == packet_len(strip.long) * kept_count(strip.units, strip.nulls)
 }
 
+/// Copies a payload that can be restored to the front of `out`, with its null packets put back, and says how many octets
+/// that makes.
+pub fn put_back(strip: &Strip, payload: &[u8], out: &mut [u8; BLOCK_LEN]) -> usize
+    requires whole { is_ok (restoring_of strip.now payload.now) ≡ true }
+    ensures octets { Ok (take result out.new) ≡ restoring_of strip.now payload.now }
+    ensures within { result ≤ MAX_PACKETS_LEN }
+{
+    put_packets(payload, strip.units, strip.long, strip.nulls, out)
+}
+
 /// Copies a payload with its null packets put back to the front of `out`, and says how many octets it has.
 /// Where they can't be put back, nothing is written.
-pub fn restore(strip: &Strip, payload: &[u8], out: &mut [u8; 1500]) -> Result<usize, NullBad>
+pub fn restore(strip: &Strip, payload: &[u8], out: &mut [u8; BLOCK_LEN]) -> Result<usize, NullBad>
     ensures value { written out.new result ≡ restoring_of strip.now payload.now }
-    ensures within { IfOk result (λ len. len ≤ 1428) }
+    ensures within { IfOk result (λ len. len ≤ MAX_PACKETS_LEN) }
     ensures same { OnErr result (out.new ≡ out.old) }
 {
-    let kept = kept_count(strip.units, strip.nulls);
-    if payload.len() != packet_len(strip.long) * kept {
+    if !can_restore(strip, payload) {
         return Err(NullBad::Shape);
     }
-    Ok(put_back(payload, strip.units, strip.long, strip.nulls, out))
+    Ok(put_back(strip, payload, out))
 }

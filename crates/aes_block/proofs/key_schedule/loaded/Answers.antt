@@ -1,7 +1,7 @@
 use Rattle.std.proofs.Common.{◌≡◌, ◌/◌, ℕ, length, take, map, ap, sym, ◌∙◌, arith, length-set}
 use Rattle.std.proofs.lemmas.List.{take_all}
 use Rattle.aes_block.specs.Schedule.{words_of}
-use Rattle.aes_block.specs.Columns.{word_octets}
+use Rattle.aes_block.specs.Inside.Words.{word_octets}
 use Rattle.aes_block.proofs.ScheduleLemmas.{length-words_of, words_more}
 use Rattle.aes_block.proofs.key_schedule.loaded.Goals as goal
 

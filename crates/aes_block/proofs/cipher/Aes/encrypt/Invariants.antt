@@ -1,8 +1,8 @@
 use Rattle.std.proofs.Common.{◌≡◌, ◌-◌, map}
-use Rattle.aes_block.specs.Cipher.{state_after}
-use Rattle.aes_block.specs.Columns.{column_octets, word_octets}
+use Rattle.aes_block.specs.Cipher.{expanded_key, key_octets, state_after}
+use Rattle.aes_block.specs.Inside.Tower.{untower}
 use Rattle.aes_block.proofs.cipher.Aes.encrypt.Given as goal
 
 abbrev pub invariant-loop-round : goal.invariant-loop-round
 invariant-loop-round l =
-    column_octets l.state ≡ state_after (map word_octets l.self-inside.words) (l.round - 1) l.fn.block
+    map untower l.state ≡ state_after (expanded_key (key_octets l.self-inside.key)) (l.round - 1) l.fn.block

@@ -1,0 +1,5 @@
+pub mod Words
+pub mod Tables
+pub mod Tower
+pub mod Mix
+pub mod Keys

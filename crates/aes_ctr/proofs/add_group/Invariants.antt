@@ -1,9 +1,0 @@
-use Rattle.std.proofs.Common.{◌≡◌, ℕ, [], ◌+◌, ◌/◌, ◌%◌, ◌<◌, ◌≤◌, get_or, bit_xor}
-use Rattle.aes_ctr.proofs.add_group.Given as goal
-
-abbrev pub invariant-loop-place : goal.invariant-loop-place
-invariant-loop-place l = record {
-  group : (k : ℕ) → k < l.place → get_or l.text (l.at + k) 0 ≡ bit_xor (get_or l.fn.text (l.at + k) 0) (get_or (get_or l.blocks (k / 16) []) (k % 16) 0);
-  before : (k : ℕ) → k < l.at → get_or l.text k 0 ≡ get_or l.fn.text k 0;
-  after : (k : ℕ) → l.at + l.place ≤ k → get_or l.text k 0 ≡ get_or l.fn.text k 0;
-}
