@@ -1,9 +1,11 @@
-pub mod PhaseLemmas
-pub mod HeldLemmas
-pub mod DueLemmas
-pub mod StateAfterLemmas
-pub mod WriteLemmas
-pub mod ReleaseLemmas
-pub mod SetLemmas
-pub mod AdmitLemmas
-pub mod ReceiveLemmas
+mod PhaseLemmas
+mod PlaceLemmas
+mod RingLemmas
+mod AroundLemmas
+mod SpanLemmas
+mod RingChangeLemmas
+mod HeldLemmas
+mod StateAfterLemmas
+mod WriteLemmas
+mod ReleaseLemmas
+mod ReceiveLemmas

@@ -14,9 +14,9 @@ use Rattle.receiver_rules.specs.History.{new_anchor, anchor_of, accepted_packets
 use Rattle.receiver_rules.proofs.HistoryLemmas.{played_out_arrival}
 use Rattle.reorder_buffer.specs.State.{State}
 use Rattle.reorder_buffer.specs.StateAfter.{Shows, IsStateAfter}
-use Rattle.reorder_buffer.specs.Tests.{judged, verdict_here, anchor_at, placed_at}
-use Rattle.reorder_buffer.specs.Changes.{holding, moved, taken, raised, settled}
-use Rattle.reorder_buffer.specs.Release.{floor_then, octets_below}
+use Rattle.reorder_buffer.specs.Inside.Tests.{judged, verdict_here, anchor_at, placed_at}
+use Rattle.reorder_buffer.specs.Inside.Changes.{holding, moved, taken, raised}
+use Rattle.reorder_buffer.specs.Inside.Release.{floor_then, octets_below}
 use Rattle.reorder_buffer.specs.declared.phase.Phase.{Phase}
 use Rattle.reorder_buffer.specs.declared.phase.Phase.TheVariants.{Open, Failed}
 use Rattle.reorder_buffer.proofs.StateAfterLemmas.{Arrives, verdict_after_steps, state_after_arrival, shows_arrival, still_open}
@@ -63,13 +63,9 @@ pub shows_taken : (b : State) (history : List Step) (at : ℕ) (arrival : Arriva
 shows_taken b history at arrival f =
     shows_arrival (taken (then_state b at) at arrival) history at at arrival (at_now b history at f) (state_after_arrival (then_state b at) (time_step at ∷ history) at arrival (arrives_then b history at f))
 
--- what is left after the packet was settled, and the time moved
-pub settled_taken : (b : State) (at : ℕ) (arrival : Arrival) (p : Packet) (v : Verdict) → v ≡ judged (then_state b at) at arrival → p ≡ placed_at b at arrival
-    → moved (settled b at v p) at (anchor_at b at arrival) ≡ taken (then_state b at) at arrival
-settled_taken b at arrival p v e same =
-    ap (λ q. moved (settled b at v q) at (anchor_at b at arrival)) same
-    ∙ by_verdict (is_kept v)
-    ∙ ap (λ w. moved (cond (is_kept w) (holding (then_state b at) (placed_at b at arrival)) (then_state b at)) at (anchor_at b at arrival)) e
+-- an arrival moves the time to its own
+pub taken_then : (b : State) (at : ℕ) (arrival : Arrival) → taken (raised b (floor_then b (At at))) at arrival ≡ taken (then_state b at) at arrival
+taken_then b at arrival = by_verdict (is_kept (judged (then_state b at) at arrival))
   where
     by_verdict : (c : Bool) → moved (cond c (holding (raised b (floor_then b (At at))) (placed_at b at arrival)) (raised b (floor_then b (At at)))) at (anchor_at b at arrival)
         ≡ moved (cond c (holding (then_state b at) (placed_at b at arrival)) (then_state b at)) at (anchor_at b at arrival)
@@ -93,26 +89,3 @@ pub received_part : (b : State) (history : List Step) (at : ℕ) (arrival : Arri
 received_part b history at arrival old new f put =
     let w = part_then b history (time_step at) (At at) old new (pass_follows b history at f.state f.running f.clock) put in
     (w.0, w.1, (w.2.0, same_bytes b history at arrival f ∙ w.2.1))
-
--- the verdict by the parts that the code has
-pub same_judged : (b : State) (at : ℕ) (arrival : Arrival) (floor : ℕ) (a : Anchor) (number : ℕ) (deadline : ℤ) → floor ≡ floor_then b (At at) → a ≡ anchor_at b at arrival
-    → number ≡ (placed_packet b.limits a b.highest arrival).number → deadline ≡ (placed_packet b.limits a b.highest arrival).deadline
-    → verdict_here (raised b floor) a at arrival.flow number deadline ≡ judged (then_state b at) at arrival
-same_judged b at arrival floor a number deadline f is n d =
-    ap (λ k. verdict_here (raised b k) a at arrival.flow number deadline) f
-    ∙ ap (λ k. verdict_here (raised b (floor_then b (At at))) a at arrival.flow k deadline) n
-    ∙ ap (λ k. verdict_here (raised b (floor_then b (At at))) a at arrival.flow (placed_packet b.limits a b.highest arrival).number k) d
-    ∙ ap (λ k. verdict_here (raised b (floor_then b (At at))) k at arrival.flow (placed_packet b.limits k b.highest arrival).number (placed_packet b.limits k b.highest arrival).deadline) is
-
--- the packet at a place
-pub same_packet : (b : State) (at : ℕ) (arrival : Arrival) (a : Anchor) (place : Place) → a ≡ anchor_at b at arrival → IsPlaceOf place (placed_packet b.limits a b.highest arrival) → packet_at place arrival.payload ≡ placed_at b at arrival
-same_packet b at arrival a place is p =
-    (λ i. record { number = p.number i; timestamp = p.timestamp i; deadline = p.deadline i; payload = arrival.payload })
-    ∙ ap (λ k. placed_packet b.limits k b.highest arrival) is
-
--- an error at one type of answers is the same error at another
-pub same_err : {T U E : Type 0} (bad e : E) → IsErrOf {T = T} (Err bad) e → IsErrOf {T = U} (Err bad) e
-same_err {T = T} {E = E} bad e is = ap Err (inside is)
-  where
-    inside : ◌≡◌ {A = Result T E} (Err bad) (Err e) → bad ≡ e
-    inside p = cc

@@ -12,9 +12,10 @@ use Rattle.receiver_rules.proofs.PacketLemmas.{rising-filter, IsLater, later_At,
 use Rattle.receiver_rules.proofs.HistoryLemmas.{now_open}
 use Rattle.reorder_buffer.specs.State.{State}
 use Rattle.reorder_buffer.specs.StateAfter.{Shows, IsStateAfter}
-use Rattle.reorder_buffer.specs.Changes.{raised}
-use Rattle.reorder_buffer.specs.Sound.{AllBelow, IsWithin, IsSound}
-use Rattle.reorder_buffer.specs.Release.{octets_below, floor_then}
+use Rattle.reorder_buffer.specs.Inside.Changes.{raised}
+use Rattle.reorder_buffer.specs.Inside.Sound.{IsSound}
+use Rattle.reorder_buffer.specs.Inside.Span.{AllBelow, IsWithin}
+use Rattle.reorder_buffer.specs.Inside.Release.{octets_below, floor_then}
 use Rattle.reorder_buffer.specs.declared.phase.Phase.{Phase}
 use Rattle.reorder_buffer.specs.declared.phase.Phase.TheVariants.{Open, Ended, Failed}
 use Rattle.reorder_buffer.proofs.StateAfterLemmas.{still_open}
@@ -35,12 +36,12 @@ below-filter f bound [] h = tt
 below-filter f bound (p ∷ ps) h =
     elim (f p) as (λ b. AllBelow bound (cond b (p ∷ filter f ps) (filter f ps))) [ true ↦ (h.0, below-filter f bound ps h.1) | false ↦ below-filter f bound ps h.1 ]
 
-below_higher : (low high : ℕ) (ps : List Packet) → low ≤ high → AllBelow low ps → AllBelow high ps
+pub below_higher : (low high : ℕ) (ps : List Packet) → low ≤ high → AllBelow low ps → AllBelow high ps
 below_higher low high [] h b = tt
 below_higher low high (p ∷ ps) h b = (omega (arith, b.0), below_higher low high ps h b.1)
 
 -- the numbers behind the first stay within its span, also where the first has gone
-within-tail : (span low first : ℕ) (ps : List Packet) → first ≤ low → IsRising low ps → AllBelow (first + span) ps → IsWithin span ps
+pub within-tail : (span low first : ℕ) (ps : List Packet) → first ≤ low → IsRising low ps → AllBelow (first + span) ps → IsWithin span ps
 within-tail span low first [] h r b = tt
 within-tail span low first (p ∷ ps) h r b = below_higher (first + span) (p.number + span) ps (omega (arith, r.0)) b.1
 

@@ -15,8 +15,8 @@ use Rattle.receiver_rules.specs.declared.anchor.Highest.{Highest}
 use Rattle.receiver_rules.specs.Bounds.{AreInRange, IsEarlyAnchor, IsMid}
 use Rattle.reorder_buffer.specs.State.{State}
 use Rattle.reorder_buffer.specs.StateAfter.{Shows, IsStateAfter}
-use Rattle.reorder_buffer.specs.Tests.{verdict_here, anchor_at, placed_at, judged}
-use Rattle.reorder_buffer.specs.Changes.{holding, moved, taken}
+use Rattle.reorder_buffer.specs.Inside.Tests.{verdict_here, anchor_at, placed_at, judged}
+use Rattle.reorder_buffer.specs.Inside.Changes.{holding, moved, taken}
 use Rattle.reorder_buffer.specs.declared.phase.Phase.{Phase}
 use Rattle.reorder_buffer.specs.declared.phase.Phase.TheVariants.{Open, Ended, Failed}
 use Rattle.reorder_buffer.proofs.PhaseLemmas.{not_failed}

@@ -1,16 +1,15 @@
 -- Writing the packets below a floor, one by one.
-use Rattle.std.proofs.Common.{◌≡◌, ℕ, ◌+◌, ◌<◌, ◌≤◌, Bool, false, cond, not, List, [], ◌∷◌, ◌++◌, Option, Some, None, length, refl, sym, ◌∙◌, ap, subst, map, arith, append_assoc, length-append}
+use Rattle.std.proofs.Common.{◌≡◌, ℕ, ◌+◌, ◌<◌, ◌≤◌, Bool, true, false, cond, not, List, [], ◌∷◌, ◌++◌, Option, Some, None, length, refl, sym, ◌∙◌, ap, subst, map, arith, append_assoc, length-append}
 use Rattle.std.proofs.lemmas.List.{nil_from_length}
 use Rattle.std.specs.Prelude.{nat_lt, Result, Ok, Err, OnErr}
-use Rattle.std.proofs.lemmas.Bool.{lt-ltb, le-ltb}
+use Rattle.std.proofs.lemmas.Bool.{lt-ltb, le-ltb, ltb-true, ltb-false}
 use Rattle.std.specs.List.{filter, concat}
 use Rattle.std.specs.Option.{option_map}
 use Rattle.outside_io.specs.Told.{Appends, AppendsPart}
 use Rattle.receiver_rules.specs.Packets.{Packet, IsRising, is_below, is_from}
 use Rattle.receiver_rules.proofs.PacketLemmas.{rising_lower}
-use Rattle.reorder_buffer.specs.Release.{octets_below}
-use Rattle.reorder_buffer.specs.Shown.{packet_of, packets_of, PopsBelow, IsNoneBelow}
-use Rattle.reorder_buffer.specs.declared.packets.Held.{Held}
+use Rattle.reorder_buffer.specs.Inside.Release.{octets_below}
+use Rattle.reorder_buffer.specs.Inside.Ring.{first_payload, after_first, starts_below}
 
 -- what was put before, and what is put then
 pub appends_both : (a b c : Option (List ℕ)) (x y : List ℕ) → Appends a b x → Appends b c y → Appends a c (x ++ y)
@@ -104,50 +103,47 @@ written_all floor before told all left count h w =
       counted = let e : length (filter (is_below floor) left) ≡ length {A = Packet} [] = ap length none.0 in let c = w.counted in grind (arith, e, c);
     }
 
--- ---- the same, by the map's entries
-
-first_is : (floor : ℕ) (before told : Option (List ℕ)) (all : List Packet) (old new : List (ℕ × Held)) (packet : Held) (count : ℕ) → Writes floor before told all (packets_of old) count → (pops : PopsBelow floor old packet new) → Writes floor before told all (packet_of (pops.0, packet) ∷ packets_of new) count
-first_is floor before told all old new packet count w pops = subst (λ es. Writes floor before told all (packets_of es) count) pops.2 w
-
-pub pops_more : (floor : ℕ) (before told told' : Option (List ℕ)) (all : List Packet) (old new : List (ℕ × Held)) (packet : Held) (count : ℕ) → Writes floor before told all (packets_of old) count → PopsBelow floor old packet new → Appends told told' packet.payload.items → Writes floor before told' all (packets_of new) (count + 1)
-pops_more floor before told told' all old new packet count w pops put =
-    writes_more floor before told told' all (packet_of (pops.0, packet)) (packets_of new) count pops.1 (first_is floor before told all old new packet count w pops) put
-
-pub pops_part : (floor : ℕ) (before told told' : Option (List ℕ)) (all : List Packet) (old new : List (ℕ × Held)) (packet : Held) (count : ℕ) → Writes floor before told all (packets_of old) count → PopsBelow floor old packet new → AppendsPart told told' packet.payload.items → AppendsPart before told' (octets_below floor all)
-pops_part floor before told told' all old new packet count w pops part =
-    writes_part floor before told told' all (packet_of (pops.0, packet)) (packets_of new) count pops.1 (first_is floor before told all old new packet count w pops) part
+-- ---- the same, by what the ring holds
 
 length_filter : (f : Packet → Bool) (ps : List Packet) → length (filter f ps) ≤ length ps
 length_filter f [] = omega arith
 length_filter f (p ∷ ps) = grind (arith, length_filter f ps)
 
-pub length_packets : (es : List (ℕ × Held)) → length (packets_of es) ≡ length es
-length_packets [] = refl
-length_packets (e ∷ es) = grind (arith, length_packets es)
+-- the first packet is below the floor
+pub first_more : (floor : ℕ) (before told new : Option (List ℕ)) (all left : List Packet) (count : ℕ) → starts_below floor left ≡ true → Writes floor before told all left count → Appends told new (first_payload left) → Writes floor before new all (after_first left) (count + 1)
+first_more floor before told new all [] count first w put = cc
+first_more floor before told new all (p ∷ left) count first w put = writes_more floor before told new all p left count (ltb-true _ _ first) w put
+
+pub first_part : (floor : ℕ) (before told new : Option (List ℕ)) (all left : List Packet) (count : ℕ) → starts_below floor left ≡ true → Writes floor before told all left count → AppendsPart told new (first_payload left) → AppendsPart before new (octets_below floor all)
+first_part floor before told new all [] count first w part = cc
+first_part floor before told new all (p ∷ left) count first w part = writes_part floor before told new all p left count (ltb-true _ _ first) w part
 
 -- where nothing is to be written the payload is empty
-pub pops_nothing : (floor : ℕ) (before told : Option (List ℕ)) (all : List Packet) (old new : List (ℕ × Held)) (packet : Held) (count : ℕ) → Writes floor before told all (packets_of old) count → PopsBelow floor old packet new → octets_below floor all ≡ [] → packet.payload.items ≡ []
-pops_nothing floor before told all old new packet count w pops none =
-    let first = first_is floor before told all old new packet count w pops in
-    let octets = ap length (octets-cons floor (packet_of (pops.0, packet)) (packets_of new) pops.1) in
-    let whole = ap length (first.octets ∙ none) in
-    nil_from_length packet.payload.items (omega (arith, octets, whole, length-append first.done (octets_below floor (packet_of (pops.0, packet) ∷ packets_of new)), length-append packet.payload.items (octets_below floor (packets_of new))))
+pub first_nothing : (floor : ℕ) (before told : Option (List ℕ)) (all left : List Packet) (count : ℕ) → starts_below floor left ≡ true → Writes floor before told all left count → octets_below floor all ≡ [] → first_payload left ≡ []
+first_nothing floor before told all [] count first w none = cc
+first_nothing floor before told all (p ∷ left) count first w none =
+    let octets = ap length (octets-cons floor p left (ltb-true _ _ first)) in
+    let whole = ap length (w.octets ∙ none) in
+    nil_from_length p.payload (omega (arith, octets, whole, length-append w.done (octets_below floor (p ∷ left)), length-append p.payload (octets_below floor left)))
 
--- the count with one more is no more than all entries
-pub pops_fit : (floor : ℕ) (before told : Option (List ℕ)) (all old new : List (ℕ × Held)) (packet : Held) (count : ℕ) → Writes floor before told (packets_of all) (packets_of old) count → PopsBelow floor old packet new → count + 1 ≤ length all
-pops_fit floor before told all old new packet count w pops =
-    let first = first_is floor before told (packets_of all) old new packet count w pops in
-    let e : length (filter (is_below floor) (packet_of (pops.0, packet) ∷ packets_of new)) ≡ length (packet_of (pops.0, packet) ∷ filter (is_below floor) (packets_of new)) = ap length (below-cons floor (packet_of (pops.0, packet)) (packets_of new) pops.1) in
-    let c = first.counted in
-    grind (arith, e, c, length_filter (is_below floor) (packets_of all), length_packets all)
+-- the count with one more is no more than all packets
+pub first_fits : (floor : ℕ) (before told : Option (List ℕ)) (all left : List Packet) (count : ℕ) → starts_below floor left ≡ true → Writes floor before told all left count → count + 1 ≤ length all
+first_fits floor before told all [] count first w = cc
+first_fits floor before told all (p ∷ left) count first w =
+    let e : length (filter (is_below floor) (p ∷ left)) ≡ length (p ∷ filter (is_below floor) left) = ap length (below-cons floor p left (ltb-true _ _ first)) in
+    let c = w.counted in
+    grind (arith, e, c, length_filter (is_below floor) all)
 
-from_none : (floor : ℕ) (es : List (ℕ × Held)) → IsNoneBelow floor es → IsFrom floor (packets_of es)
+pub first_fewer : (floor : ℕ) (left : List Packet) → starts_below floor left ≡ true → length (after_first left) < length left
+first_fewer floor [] first = cc
+first_fewer floor (p ∷ left) first = omega arith
+
+from_none : (floor : ℕ) (ps : List Packet) → starts_below floor ps ≡ false → IsFrom floor ps
 from_none floor [] h = tt
-from_none floor (e ∷ es) h = h
+from_none floor (p ∷ ps) h = ltb-false _ _ h
 
-pub pops_end : (floor : ℕ) (before told : Option (List ℕ)) (all : List Packet) (old new : List (ℕ × Held)) (count : ℕ) → Writes floor before told all (packets_of old) count → (new ≡ old) × IsNoneBelow floor old → Written floor before told all (packets_of new) count
-pops_end floor before told all old new count w none =
-    subst (λ es. Written floor before told all (packets_of es) count) (sym none.0) (written_all floor before told all (packets_of old) count (from_none floor old none.1) w)
+pub first_end : (floor : ℕ) (before told : Option (List ℕ)) (all left : List Packet) (count : ℕ) → starts_below floor left ≡ false → Writes floor before told all left count → Written floor before told all left count
+first_end floor before told all left count first w = written_all floor before told all left count (from_none floor left first) w
 
 pub on_err_always : {T E : Type 0} (r : Result T E) (P : Type 0) → P → OnErr r P
 on_err_always (Ok v) P p = tt

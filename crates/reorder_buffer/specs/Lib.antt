@@ -1,11 +1,4 @@
 pub mod State
-pub mod Shown
-pub mod Due
-pub mod Causes
-pub mod Sound
 pub mod StateAfter
-pub mod Tests
-pub mod Changes
-pub mod Release
-pub mod Text
 pub mod OneMore
+pub mod Inside

@@ -1,10 +1,11 @@
 -- What a reorder buffer keeps, as its clauses see it.
-use Rattle.std.specs.Prelude.{ℕ, List, Option}
+use Rattle.std.specs.Prelude.{ℕ, ◌-◌, ◌==◌, if◌then◌else◌, List, [], Option, None, Some}
 use Rattle.receiver_rules.specs.declared.limits.Limits.{Limits}
 use Rattle.receiver_rules.specs.declared.anchor.Anchor.{Anchor}
 use Rattle.receiver_rules.specs.declared.anchor.Highest.{Highest}
 use Rattle.receiver_rules.specs.Packets.{Packet}
 use Rattle.reorder_buffer.specs.declared.phase.Phase.{Phase}
+use Rattle.reorder_buffer.specs.declared.phase.Phase.TheVariants.{Failed}
 
 -- a buffer: its limits, whether it takes arrivals, its flow's anchor, and the packets that wait
 pub record State : Type 0 where
@@ -19,3 +20,11 @@ pub record State : Type 0 where
   pub floor : ℕ
   -- the packets that wait, by rising number
   pub held : List Packet
+
+-- the number just below a floor
+abbrev pub number_below : ℕ → Option ℕ
+number_below floor = if floor == 0 then None else Some (floor - 1)
+
+-- after a failed write all is as it was, but that nothing waits
+abbrev pub failed : State → State
+failed b = record { limits = b.limits; phase = Failed; time = b.time; anchor = b.anchor; highest = b.highest; floor = b.floor; held = [] }

@@ -1,18 +1,17 @@
 ghost use Rattle.std.specs.Prelude.{◌≡◌, ◌<◌, ◌≤◌, ◌^◌};
 
-use crate::due::{floor_at, pop_floor};
-use crate::packets::{Held, admit, drop_all, holds, insert_both, is_any_far_from, put_below};
-use crate::phase::{Phase, ReceiveBad, WriteFault};
+use crate::phase::{Phase, WriteFault};
+use crate::release::put_below;
+use crate::ring::{MAX_PAYLOAD, Ring};
 use outside_io::{NoMemory, Sink};
 use receiver_rules::place::{Place, highest_after, new_anchor, place_of};
 use receiver_rules::{Anchor, Arrival, Highest, Limits, Verdict};
-use std::alloc::{AllocError, Global};
-use std::collections::BTreeMap;
+use std::alloc::Global;
 use std::marker::Model;
 
 /// The receiver's playout buffer. `receive` brings a media packet and `release` the time, each at a tick of the receiver's
 /// clock that never falls. Both write what is due then, and `flush` all that is left at the end. `arrive` brings a packet
-/// where what is due is out already.
+/// where what is due is out already. Only `with_limits` takes memory.
 #[derive(Drop)]
 pub struct Buffer {
     limits: Limits,
@@ -21,8 +20,7 @@ pub struct Buffer {
     anchor: Option<Anchor>,
     highest: Option<Highest>,
     floor: u64,
-    held: BTreeMap<u64, Held>,
-    due: BTreeMap<i64, u64>,
+    ring: Ring,
 }
 
 impl Model for Buffer {
@@ -30,38 +28,35 @@ impl Model for Buffer {
 
     ghost Value = { State };
 
-    ghost use Rattle.reorder_buffer.specs.Shown.{state_of};
+    ghost use Rattle.reorder_buffer.specs.Inside.Shown.{state_of};
 
     ghost view = { state_of };
 
-    ghost use Rattle.reorder_buffer.specs.Sound.{IsSoundInside};
+    ghost use Rattle.reorder_buffer.specs.Inside.Sound.{IsSoundInside};
 
     ghost invariant = { IsSoundInside };
 }
 
 impl Buffer {
-    ghost use Rattle.std.specs.Prelude.{◌≡◌, ◌≢◌, ◌↔◌, ◌≤◌, ◌<◌, ◌+◌, ◌*◌, ◌^◌, List, [], ◌∷◌, length, IsTrue, ◌==◌, nat_le, true, false, IfOk, IsOk, OnOk, OnErr, IsErrOf, IsSome};
+    ghost use Rattle.std.specs.Prelude.{◌≡◌, ◌≢◌, ◌↔◌, ◌≤◌, ◌<◌, ◌+◌, ◌*◌, ◌^◌, List, [], ◌∷◌, length, IsTrue, ◌==◌, nat_le, true, false, IfOk, IsOk, OnOk, OnErr, IsSome};
     ghost use Rattle.std.specs.List.{list_any, filter};
     ghost use Rattle.std.specs.Option.{option_map, ForSome};
     ghost use Rattle.outside_io.specs.Causes.{HasCause};
     ghost use Rattle.outside_io.specs.Told.{Appends, AppendsPart};
     ghost use Rattle.seq_unwrap.specs.Nearest.{cycle_of};
     ghost use Rattle.receiver_rules.specs.Steps.{Step, media_step, time_step, end_step};
-    ghost use Rattle.receiver_rules.specs.Packets.{At, is_kept, distance, is_below, placed_packet};
-    ghost use Rattle.receiver_rules.specs.History.{verdict, accepted_packets, released_payloads, released_bytes};
+    ghost use Rattle.receiver_rules.specs.Packets.{is_below, placed_packet};
     ghost use Rattle.receiver_rules.specs.Seen.{seen, moment_of, packet_at, IsPlaceOf};
-    ghost use Rattle.receiver_rules.specs.Bounds.{AreInRange, IsEarlyAnchor, IsMid};
-    ghost use Rattle.reorder_buffer.specs.Release.{octets_below, floor_then};
-    ghost use Rattle.reorder_buffer.specs.OneMore.{StandsAfter, Releases, ReleasesPart};
-    ghost use Rattle.reorder_buffer.specs.Shown.{number_below};
-    ghost use Rattle.reorder_buffer.specs.Changes.{holding, moved, taken, raised, settled};
-    ghost use Rattle.reorder_buffer.specs.Causes.{HasReceiveCause};
-    ghost use Rattle.reorder_buffer.specs.declared.phase.ReceiveBad.TheVariants.{WriteFault as ReceiveFault, NoMemory as ReceiveNoMemory};
+    ghost use Rattle.receiver_rules.specs.Bounds.{AreInRange, IsEarlyAnchor};
+    ghost use Rattle.reorder_buffer.specs.State.{failed, number_below};
     ghost use Rattle.reorder_buffer.specs.StateAfter.{IsStateAfter};
-    ghost use Rattle.reorder_buffer.specs.Tests.{verdict_here, judged, anchor_at, IsAdmissible};
+    ghost use Rattle.reorder_buffer.specs.OneMore.{StandsAfter, Judges, Releases, ReleasesPart, ReleasesNothing, Counts, IsKept};
+    ghost use Rattle.reorder_buffer.specs.Inside.Release.{octets_below, floor_then};
+    ghost use Rattle.reorder_buffer.specs.Inside.Changes.{holding, moved, taken, raised};
+    ghost use Rattle.reorder_buffer.specs.Inside.Tests.{verdict_here, judged, anchor_at, IsAdmissible};
 
     /// A buffer of `span` packets (1 to 16,384) that plays each out `delay_ms` milliseconds (1 to 30,000) after its
-    /// time. This body takes no memory until something is kept.
+    /// time. It takes the memory for all of them.
     pub fn with_limits(alloc: Global, span: u64, delay_ms: u64) -> Result<Buffer, NoMemory>
         requires span { (1 ≤ span) × (span ≤ 16384) }
         requires delay { (1 ≤ delay_ms) × (delay_ms ≤ 30000) }
@@ -70,6 +65,7 @@ impl Buffer {
         ensures running { IfOk result (λ b. b.phase ≡ Phase.Open) }
         ensures state { IfOk result (λ b. IsStateAfter b []) }
     {
+        let ring = Ring::with_places(alloc, span as usize)?;
         Ok(Buffer {
             limits: Limits {
                 playout_delay: 90 * delay_ms,
@@ -80,72 +76,53 @@ impl Buffer {
             anchor: None,
             highest: None,
             floor: 0,
-            held: BTreeMap::new(alloc),
-            due: BTreeMap::new(alloc),
+            ring,
         })
     }
 
-    /// Decides on an arrival, and keeps it where the rules say so. Where memory is refused nothing changes.
-    pub fn arrive(
-        &mut self,
-        alloc: Global,
-        at: u64,
-        arrival: &Arrival<'_>,
-    ) -> Result<Verdict, NoMemory>
+    /// Decides on an arrival, and keeps it where the rules say so.
+    pub fn arrive(&mut self, at: u64, arrival: &Arrival<'_>) -> Verdict
         requires running { self.old.phase ≡ Phase.Open }
         requires tick { at < 2 ^ 61 }
         requires clock { self.old.time ≤ at }
         requires released { IsSome self.old.anchor → self.old.time ≡ at }
         requires word { arrival.now.word < cycle_of arrival.now.width }
+        requires payload { length arrival.now.payload.now ≤ MAX_PAYLOAD }
 
-        ensures verdict { IfOk result (λ v. (history : List Step) → IsStateAfter self.old history → v ≡ verdict self.old.limits history at (seen arrival.now)) }
-        ensures state { OnOk result (StandsAfter self.old self.new (media_step at (seen arrival.now))) }
-        ensures time { OnOk result ((self.new.time ≡ at) × (self.new.phase ≡ Phase.Open)) }
+        ensures verdict { Judges self.old at (seen arrival.now) result }
+        ensures state { StandsAfter self.old self.new (media_step at (seen arrival.now)) }
+        ensures time { (self.new.time ≡ at) × (self.new.phase ≡ Phase.Open) }
         ensures limits { self.new.limits ≡ self.old.limits }
-        ensures err { OnErr result (self.new ≡ self.old) }
     {
-        let verdict = self.take(alloc, at, arrival)?;
-        Ok(verdict)
+        self.take(at, arrival)
     }
 
-    /// Writes what is due at a tick and then decides on an arrival, as one step. Memory is got before the first lasting
-    /// change, so where it is refused nothing was written and nothing changed. After a failed write the buffer has ended,
-    /// and nothing waits.
+    /// Writes what is due at a tick and then decides on an arrival, as one step. After a failed write the buffer has
+    /// ended, and nothing waits.
     pub fn receive<K: Sink>(
         &mut self,
-        alloc: Global,
         at: u64,
         arrival: &Arrival<'_>,
         sink: &mut K,
-    ) -> Result<Verdict, ReceiveBad>
+    ) -> Result<Verdict, WriteFault>
         requires running { self.old.phase ≡ Phase.Open }
         requires tick { at < 2 ^ 61 }
         requires clock { self.old.time ≤ at }
         requires word { arrival.now.word < cycle_of arrival.now.width }
+        requires payload { length arrival.now.payload.now ≤ MAX_PAYLOAD }
 
-        ensures verdict { IfOk result (λ v. (history : List Step) → IsStateAfter self.old history → v ≡ verdict self.old.limits history at (seen arrival.now)) }
+        ensures verdict { IfOk result (Judges self.old at (seen arrival.now)) }
         ensures state { OnOk result (StandsAfter self.old self.new (media_step at (seen arrival.now))) }
         ensures sink { OnOk result (Releases self.old (media_step at (seen arrival.now)) (K.contents sink.old) (K.contents sink.new)) }
         ensures time { OnOk result ((self.new.time ≡ at) × (self.new.phase ≡ Phase.Open)) }
         ensures limits { self.new.limits ≡ self.old.limits }
 
-        ensures failed { IsErrOf result ReceiveFault → self.new.phase ≡ Phase.Failed }
-        ensures dropped { IsErrOf result ReceiveFault → self.new.held ≡ [] }
-        ensures part { IsErrOf result ReceiveFault → ReleasesPart self.old (media_step at (seen arrival.now)) (K.contents sink.old) (K.contents sink.new) }
-        ensures same { IsErrOf result ReceiveNoMemory → (self.new ≡ self.old) × (sink.new ≡ sink.old) }
-        ensures cause { HasReceiveCause (K.faults sink.old) (K.faults sink.new) result }
+        ensures err { OnErr result (self.new ≡ failed self.old) }
+        ensures part { OnErr result (ReleasesPart self.old (media_step at (seen arrival.now)) (K.contents sink.old) (K.contents sink.new)) }
+        ensures cause { HasCause (K.faults sink.old) (K.faults sink.new) result }
     {
-        let anchor = self.anchor_for(at, arrival);
-        let place = self.place(&anchor, arrival);
-        let floor = floor_at(&self.due, self.floor, at);
-        let verdict = self.verdict_then(floor, &anchor, at, arrival.flow, &place);
-        match self.settle(alloc, at, verdict, &place, arrival.payload, sink) {
-            Ok(()) => {
-                self.move_to(at, anchor);
-                Ok(verdict)
-            }
-            Err(bad) => Err(bad),
-        }
+        self.let_out(Some(at), sink)?;
+        Ok(self.take(at, arrival))
     }
 
     /// Writes what is due at a tick, by rising number, and says how many packets were played out. After a failed write the
@@ -157,15 +134,14 @@ impl Buffer {
 
         ensures state { OnOk result (StandsAfter self.old self.new (time_step at)) }
         ensures sink { OnOk result (Releases self.old (time_step at) (K.contents sink.old) (K.contents sink.new)) }
-        ensures count { IfOk result (λ n. (history : List Step) → IsStateAfter self.old history → n + length (released_payloads self.old.limits history) ≡ length (released_payloads self.old.limits (time_step at ∷ history))) }
+        ensures count { IfOk result (Counts self.old (time_step at)) }
         ensures time { OnOk result ((self.new.time ≡ at) × (self.new.phase ≡ Phase.Open)) }
         ensures limits { self.new.limits ≡ self.old.limits }
 
-        ensures err { OnErr result (self.new.phase ≡ Phase.Failed) }
-        ensures dropped { OnErr result (self.new.held ≡ []) }
+        ensures err { OnErr result (self.new ≡ failed self.old) }
         ensures part { OnErr result (ReleasesPart self.old (time_step at) (K.contents sink.old) (K.contents sink.new)) }
         // Where no octet is to be written no write can fail: an empty payload makes no piece.
-        ensures complete { (history : List Step) → IsStateAfter self.old history → released_bytes self.old.limits (time_step at ∷ history) ≡ released_bytes self.old.limits history → IsOk result }
+        ensures complete { ReleasesNothing self.old (time_step at) → IsOk result }
         ensures cause { HasCause (K.faults sink.old) (K.faults sink.new) result }
     {
         let count = self.let_out(Some(at), sink)?;
@@ -180,15 +156,14 @@ impl Buffer {
 
         ensures state { OnOk result (StandsAfter self.old self.new end_step) }
         ensures sink { OnOk result (Releases self.old end_step (K.contents sink.old) (K.contents sink.new)) }
-        ensures count { IfOk result (λ n. (history : List Step) → IsStateAfter self.old history → n + length (released_payloads self.old.limits history) ≡ length (released_payloads self.old.limits (end_step ∷ history))) }
+        ensures count { IfOk result (Counts self.old end_step) }
         ensures ended { OnOk result (self.new.phase ≡ Phase.Ended) }
         ensures limits { self.new.limits ≡ self.old.limits }
 
-        ensures err { OnErr result (self.new.phase ≡ Phase.Failed) }
-        ensures dropped { OnErr result (self.new.held ≡ []) }
+        ensures err { OnErr result (self.new ≡ failed self.old) }
         ensures part { OnErr result (ReleasesPart self.old end_step (K.contents sink.old) (K.contents sink.new)) }
         // Where no octet is to be written no write can fail: an empty payload makes no piece.
-        ensures complete { (history : List Step) → IsStateAfter self.old history → released_bytes self.old.limits (end_step ∷ history) ≡ released_bytes self.old.limits history → IsOk result }
+        ensures complete { ReleasesNothing self.old end_step → IsOk result }
         ensures cause { HasCause (K.faults sink.old) (K.faults sink.new) result }
     {
         let count = self.let_out(None, sink)?;
@@ -201,7 +176,7 @@ impl Buffer {
         ensures count { result ≡ length self.now.held }
         ensures within { result ≤ self.now.limits.capacity }
     {
-        self.held.len()
+        self.ring.count()
     }
 
     /// The highest number that was played out.
@@ -236,9 +211,9 @@ impl Buffer {
     /// kept.
     pub fn has(&self, number: u64) -> bool
         ensures waits { result ≡ list_any (λ p. p.number == number) self.now.held }
-        ensures kept { self.now.phase ≡ Phase.Open → self.now.floor ≤ number → (history : List Step) → IsStateAfter self.now history → result ≡ list_any (λ p. p.number == number) (accepted_packets self.now.limits history) }
+        ensures kept { self.now.phase ≡ Phase.Open → self.now.floor ≤ number → IsKept self.now number result }
     {
-        holds(&self.held, number)
+        self.ring.has(number)
     }
 
     /// Whether all was written, or a write failed.
@@ -249,22 +224,22 @@ impl Buffer {
     }
 
     /// An arrival, by what the buffer keeps.
-    fn take(&mut self, alloc: Global, at: u64, arrival: &Arrival<'_>) -> Result<Verdict, AllocError>
+    fn take(&mut self, at: u64, arrival: &Arrival<'_>) -> Verdict
         requires tick { at < 2 ^ 61 }
         requires clock { self.old.time ≤ at }
         requires word { arrival.now.word < cycle_of arrival.now.width }
-        ensures verdict { IfOk result (λ v. v ≡ judged self.old at (seen arrival.now)) }
-        ensures taken { OnOk result (self.new ≡ taken self.old at (seen arrival.now)) }
-        ensures err { OnErr result (self.new ≡ self.old) }
+        requires payload { length arrival.now.payload.now ≤ MAX_PAYLOAD }
+        ensures verdict { result ≡ judged self.old at (seen arrival.now) }
+        ensures taken { self.new ≡ taken self.old at (seen arrival.now) }
     {
         let anchor = self.anchor_for(at, arrival);
         let place = self.place(&anchor, arrival);
         let verdict = self.verdict(&anchor, at, arrival.flow, &place);
         if verdict.is_kept() {
-            self.hold(alloc, &place, arrival.payload)?;
+            self.hold(&place, arrival.payload);
         }
         self.move_to(at, anchor);
-        Ok(verdict)
+        verdict
     }
 
     /// What deadlines count from: the first arrival, which may be this one.
@@ -291,26 +266,10 @@ impl Buffer {
         place_of(&self.limits, anchor, self.highest, arrival)
     }
 
-    /// The first test that fits, where nothing more goes out before.
+    /// The first test that fits.
     fn verdict(&self, anchor: &Anchor, at: u64, flow: u32, place: &Place) -> Verdict
         requires { at < 2 ^ 61 }
         ensures { result ≡ verdict_here self.now anchor.now at flow place.now.number place.now.deadline }
-    {
-        self.verdict_then(self.floor, anchor, at, flow, place)
-    }
-
-    /// The first test that fits once what is due below this floor is out.
-    fn verdict_then(
-        &self,
-        floor: u64,
-        anchor: &Anchor,
-        at: u64,
-        flow: u32,
-        place: &Place,
-    ) -> Verdict
-        requires tick { at < 2 ^ 61 }
-        requires floor { self.now.floor ≤ floor }
-        ensures { result ≡ verdict_here (raised self.now floor) anchor.now at flow place.now.number place.now.deadline }
     {
         if flow != anchor.flow {
             Verdict::Stranger
@@ -318,128 +277,27 @@ impl Buffer {
             Verdict::Exhausted
         } else if place.deadline <= at as i64 {
             Verdict::Late
-        } else if place.number < floor {
+        } else if place.number < self.floor {
             Verdict::Behind
         } else if place.deadline > (at + 2 * self.limits.playout_delay) as i64 {
             Verdict::Early
-        } else if holds(&self.held, place.number) {
+        } else if self.ring.has(place.number) {
             Verdict::Twice
-        } else if is_any_far_from(&self.held, floor, self.limits.capacity, place.number) {
+        } else if self.ring.is_any_far_from(place.number) {
             Verdict::Span
         } else {
             Verdict::Kept
         }
     }
 
-    /// Keeps a packet where its verdict says so, and lets out what is due.
-    fn settle<K: Sink>(
-        &mut self,
-        alloc: Global,
-        at: u64,
-        verdict: Verdict,
-        place: &Place,
-        payload: &[u8],
-        sink: &mut K,
-    ) -> Result<(), ReceiveBad>
-        requires tick { at < 2 ^ 61 }
-        requires fits { is_kept verdict ≡ true → IsAdmissible (raised self.old (floor_then self.old (At at))) at (packet_at place.now payload.now) }
-        ensures ok { OnOk result (self.new ≡ settled self.old at verdict (packet_at place.now payload.now)) }
-        ensures sink { OnOk result (Appends (K.contents sink.old) (K.contents sink.new) (octets_below (floor_then self.old (At at)) self.old.held)) }
-        ensures failed { IsErrOf result ReceiveFault → self.new.phase ≡ Phase.Failed }
-        ensures dropped { IsErrOf result ReceiveFault → self.new.held ≡ [] }
-        ensures limits { self.new.limits ≡ self.old.limits }
-        ensures part { IsErrOf result ReceiveFault → AppendsPart (K.contents sink.old) (K.contents sink.new) (octets_below (floor_then self.old (At at)) self.old.held) }
-        ensures same { IsErrOf result ReceiveNoMemory → (self.new ≡ self.old) × (sink.new ≡ sink.old) }
-        ensures cause { HasReceiveCause (K.faults sink.old) (K.faults sink.new) result }
+    /// Puts a packet among those that wait.
+    fn hold(&mut self, place: &Place, payload: &[u8])
+        requires fits { IsAdmissible self.old (packet_at place.now payload.now) }
+        requires payload { length payload.now ≤ MAX_PAYLOAD }
+        ensures { self.new ≡ holding self.old (packet_at place.now payload.now) }
     {
-        if verdict.is_kept() {
-            return self.admit(alloc, at, place, payload, sink);
-        }
-        match self.let_out(Some(at), sink) {
-            Ok(_) => Ok(()),
-            Err(_) => Err(ReceiveBad::WriteFault),
-        }
-    }
-
-    /// Puts a packet among those that wait, and then lets out what is due.
-    fn admit<K: Sink>(
-        &mut self,
-        alloc: Global,
-        at: u64,
-        place: &Place,
-        payload: &[u8],
-        sink: &mut K,
-    ) -> Result<(), ReceiveBad>
-        requires tick { at < 2 ^ 61 }
-        requires fits { IsAdmissible (raised self.old (floor_then self.old (At at))) at (packet_at place.now payload.now) }
-        ensures ok { OnOk result (self.new ≡ holding (raised self.old (floor_then self.old (At at))) (packet_at place.now payload.now)) }
-        ensures sink { OnOk result (Appends (K.contents sink.old) (K.contents sink.new) (octets_below (floor_then self.old (At at)) self.old.held)) }
-        ensures failed { IsErrOf result ReceiveFault → self.new.phase ≡ Phase.Failed }
-        ensures dropped { IsErrOf result ReceiveFault → self.new.held ≡ [] }
-        ensures limits { self.new.limits ≡ self.old.limits }
-        ensures part { IsErrOf result ReceiveFault → AppendsPart (K.contents sink.old) (K.contents sink.new) (octets_below (floor_then self.old (At at)) self.old.held) }
-        ensures same { IsErrOf result ReceiveNoMemory → (self.new ≡ self.old) × (sink.new ≡ sink.old) }
-        ensures cause { HasReceiveCause (K.faults sink.old) (K.faults sink.new) result }
-    {
-        let Place {
-            number,
-            timestamp,
-            deadline,
-        } = *place;
-        let Ok(payload) = Vec::from_slice(alloc, payload) else {
-            return Err(ReceiveBad::NoMemory);
-        };
-        let packet = Held {
-            timestamp,
-            deadline,
-            payload,
-        };
-        match admit(
-            &mut self.held,
-            &mut self.due,
-            self.floor,
-            at,
-            number,
-            packet,
-            sink,
-        ) {
-            Ok(floor) => {
-                self.floor = floor;
-                self.highest = Some(highest_after(self.highest, place.number, place.timestamp));
-                Ok(())
-            }
-            Err(ReceiveBad::NoMemory) => Err(ReceiveBad::NoMemory),
-            Err(ReceiveBad::WriteFault) => {
-                self.phase = drop_all(&mut self.held, &mut self.due);
-                Err(ReceiveBad::WriteFault)
-            }
-        }
-    }
-
-    /// Puts a packet among those that wait. Each growth of memory comes before the first lasting change.
-    fn hold(&mut self, alloc: Global, place: &Place, payload: &[u8]) -> Result<(), AllocError>
-        requires low { self.old.floor ≤ place.now.number }
-        requires high { place.now.number < 2 ^ 62 }
-        requires mid { IsMid self.old.highest (packet_at place.now payload.now) }
-        requires new { list_any (λ p. p.number == place.now.number) self.old.held ≡ false }
-        requires near { list_any (λ p. nat_le self.old.limits.capacity (distance p.number place.now.number)) self.old.held ≡ false }
-        ensures ok { OnOk result (self.new ≡ holding self.old (packet_at place.now payload.now)) }
-        ensures err { OnErr result (self.new ≡ self.old) }
-    {
-        let Place {
-            number,
-            timestamp,
-            deadline,
-        } = *place;
-        let payload = Vec::from_slice(alloc, payload)?;
-        let packet = Held {
-            timestamp,
-            deadline,
-            payload,
-        };
-        insert_both(&mut self.held, &mut self.due, number, packet)?;
-        self.highest = Some(highest_after(self.highest, number, timestamp));
-        Ok(())
+        self.ring.put(place, payload);
+        self.highest = Some(highest_after(self.highest, place.number, place.timestamp));
     }
 
     /// The first arrival fixes the anchor, and each moves the time.
@@ -457,21 +315,21 @@ impl Buffer {
         ensures ok { OnOk result (self.new ≡ raised self.old (floor_then self.old (moment_of until))) }
         ensures sink { OnOk result (Appends (K.contents sink.old) (K.contents sink.new) (octets_below (floor_then self.old (moment_of until)) self.old.held)) }
         ensures count { IfOk result (λ n. n ≡ length (filter (is_below (floor_then self.old (moment_of until))) self.old.held)) }
-        ensures err { OnErr result (self.new.phase ≡ Phase.Failed) }
-        ensures dropped { OnErr result (self.new.held ≡ []) }
+        ensures err { OnErr result (self.new ≡ failed self.old) }
         ensures limits { self.new.limits ≡ self.old.limits }
         ensures part { OnErr result (AppendsPart (K.contents sink.old) (K.contents sink.new) (octets_below (floor_then self.old (moment_of until)) self.old.held)) }
         ensures complete { octets_below (floor_then self.old (moment_of until)) self.old.held ≡ [] → IsOk result }
         ensures cause { HasCause (K.faults sink.old) (K.faults sink.new) result }
     {
-        let floor = pop_floor(&mut self.due, self.floor, until);
-        match put_below(&mut self.held, &mut self.due, floor, sink) {
+        let floor = self.floor.max(self.ring.floor_by(until));
+        match put_below(&mut self.ring, floor, sink) {
             Ok(count) => {
                 self.floor = floor;
                 Ok(count)
             }
             Err(_) => {
-                self.phase = drop_all(&mut self.held, &mut self.due);
+                self.ring.clear();
+                self.phase = Phase::Failed;
                 Err(WriteFault)
             }
         }

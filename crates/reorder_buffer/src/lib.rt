@@ -3,12 +3,14 @@
 #![tactic(auto)]
 
 pub mod buffer;
-mod due;
-mod packets;
 mod phase;
+mod places;
+mod release;
+mod ring;
 #[cfg(test)]
 mod tests;
 
 pub use buffer::Buffer;
-pub use phase::{Phase, ReceiveBad, WriteFault};
+pub use phase::{Phase, WriteFault};
 pub use receiver_rules::{Arrival, Verdict};
+pub use ring::MAX_PAYLOAD;

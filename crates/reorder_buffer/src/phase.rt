@@ -24,26 +24,3 @@ impl Display for WriteFault {
         f.write_str("write failed")
     }
 }
-
-/// Why a media packet was not received.
-#[derive(Clone, Copy, Debug, PartialEq, Eq)]
-pub enum ReceiveBad {
-    /// A write to the sink failed, and the buffer has ended.
-    WriteFault,
-    /// Memory was refused, and nothing changed.
-    NoMemory,
-}
-
-impl Display for ReceiveBad {
-    ghost use Rattle.std.specs.Prelude.{Some};
-    ghost use Rattle.reorder_buffer.specs.Text.{receive_text};
-
-    ghost output = { λ bad. Some (receive_text bad) };
-
-    fn fmt<W: Write>(&self, f: &mut Formatter<W>) -> fmt::Result {
-        f.write_str(match self {
-            ReceiveBad::WriteFault => "write failed",
-            ReceiveBad::NoMemory => "out of memory",
-        })
-    }
-}

@@ -4,7 +4,7 @@ ghost use Rattle.std.specs.Prelude.{◌<◌, ◌^◌, IfOk};
 ghost use Rattle.std.specs.List.{All};
 ghost use Rattle.receiver_rules.specs.Plain.{IsFit};
 
-use crate::{Arrival, Buffer, Phase, ReceiveBad, Verdict, WriteFault};
+use crate::{Arrival, Buffer, MAX_PAYLOAD, Phase, Verdict, WriteFault};
 use outside_io::Store8;
 use receiver_rules::Limits;
 use receiver_rules::plain::{Event, Step, released, verdicts};
@@ -44,7 +44,10 @@ fn play(alloc: Global, steps: &[Step<'_>], sink: Store8) -> Result<Played, Fail>
         }
         match &step.event {
             Event::Media(arrival) => {
-                played.verdicts.push(buffer.arrive(alloc, at, arrival)?)?;
+                if arrival.payload.len() > MAX_PAYLOAD {
+                    return Err(Fail::new("too long"));
+                }
+                played.verdicts.push(buffer.arrive(at, arrival))?;
             }
             Event::TimeOnly => {}
             Event::End => {
@@ -70,13 +73,15 @@ fn play_as_one(alloc: Global, steps: &[Step<'_>], sink: Store8) -> Result<Played
     for step in steps {
         at = at.max(step.tick);
         if let Event::Media(arrival) = &step.event {
-            match buffer.receive(alloc, at, arrival, &mut played.sink) {
+            if arrival.payload.len() > MAX_PAYLOAD {
+                return Err(Fail::new("too long"));
+            }
+            match buffer.receive(at, arrival, &mut played.sink) {
                 Ok(verdict) => played.verdicts.push(verdict)?,
-                Err(ReceiveBad::WriteFault) => {
+                Err(WriteFault) => {
                     played.failed = buffer.ended();
                     return Ok(played);
                 }
-                Err(ReceiveBad::NoMemory) => return Err(Fail::new("out of memory")),
             }
             continue;
         }
@@ -203,6 +208,27 @@ fn the_span_counts_against_what_is_buffered(rt: HostRuntime) -> Result<(), Fail>
     let (near, late) = (brings(100, 17, 6300, b"B"), brings(90_000, 18, 7200, b"C"));
     let want = [Verdict::Kept, Verdict::Span, Verdict::Kept, Verdict::Kept];
     assert!(rt; answers(alloc, &[zero, span, near, late, ends()], &want, b"ABC")?);
+    // 18 stands where a longer 10 stood.
+    let long = brings(0, 10, 0, b"A to L");
+    assert!(rt; answers(alloc, &[long, span, near, late, ends()], &want, b"A to LBC")?);
+    let ahead = brings(90_000, 32_777, 90_000, b"B");
+    assert!(rt;
+        answers(
+            alloc,
+            &[zero, ahead, ends()],
+            &[Verdict::Kept, Verdict::Kept],
+            b"AB"
+        )?
+    );
+    let mut widest = Buffer::with_limits(alloc, 16_384, 30_000)?;
+    let first = Arrival {
+        flow: 7,
+        width: Width::W16,
+        word: 3,
+        stamp: 0,
+        payload: b"A",
+    };
+    assert!(rt; widest.arrive(0, &first) == Verdict::Kept && widest.held() == 1);
     Ok(())
 }
 
@@ -247,7 +273,7 @@ fn a_failed_write_leaves_a_front_part_and_ends_the_buffer(rt: HostRuntime) -> Re
         stamp: 0,
         payload: b"",
     };
-    assert_eq!(rt; buffer.arrive(alloc, 5, &arrival)?, Verdict::Kept);
+    assert_eq!(rt; buffer.arrive(5, &arrival), Verdict::Kept);
     assert!(rt; buffer.held() == 1 && buffer.has((1 << 40) + 3) && buffer.flow() == Some(7));
     assert_eq!(rt; buffer.high(), Some((1 << 40) + 3));
     let mut sink = Store8::with(alloc, 64, &[0])?;
@@ -273,20 +299,13 @@ fn nothing_waits_after_a_failed_write(rt: HostRuntime) -> Result<(), Fail> {
         stamp: 900,
         ..first
     };
-    assert_eq!(rt; buffer.arrive(alloc, 5, &first)?, Verdict::Kept);
-    assert_eq!(rt; buffer.arrive(alloc, 5, &second)?, Verdict::Kept);
+    assert_eq!(rt; buffer.arrive(5, &first), Verdict::Kept);
+    assert_eq!(rt; buffer.arrive(5, &second), Verdict::Kept);
     // The first alone is due, and its write fails.
     let mut sink = Store8::with(alloc, 64, &[0])?;
     assert_eq!(rt; buffer.release(90_005, &mut sink), Err(WriteFault));
     assert!(rt; buffer.ended() && buffer.held() == 0 && !buffer.has((1 << 40) + 4));
     assert!(rt; sink.octets().is_empty());
-    for (bad, text) in [
-        (ReceiveBad::WriteFault, "write failed"),
-        (ReceiveBad::NoMemory, "out of memory"),
-    ] {
-        let written = format!(in alloc; "{bad}")?;
-        assert_eq!(rt; written.as_str(), text);
-    }
     let written = format!(in alloc; "{WriteFault}")?;
     assert_eq!(rt; written.as_str(), "write failed");
     Ok(())

@@ -8,9 +8,9 @@ use Rattle.reorder_buffer.proofs.buffer.Buffer.arrive.Goals as goal
 
 pub returns-clause-verdict : goal.returns-clause-verdict
 returns-clause-verdict c = λ history s.
-    c.in_ok-verdict.ensures.verdict ∙ verdict_after_steps _ history c.args.at (seen c.args.arrival.now) (arrives _ history c.args.at s c.requires.running c.requires.clock c.requires.released)
+    c.take.ensures.verdict ∙ verdict_after_steps _ history c.args.at (seen c.args.arrival.now) (arrives _ history c.args.at s c.requires.running c.requires.clock c.requires.released)
 
 pub returns-clause-state : goal.returns-clause-state
 returns-clause-state c = λ history s _.
-    subst (λ b. Shows b (media_step c.args.at (seen c.args.arrival.now) ∷ history)) (sym c.in_ok-verdict.ensures.taken)
+    subst (λ b. Shows b (media_step c.args.at (seen c.args.arrival.now) ∷ history)) (sym c.take.ensures.taken)
     (state_after_arrival _ history c.args.at (seen c.args.arrival.now) (arrives _ history c.args.at s c.requires.running c.requires.clock c.requires.released))

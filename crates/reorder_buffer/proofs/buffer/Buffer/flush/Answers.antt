@@ -26,6 +26,6 @@ returns-clause-count g c = λ history s.
     count_then c.args.self.now history end_step Ever _ (end_follows c.args.self.now history s c.requires.running) c.in_ok-count.ensures.count
 
 pub returns-in_err-count-clause-complete : goal.returns-in_err-count-clause-complete
-returns-in_err-count-clause-complete g c = λ history s same.
-    let fine = c.in_err-count.ensures.complete (nothing_then c.args.self.now history end_step Ever (end_follows c.args.self.now history s c.requires.running) same) in
+returns-in_err-count-clause-complete g c none =
+    let fine = c.in_err-count.ensures.complete (nothing_then c.args.self.now none.0 end_step Ever (end_follows c.args.self.now none.0 none.1 c.requires.running) none.2) in
     cc

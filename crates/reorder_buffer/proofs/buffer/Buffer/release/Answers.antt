@@ -26,6 +26,6 @@ returns-clause-count g c = λ history s.
     count_then c.args.self.now history (time_step c.args.at) (At c.args.at) _ (pass_follows c.args.self.now history c.args.at s c.requires.running c.requires.clock) c.in_ok-count.ensures.count
 
 pub returns-in_err-count-clause-complete : goal.returns-in_err-count-clause-complete
-returns-in_err-count-clause-complete g c = λ history s same.
-    let fine = c.in_err-count.ensures.complete (nothing_then c.args.self.now history (time_step c.args.at) (At c.args.at) (pass_follows c.args.self.now history c.args.at s c.requires.running c.requires.clock) same) in
+returns-in_err-count-clause-complete g c none =
+    let fine = c.in_err-count.ensures.complete (nothing_then c.args.self.now none.0 (time_step c.args.at) (At c.args.at) (pass_follows c.args.self.now none.0 c.args.at none.1 c.requires.running c.requires.clock) none.2) in
     cc

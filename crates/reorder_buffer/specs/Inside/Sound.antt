@@ -1,0 +1,23 @@
+-- What holds of each buffer's state, whatever came.
+use Rattle.std.specs.Prelude.{◌≡◌, ◌^◌}
+use Rattle.std.specs.Option.{ForSome}
+use Rattle.receiver_rules.specs.Bounds.{AreInRange, IsEarlyAnchor, IsMidHighest}
+use Rattle.receiver_rules.specs.Packets.{IsRising}
+use Rattle.reorder_buffer.specs.State.{State}
+use Rattle.reorder_buffer.specs.Inside.Span.{AllBelow, IsWithin}
+use Rattle.reorder_buffer.specs.Inside.Shown.{state_of}
+use Rattle.reorder_buffer.specs.declared.buffer.Buffer.TheInside.{Inside}
+
+-- the buffered numbers rise strictly from the floor on, and lie within the capacity
+pub record IsSound (b : State) : Type 0 where
+  pub limits : AreInRange b.limits
+  pub anchor : ForSome b.anchor (IsEarlyAnchor b.time)
+  pub highest : ForSome b.highest IsMidHighest
+  pub rising : IsRising b.floor b.held
+  pub within : IsWithin b.limits.capacity b.held
+  pub below : AllBelow (2 ^ 62) b.held
+
+-- the state is sound, and the ring has a place for each packet of the span
+pub record IsSoundInside (fields : Inside) : Type 0 where
+  pub state : IsSound (state_of fields)
+  pub places : fields.ring.capacity ≡ fields.limits.capacity

@@ -1,0 +1,47 @@
+-- The verdict as the buffer's own state shows it.
+use Rattle.std.specs.Prelude.{◌≡◌, ◌<◌, ◌≤◌, true, false, ℕ, ℤ, pos, int_le, int_lt, ◌+◌, ◌*◌, ◌^◌, not, nat_le, nat_lt, ◌==◌, if◌then◌else◌, unwrap_or}
+use Rattle.std.specs.List.{list_any}
+use Rattle.receiver_rules.specs.declared.verdict.Verdict.{Verdict}
+use Rattle.receiver_rules.specs.declared.verdict.Verdict.TheVariants.{Kept, Stranger, Exhausted, Late, Behind, Early, Twice, Span}
+use Rattle.receiver_rules.specs.declared.anchor.Anchor.{Anchor}
+use Rattle.receiver_rules.specs.Steps.{Arrival}
+use Rattle.receiver_rules.specs.History.{new_anchor}
+use Rattle.receiver_rules.specs.Packets.{Packet, distance, placed_packet}
+use Rattle.receiver_rules.specs.Bounds.{IsMid}
+use Rattle.reorder_buffer.specs.State.{State}
+
+-- the verdict on an arrival of this flow, number and deadline: the first test that fits decides
+abbrev pub verdict_here : State → Anchor → ℕ → ℕ → ℕ → ℤ → Verdict
+verdict_here b anchor t flow number deadline =
+    if not (flow == anchor.flow) then Stranger
+    else if nat_le (2 ^ 62) number then Exhausted
+    else if int_le deadline (pos t) then Late
+    else if nat_lt number b.floor then Behind
+    else if int_lt (pos (t + 2 * b.limits.playout_delay)) deadline then Early
+    else if list_any (λ p. p.number == number) b.held then Twice
+    else if list_any (λ p. nat_le b.limits.capacity (distance p.number number)) b.held then Span
+    else Kept
+
+-- what deadlines count from at an arrival, which may be the first
+abbrev pub anchor_at : State → ℕ → Arrival → Anchor
+anchor_at b t arrival = unwrap_or b.anchor (new_anchor t arrival)
+
+-- an arrival with its place
+abbrev pub placed_at : State → ℕ → Arrival → Packet
+placed_at b t arrival = placed_packet b.limits (anchor_at b t arrival) b.highest arrival
+
+-- the verdict on an arrival, where nothing more goes out before
+abbrev pub judged : State → ℕ → Arrival → Verdict
+judged b t arrival =
+    let p = placed_at b t arrival in
+    verdict_here b (anchor_at b t arrival) t arrival.flow p.number p.deadline
+
+-- a packet that may wait
+pub record IsAdmissible (b : State) (p : Packet) : Type 0 where
+  pub low : b.floor ≤ p.number
+  pub high : p.number < 2 ^ 62
+  pub mid : IsMid b.highest p
+  pub positive : int_lt p.deadline (pos 0) ≡ false
+  pub soon : int_lt p.deadline (pos (2 ^ 62)) ≡ true
+  pub new : list_any (λ q. q.number == p.number) b.held ≡ false
+  pub near : list_any (λ q. nat_le b.limits.capacity (distance q.number p.number)) b.held ≡ false

@@ -1,0 +1,244 @@
+//! The packets that wait, in a ring of places over one pool of blocks: a packet stands at the place that its number is modulo
+//! the number of places. Only the first call takes memory.
+ghost use Rattle.std.specs.Prelude.{◌≡◌, ◌==◌, ◌<◌, ◌≤◌, ◌%◌, ◌^◌, [], length, nat_le, int_lt, pos, take, true, false, IfOk};
+ghost use Rattle.std.specs.List.{list_any};
+ghost use Rattle.std.specs.Option.{ForSome};
+ghost use Rattle.receiver_rules.specs.Packets.{distance, insert_by_number, playout_floor};
+ghost use Rattle.receiver_rules.specs.Seen.{moment_of, packet_at};
+ghost use Rattle.reorder_buffer.specs.Inside.Ring.{first_number, after_first, first_payload, ends_and, ends_from as ends_between};
+
+use crate::places::{floor_at, lowest_from};
+use deadline_index::{DeadlineIndex, NEVER};
+use receiver_rules::place::Place;
+use std::alloc::{AllocError, Global};
+use std::marker::Model;
+
+/// The most octets of a payload.
+pub const MAX_PAYLOAD: usize = 1500;
+
+/// A packet that waits. Its payload is the front of its place's block.
+#[derive(Clone, Copy)]
+pub struct Held {
+    /// Its extended sequence number.
+    pub number: u64,
+    /// Its extended RTP timestamp, in ticks of 1/90,000 s.
+    pub timestamp: u64,
+    /// When it is to be played out, in ticks of the receiver's clock.
+    pub deadline: u64,
+    /// How many octets its payload has. There may be none.
+    pub length: usize,
+}
+
+/// The lowest and the highest number that wait.
+#[derive(Clone, Copy)]
+pub struct Ends {
+    pub low: u64,
+    pub high: u64,
+}
+
+/// Packets that wait, whose numbers lie less than the number of places apart. Putting one in, taking the first out and finding
+/// what is due look at as many places as the number of places has binary digits; all else looks at one.
+#[derive(Drop)]
+pub struct Ring {
+    places: Vec<Option<Held>>,
+    pool: Vec<[u8; MAX_PAYLOAD]>,
+    /// At each place the deadline of the packet that stands there.
+    index: DeadlineIndex,
+    ends: Option<Ends>,
+    count: usize,
+}
+
+impl Model for Ring {
+    ghost use Rattle.reorder_buffer.specs.Inside.Ring.{Waiting};
+
+    ghost Value = { Waiting };
+
+    ghost use Rattle.reorder_buffer.specs.Inside.Shown.{shown_waiting};
+
+    ghost view = { shown_waiting };
+
+    ghost use Rattle.reorder_buffer.specs.Inside.Shown.{IsShownRing};
+
+    ghost invariant = { IsShownRing };
+}
+
+impl Ring {
+    /// No packets, and room for a number of them.
+    pub fn with_places(alloc: Global, capacity: usize) -> Result<Ring, AllocError>
+        requires { (1 ≤ capacity) × (capacity ≤ 16384) }
+        ensures capacity { IfOk result (λ r. r.capacity ≡ capacity) }
+        ensures packets { IfOk result (λ r. r.packets ≡ []) }
+    {
+        let mut places = Vec::with_capacity(alloc, capacity)?;
+        places.resize(capacity, None)?;
+        let mut pool = Vec::with_capacity(alloc, capacity)?;
+        pool.resize(capacity, [0; MAX_PAYLOAD])?;
+        let index = DeadlineIndex::with_places(alloc, capacity)?;
+        Ok(Ring {
+            places,
+            pool,
+            index,
+            ends: None,
+            count: 0,
+        })
+    }
+
+    /// How many wait.
+    pub fn count(&self) -> usize
+        ensures { result ≡ length self.now.packets }
+    {
+        self.count
+    }
+
+    /// The lowest number that waits.
+    pub fn first(&self) -> Option<u64>
+        ensures { result ≡ first_number self.now.packets }
+    {
+        self.ends.map(|ends| ends.low)
+    }
+
+    /// Whether the number waits.
+    pub fn has(&self, number: u64) -> bool
+        ensures { result ≡ list_any (λ p. p.number == number) self.now.packets }
+    {
+        match self.places[self.place_of(number)] {
+            Some(held) => held.number == number,
+            None => false,
+        }
+    }
+
+    /// Whether a number that waits lies as far away as there are places, or farther. The lowest and the highest decide.
+    pub fn is_any_far_from(&self, number: u64) -> bool
+        ensures { result ≡ list_any (λ p. nat_le self.now.capacity (distance p.number number)) self.now.packets }
+    {
+        match self.ends {
+            Some(ends) => self.is_far(ends.low, number) || self.is_far(ends.high, number),
+            None => false,
+        }
+    }
+
+    /// The floor that the packets due at a tick set, or all without a tick: one above the highest of their numbers.
+    pub fn floor_by(&self, until: Option<u64>) -> u64
+        requires { ForSome until (λ t. t < 2 ^ 61) }
+        ensures { result ≡ playout_floor self.now.packets (moment_of until) }
+    {
+        match (self.ends, until) {
+            (Some(ends), Some(at)) => floor_at(&self.places, &self.index, ends.low, at),
+            (Some(ends), None) => ends.high + 1,
+            (None, _) => 0,
+        }
+    }
+
+    /// The octets of the packet with the lowest number.
+    pub fn first_payload(&self) -> &[u8]
+        ensures { result.now ≡ first_payload self.now.packets }
+    {
+        let Some(ends) = self.ends else {
+            return &[];
+        };
+        let place = self.place_of(ends.low);
+        match self.places[place] {
+            Some(held) => &self.pool[place][..held.length],
+            None => &[],
+        }
+    }
+
+    /// Puts a packet at its place, which is free.
+    pub fn put(&mut self, place: &Place, payload: &[u8])
+        requires number { place.now.number < 2 ^ 62 }
+        requires positive { int_lt place.now.deadline (pos 0) ≡ false }
+        requires soon { int_lt place.now.deadline (pos (2 ^ 62)) ≡ true }
+        requires payload { length payload.now ≤ MAX_PAYLOAD }
+        requires new { list_any (λ p. p.number == place.now.number) self.old.packets ≡ false }
+        requires near { list_any (λ p. nat_le self.old.capacity (distance p.number place.now.number)) self.old.packets ≡ false }
+        ensures packets { self.new.packets ≡ insert_by_number (packet_at place.now payload.now) self.old.packets }
+        ensures capacity { self.new.capacity ≡ self.old.capacity }
+    {
+        let free = self.place_of(place.number);
+        let deadline = place.deadline as u64;
+        fill(&mut self.pool[free], payload);
+        self.places[free] = Some(Held {
+            number: place.number,
+            timestamp: place.timestamp,
+            deadline,
+            length: payload.len(),
+        });
+        self.index.set(free, deadline);
+        self.ends = Some(with_number(self.ends, place.number));
+        self.count += 1;
+    }
+
+    /// Takes the packet with the lowest number out, if there is one.
+    pub fn drop_first(&mut self)
+        ensures packets { self.new.packets ≡ after_first self.old.packets }
+        ensures capacity { self.new.capacity ≡ self.old.capacity }
+    {
+        let Some(ends) = self.ends else {
+            return;
+        };
+        let place = self.place_of(ends.low);
+        self.places[place] = None;
+        self.index.set(place, NEVER);
+        self.count -= 1;
+        self.ends = ends_from(lowest_from(&self.places, &self.index, ends.low), ends.high);
+    }
+
+    /// Takes all packets out.
+    pub fn clear(&mut self)
+        ensures packets { self.new.packets ≡ [] }
+        ensures capacity { self.new.capacity ≡ self.old.capacity }
+    {
+        while self.ends.is_some() {
+            self.drop_first();
+        }
+    }
+
+    /// The place of a number.
+    fn place_of(&self, number: u64) -> usize
+        ensures value { result ≡ number % self.now.capacity }
+        ensures within { result < self.now.capacity }
+    {
+        (number % self.places.len() as u64) as usize
+    }
+
+    /// Whether two numbers lie as far apart as there are places, or farther.
+    fn is_far(&self, one: u64, other: u64) -> bool
+        ensures { result ≡ nat_le self.now.capacity (distance one other) }
+    {
+        one.abs_diff(other) >= self.places.len() as u64
+    }
+}
+
+/// The ends with one more number.
+fn with_number(ends: Option<Ends>, number: u64) -> Ends
+    ensures { result ≡ ends_and ends number }
+{
+    match ends {
+        Some(ends) => Ends {
+            low: ends.low.min(number),
+            high: ends.high.max(number),
+        },
+        None => Ends {
+            low: number,
+            high: number,
+        },
+    }
+}
+
+/// The ends where the lowest number is this one, if any.
+fn ends_from(low: Option<u64>, high: u64) -> Option<Ends>
+    ensures { result ≡ ends_between low high }
+{
+    match low {
+        Some(low) => Some(Ends { low, high }),
+        None => None,
+    }
+}
+
+/// Writes a payload to the front of a block.
+fn fill(block: &mut [u8; MAX_PAYLOAD], payload: &[u8])
+    requires { length payload.now ≤ MAX_PAYLOAD }
+    ensures { take (length payload.now) block.new ≡ payload.now }
+{
+    block[..payload.len()].copy_from_slice(payload);
+}
