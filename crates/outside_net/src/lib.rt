@@ -1,0 +1,26 @@
+//! The outside of the live ends: links, clocks and traces. A contract sees the answers that a link has still to give, the
+//! moments that a clock has, the datagrams that a link took and the list that a trace keeps, where they tell them; and
+//! counts of a link's faults and ends.
+#![tactic(auto)]
+
+mod call_list;
+mod clock;
+mod kept;
+mod link;
+mod octets;
+mod peers;
+mod quiet;
+mod script_clock;
+mod script_link;
+#[cfg(test)]
+mod tests;
+mod trace;
+
+pub use clock::Clock;
+pub use kept::Kept;
+pub use link::{Got, Link, MAX_DATAGRAM};
+pub use octets::Octets;
+pub use quiet::Quiet;
+pub use script_clock::ScriptClock;
+pub use script_link::{ScriptLink, ScriptRead};
+pub use trace::{Full, Trace};

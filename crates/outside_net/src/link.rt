@@ -1,0 +1,67 @@
+// What datagrams come from and go to.
+ghost use Rattle.std.specs.Prelude.{◌≡◌, ℕ, List, Bool, IfOk};
+ghost use Rattle.std.specs.Option.{option_map};
+ghost use Rattle.std.specs.declared.option.Option.{Option};
+ghost use Rattle.outside_io.specs.Causes.{RoseWhere, HasCause};
+ghost use Rattle.outside_io.specs.declared.channel.Channel.{Channel};
+ghost use Rattle.outside_net.specs.Streams.{later, IsFirst};
+ghost use Rattle.outside_net.specs.Links.{Answer, Datagram, answer_of, IsWithin, IsOver, KnowsAfter, has_read_failed, has_come_to_end, taken_with};
+
+use outside_io::{Channel, Failed};
+
+/// How many octets a datagram has at most.
+pub const MAX_DATAGRAM: usize = 2048;
+
+/// The answer to a read.
+#[derive(Clone, Copy, Debug, PartialEq, Eq)]
+pub enum Got {
+    /// A datagram of so many octets, at the front of the block.
+    Datagram(Channel, usize),
+    /// None was there at this call.
+    Quiet,
+    /// None will come any more.
+    End,
+    /// The call failed.
+    Failed,
+}
+
+/// Gives datagrams and takes datagrams, on channels. A datagram goes to its channel's peer.
+pub trait Link {
+    /// The answers that its reads have still to give, by the number of the read from the next one on, where it tells
+    /// them.
+    ghost reads: { Self → Option (ℕ → Answer) };
+
+    /// The datagrams that it took, the oldest first, where it tells them.
+    ghost taken: { Self → Option (List Datagram) };
+
+    /// Whether the peer of a channel is known.
+    ghost knows: { Self → Channel → Bool };
+
+    /// How many calls failed. It never falls.
+    ghost faults: { Self → ℕ };
+
+    /// How many reads answered that none will come any more. It never falls.
+    ghost ends: { Self → ℕ };
+
+    /// The next datagram, if there is one now, at the front of the block. Whoever sent it is its channel's peer, unless
+    /// the link has a stated one.
+    fn read(&mut self, buf: &mut [u8; 2048]) -> Got
+        ensures within { IsWithin result }
+        ensures value { IsFirst (reads self.old) (answer_of result buf.new) }
+        ensures reads { reads self.new ≡ option_map later (reads self.old) }
+        // After an end no datagram is left to give.
+        ensures over { IsOver (answer_of result buf.new) (reads self.new) }
+        ensures peer { KnowsAfter (knows self.old) (knows self.new) result }
+        ensures same { taken self.new ≡ taken self.old }
+        ensures cause { RoseWhere (has_read_failed result) (faults self.old) (faults self.new) }
+        ensures end { RoseWhere (has_come_to_end result) (ends self.old) (ends self.new) };
+
+    /// Sends a datagram to the channel's peer. `false` says that none is known yet, and then nothing was taken.
+    fn write(&mut self, channel: Channel, octets: &[u8]) -> Result<bool, Failed>
+        ensures taken { taken self.new ≡ option_map (taken_with channel octets.now result) (taken self.old) }
+        ensures peer { IfOk result (λ went. went ≡ knows self.old channel) }
+        ensures same { reads self.new ≡ reads self.old }
+        ensures peers { (c : Channel) → knows self.new c ≡ knows self.old c }
+        ensures ends { ends self.new ≡ ends self.old }
+        ensures cause { HasCause (faults self.old) (faults self.new) result };
+}
