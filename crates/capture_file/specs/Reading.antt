@@ -1,7 +1,7 @@
 -- What the steps of a reader answer, by the octets that remained and that remain now, where those are told.
 use Rattle.std.specs.Prelude.{◌≡◌, ◌≢◌, ◌⊎◌, ℕ, ◌+◌, ◌^◌, ◌<◌, ◌≤◌, List, [], ◌++◌, length, take, None, Some, Result, Ok, Err, IfSome, if◌then◌else◌, ◌==◌, Bool, true, false}
 use Rattle.std.specs.declared.option.Option.{Option}
-use Rattle.outside_io.specs.Causes.{RoseWhere}
+use Rattle.outside_io.specs.Causes.{Fault, NoFault, Read}
 use Rattle.outside_io.specs.Told.{Takes, IsEmpty}
 use Rattle.capture_file.specs.Capture.{magic, Fits, NoRecord, spelling}
 use Rattle.capture_file.specs.Tests.{length_said, fault_of_head, fault_at}
@@ -11,15 +11,10 @@ use Rattle.capture_file.specs.declared.reader.CapKind.TheVariants.{Magic, Trunca
 use Rattle.capture_file.specs.declared.reader.CapBad.{CapBad}
 use Rattle.capture_file.specs.declared.reader.CapBad.TheVariants.{Bad, ReadFault}
 
--- a read failed
-abbrev pub is_read_fault : {T : Type 0} → Result T CapBad → Bool
-is_read_fault (Ok x) = false
-is_read_fault (Err (Bad kind place)) = false
-is_read_fault (Err ReadFault) = true
-
--- the count rose exactly where the answer is a read fault
-abbrev pub HasReadCause : {T : Type 0} → ℕ → ℕ → Result T CapBad → Type 0
-HasReadCause before now result = RoseWhere (is_read_fault result) before now
+-- which call failed, by a reader's error
+abbrev pub read_fault : CapBad → Fault
+read_fault (Bad kind place) = NoFault
+read_fault ReadFault = Read
 
 -- a read failed after this part of what remained, of which this holds
 abbrev pub IsCutShort : Option (List ℕ) → Option (List ℕ) → (List ℕ → Type 0) → Type 0

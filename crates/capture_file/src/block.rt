@@ -1,8 +1,9 @@
-// A source that is read in large pieces through a block, so that small reads cost no call outside.
+//! A source that is read in large pieces through a block, so that small reads cost no call outside.
 ghost use Rattle.std.specs.Prelude.{◌≡◌, ◌≤◌, ◌<◌, [], length, take, min, IfOk, OnOk, OnErr};
 ghost use Rattle.std.specs.Io.{ReadsAtMost};
 ghost use Rattle.outside_io.specs.Causes.{HasCause};
 ghost use Rattle.outside_io.specs.Told.{Takes, IsEmpty};
+ghost use Rattle.capture_file.specs.Reader.{most_ahead};
 ghost use Rattle.capture_file.specs.Block.{BlockState, between, behind};
 
 use outside_io::{Failed, Source, copy_front};
@@ -22,7 +23,11 @@ pub(crate) struct Block<S: Source> {
 impl<S: Source> Model for Block<S> {
     ghost Value = { BlockState };
 
-    ghost view = { λ b. record { remaining = behind (between b.octets b.from b.to) (S.remaining b.source); ahead = between b.octets b.from b.to; faults = S.faults b.source } };
+    ghost view = { λ b. record {
+      remaining = behind (between b.octets b.from b.to) (S.remaining b.source);
+      ahead = between b.octets b.from b.to;
+      faults = S.faults b.source;
+    } };
 
     ghost invariant = { λ b. (b.from ≤ b.to) × (b.to ≤ 65536) };
 }
@@ -41,6 +46,7 @@ impl<S: Source> Block<S> {
 
     pub(crate) fn back(self) -> S
         ensures value { self.remaining ≡ behind self.ahead (S.remaining result) }
+        ensures within { length self.ahead ≤ most_ahead }
         ensures same { S.faults result ≡ self.faults }
     {
         self.source

@@ -1,4 +1,4 @@
-// The twelve octets before a record's own.
+//! The twelve octets before a record's own.
 ghost use Rattle.std.specs.Prelude.{◌≡◌, ◌≤◌, ◌<◌, ◌+◌, ◌^◌, length, None, Some, IfOk, IfErr, IfSome, IfNone};
 ghost use Rattle.std.specs.Int.{w16, w64, to_be_bytes, from_be_bytes};
 ghost use Rattle.capture_file.specs.Capture.{channel_code};
@@ -61,7 +61,8 @@ pub(crate) fn head_of(octets: &[u8], at: u64) -> Result<Head, CapKind>
     requires { length octets.now ≡ 12 }
     ensures octets { IfOk result (λ head. head_octets head ≡ octets.now) }
     ensures said { IfOk result (λ head. length_said octets.now ≡ head.length) }
-    ensures fits { IfOk result (λ head. (head.link < 16) × (head.length ≤ 2048) × (head.us < 2 ^ 64) × (at + 12 + head.length ≤ 2 ^ 40)) }
+    ensures fits { IfOk result (λ head. (head.link < 16) × (head.length ≤ 2048)
+        × (head.us < 2 ^ 64) × (at + 12 + head.length ≤ 2 ^ 40)) }
     ensures none { IfOk result (λ head. fault_of_head at octets.now ≡ None) }
     ensures fault { IfErr result (λ kind. fault_of_head at octets.now ≡ Some kind) }
 {

@@ -1,9 +1,10 @@
-// Reads the records of a capture.
+//! Reads the records of a capture.
 ghost use Rattle.std.specs.Prelude.{◌≡◌, ◌≤◌, ◌<◌, ◌+◌, ◌^◌, false, true, IfOk, IsErrOf, IfSome, take, length, []};
 ghost use Rattle.capture_file.specs.declared.reader.CapBad.TheVariants.{ReadFault};
+ghost use Rattle.outside_io.specs.Causes.{HasReadCause, fault_by};
 ghost use Rattle.outside_io.specs.Told.{Takes};
-ghost use Rattle.capture_file.specs.Reader.{ReaderState, new_reader};
-ghost use Rattle.capture_file.specs.Reading.{ReadsName, ReadsHead, ReadsBody, Enters, ReadsRecord, ReadsNext, HasReadCause, offset_at, spent_by};
+ghost use Rattle.capture_file.specs.Reader.{ReaderState, new_reader, most_ahead};
+ghost use Rattle.capture_file.specs.Reading.{ReadsName, ReadsHead, ReadsBody, Enters, ReadsRecord, ReadsNext, read_fault, offset_at, spent_by};
 
 use crate::Head;
 use crate::block::Block;
@@ -86,7 +87,7 @@ pub(crate) const MAGIC: [u8; 8] = *b"RISTCAP1";
 fn begin<S: Source>(source: &mut Block<S>) -> Result<(), CapBad>
     ensures value { ReadsName source.old.remaining source.new.remaining result }
     ensures ahead { IsErrOf result ReadFault → source.new.ahead ≡ [] }
-    ensures cause { HasReadCause source.old.faults source.new.faults result }
+    ensures cause { HasReadCause (fault_by read_fault result) source.old.faults source.new.faults }
 {
     let mut name = [0; 8];
     let Ok(count) = read_full(source, &mut name) else {
@@ -105,7 +106,7 @@ fn begin<S: Source>(source: &mut Block<S>) -> Result<(), CapBad>
 fn head_at<S: Source>(source: &mut Block<S>, at: u64) -> Result<Option<Head>, CapBad>
     ensures value { ReadsHead at source.old.remaining source.new.remaining result }
     ensures ahead { IsErrOf result ReadFault → source.new.ahead ≡ [] }
-    ensures cause { HasReadCause source.old.faults source.new.faults result }
+    ensures cause { HasReadCause (fault_by read_fault result) source.old.faults source.new.faults }
 {
     let mut octets = [0; 12];
     let Ok(count) = read_full(source, &mut octets) else {
@@ -127,7 +128,7 @@ fn head_at<S: Source>(source: &mut Block<S>, at: u64) -> Result<Option<Head>, Ca
 fn body<S: Source>(source: &mut Block<S>, at: u64, buf: &mut [u8]) -> Result<(), CapBad>
     ensures value { ReadsBody at (length buf.old) source.old.remaining source.new.remaining buf.new result }
     ensures ahead { IsErrOf result ReadFault → source.new.ahead ≡ [] }
-    ensures cause { HasReadCause source.old.faults source.new.faults result }
+    ensures cause { HasReadCause (fault_by read_fault result) source.old.faults source.new.faults }
 {
     let Ok(count) = read_full(source, buf) else {
         return Err(CapBad::ReadFault);
@@ -142,7 +143,7 @@ fn body<S: Source>(source: &mut Block<S>, at: u64, buf: &mut [u8]) -> Result<(),
 fn enter<S: Source>(source: &mut Block<S>, at: u64) -> Result<u64, CapBad>
     ensures value { Enters at source.old.remaining source.new.remaining result }
     ensures ahead { IsErrOf result ReadFault → source.new.ahead ≡ [] }
-    ensures cause { HasReadCause source.old.faults source.new.faults result }
+    ensures cause { HasReadCause (fault_by read_fault result) source.old.faults source.new.faults }
 {
     if at != 0 {
         return Ok(at);
@@ -163,7 +164,7 @@ fn record_at<S: Source>(
     ensures within { IfOk result (λ o. IfSome o (λ head. at + 12 + head.length ≤ 2 ^ 40)) }
     ensures size { IfOk result (λ o. IfSome o (λ head. length (take head.length buf.new) ≡ head.length)) }
     ensures ahead { IsErrOf result ReadFault → source.new.ahead ≡ [] }
-    ensures cause { HasReadCause source.old.faults source.new.faults result }
+    ensures cause { HasReadCause (fault_by read_fault result) source.old.faults source.new.faults }
 {
     let head = match head_at(source, at) {
         Ok(Some(head)) => head,
@@ -187,7 +188,13 @@ pub struct Reader<S: Source> {
 impl<S: Source> Model for Reader<S> {
     ghost Value = { ReaderState };
 
-    ghost view = { λ r. record { remaining = r.source.remaining; ahead = r.source.ahead; at = r.at; faults = r.source.faults; spent = r.spent } };
+    ghost view = { λ r. record {
+      remaining = r.source.remaining;
+      ahead = r.source.ahead;
+      at = r.at;
+      faults = r.source.faults;
+      spent = r.spent;
+    } };
 }
 
 impl<S: Source> Reader<S> {
@@ -212,6 +219,8 @@ impl<S: Source> Reader<S> {
     /// Gives the source back. What was taken from it ahead of need is lost.
     pub fn back(self) -> S
         ensures value { Takes self.remaining (S.remaining result) self.ahead }
+        // No more than a block is taken ahead.
+        ensures within { length self.ahead ≤ most_ahead }
         ensures same { S.faults result ≡ self.faults }
     {
         self.source.back()
@@ -227,7 +236,7 @@ impl<S: Source> Reader<S> {
         ensures spent { self.new.spent ≡ spent_by result }
         // At a fault all that was taken from the source was read.
         ensures ahead { IsErrOf result ReadFault → self.new.ahead ≡ [] }
-        ensures cause { HasReadCause self.old.faults self.new.faults result }
+        ensures cause { HasReadCause (fault_by read_fault result) self.old.faults self.new.faults }
     {
         let at = match enter(&mut self.source, self.at) {
             Ok(at) => at,

@@ -1,4 +1,4 @@
-// Worked captures, whole and cut, and each refusal once.
+//! Worked captures, whole and cut, and each refusal once.
 use crate::{CapBad, CapKind, Head, Reader, WriteFault, Writer};
 use outside_io::{Bytes, Channel, Pieces, Source, Store8};
 use std::alloc::Global;
@@ -146,5 +146,11 @@ fn what_is_written_is_a_capture(rt: HostRuntime) -> Result<(), Fail> {
     let sink = writer.back();
     let want = joined(alloc, &[NAME, A, &A[..7]])?;
     assert_eq!(rt; sink.octets(), want.as_slice());
+    // The name is one call of the sink, and so is a record: the third call, which fails, is the second record's.
+    let mut writer = Writer::over(Store8::with(alloc, 64, &[2])?);
+    assert_eq!(rt; writer.begin(), Ok(()));
+    assert_eq!(rt; writer.add(&head, octets), Ok(()));
+    assert_eq!(rt; writer.add(&head, octets), Err(WriteFault));
+    assert_eq!(rt; writer.back().octets(), &want[..33]);
     Ok(())
 }

@@ -1,4 +1,4 @@
-// Writes the records of a capture.
+//! Writes the records of a capture.
 ghost use Rattle.std.specs.Prelude.{◌≡◌, ◌≤◌, ◌<◌, ◌+◌, true, false, length, take, OnOk, OnErr};
 ghost use Rattle.outside_io.specs.Causes.{HasCause};
 ghost use Rattle.outside_io.specs.Told.{Appends, AppendsPart};
@@ -124,8 +124,10 @@ impl<K: Sink> Writer<K> {
         requires link { head.now.link < 16 }
         requires fits { length octets.now ≤ 2048 }
         requires length { head.now.length ≡ length octets.now }
-        ensures ok { OnOk result (Appends self.old.contents self.new.contents (spelling (record_of head.now octets.now))) }
-        ensures err { OnErr result (AppendsPart self.old.contents self.new.contents (spelling (record_of head.now octets.now))) }
+        ensures ok { OnOk result
+            (Appends self.old.contents self.new.contents (spelling (record_of head.now octets.now))) }
+        ensures err { OnErr result
+            (AppendsPart self.old.contents self.new.contents (spelling (record_of head.now octets.now))) }
         ensures begun { self.new.begun ≡ true }
         ensures cause { HasCause self.old.faults self.new.faults result }
     {

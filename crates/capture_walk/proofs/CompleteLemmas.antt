@@ -1,18 +1,17 @@
 -- A capture within the greatest offset is walked to its end.
-use Rattle.std.proofs.Common.{◌≡◌, ℕ, ◌+◌, ◌^◌, ◌<◌, ◌≤◌, List, [], ◌∷◌, ◌++◌, length, take, drop, flat_map, Some, None, Option, All, refl, sym, ap, ◌∙◌, subst, append_assoc, arith, length-append, if◌then◌else◌}
+use Rattle.std.proofs.Common.{◌≡◌, ℕ, ◌+◌, ◌^◌, ◌<◌, ◌≤◌, List, [], ◌∷◌, ◌++◌, length, take, drop, flat_map, Some, None, All, refl, sym, ap, ◌∙◌, subst, append_assoc, arith, length-append, if◌then◌else◌, IfSome}
 use mathlib.Core.Logic.{inl, inr}
 use Rattle.std.specs.Prelude.{Result, Ok, Err, nat_lt}
 use Rattle.std.specs.Int.{w16, to_be_bytes, from_be_bytes}
 use Rattle.std.proofs.lemmas.Nat.{from_be_bytes-to_be_bytes_2}
 use Rattle.std.proofs.lemmas.Bool.Decides.{nat_tests}
 use Rattle.std.proofs.lemmas.List.Elements.{All-head, All-tail}
-use Rattle.outside_io.specs.declared.channel.Channel.{Channel}
-use Rattle.outside_io.specs.declared.channel.Channel.TheVariants as channels
 use Rattle.capture_file.specs.Capture.{Record, Fits, IsCapture, magic, spelling, channel_code}
 use Rattle.capture_file.specs.Tests.{BadAt, FaultIn, fault_at, fault_of_head, fault_of_body, or_else}
 use Rattle.capture_file.proofs.FormatLemmas.{one_spelling, no_capture, code_bound, whole_body}
 use Rattle.capture_file.specs.declared.reader.CapKind.TheVariants.{Truncated, Link, Long, TooLong, Channel as ChannelBad}
-use Rattle.capture_walk.specs.Leaves.{Leaves}
+use Rattle.outside_io.specs.Told.{Passage, Appends}
+use Rattle.capture_walk.specs.Leaves.{Leaves, EndsAfter}
 use Rattle.capture_walk.specs.declared.walk_bad.WalkBad.{WalkBad}
 use Rattle.capture_walk.specs.declared.walk_bad.WalkBad.TheVariants as bads
 
@@ -62,11 +61,15 @@ no_too_long b at rs (inr fault) c bound =
     too_long_in b at fault o.others o.each o.whole bound
 
 -- a walk over a capture within the greatest offset, in which nothing failed and no memory was refused, came to the end
-pub walk_completes : (so_far whole : List Record → List ℕ) (b : List ℕ) (rs : List Record) (rest old new : Option (List ℕ)) (end : Result Unit WalkBad) → IsCapture rs b → length b ≤ 2 ^ 40
-    → (end ≡ Err bads.ReadFault → ⊥) → (end ≡ Err bads.WriteFault → ⊥) → (end ≡ Err bads.Memory → ⊥) → Leaves so_far whole (Some b) rest old new end → end ≡ Ok tt
-walk_completes so_far whole b rs rest old new (Ok x) c bound read write memory left = refl
-walk_completes so_far whole b rs rest old new (Err (bads.BadCapture kind at)) c bound read write memory left = absurd (no_capture b kind at rs left.1.0 left.0 c)
-walk_completes so_far whole b rs rest old new (Err bads.TooLong) c bound read write memory left = absurd (no_too_long b left.0 rs left.1 c bound)
-walk_completes so_far whole b rs rest old new (Err bads.ReadFault) c bound read write memory left = absurd (read refl)
-walk_completes so_far whole b rs rest old new (Err bads.WriteFault) c bound read write memory left = absurd (write refl)
-walk_completes so_far whole b rs rest old new (Err bads.Memory) c bound read write memory left = absurd (memory refl)
+pub walk_completes : (so_far whole : List Record → List ℕ) (ahead : ℕ) (p : Passage) (end : Result Unit WalkBad) (b : List ℕ) (rs : List Record) → p.had ≡ Some b → IsCapture rs b → length b ≤ 2 ^ 40
+    → (end ≡ Err bads.ReadFault → ⊥) → (end ≡ Err bads.WriteFault → ⊥) → (end ≡ Err bads.Memory → ⊥) → Leaves so_far whole ahead p end → end ≡ Ok tt
+walk_completes so_far whole ahead p (Ok x) b rs told c bound read write memory left = refl
+walk_completes so_far whole ahead p (Err (bads.BadCapture kind at)) b rs told c bound read write memory left =
+    let l = subst (λ o. IfSome o (λ b. (done : List Record) × EndsAfter 0 b p.left done (Err (bads.BadCapture kind at)) × Appends p.held p.holds (whole done))) told left in
+    absurd (no_capture b kind at rs l.1.1 l.1.0 c)
+walk_completes so_far whole ahead p (Err bads.TooLong) b rs told c bound read write memory left =
+    let l = subst (λ o. IfSome o (λ b. (done : List Record) × EndsAfter 0 b p.left done (Err bads.TooLong) × Appends p.held p.holds (whole done))) told left in
+    absurd (no_too_long b l.1.0 rs l.1.1 c bound)
+walk_completes so_far whole ahead p (Err bads.ReadFault) b rs told c bound read write memory left = absurd (read refl)
+walk_completes so_far whole ahead p (Err bads.WriteFault) b rs told c bound read write memory left = absurd (write refl)
+walk_completes so_far whole ahead p (Err bads.Memory) b rs told c bound read write memory left = absurd (memory refl)

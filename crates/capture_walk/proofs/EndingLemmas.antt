@@ -1,10 +1,10 @@
 -- A walk ends.
-use Rattle.std.proofs.Common.{◌≡◌, ◌≢◌, ◌⊎◌, ℕ, ◌+◌, ◌^◌, ◌<◌, ◌≤◌, List, [], ◌∷◌, ◌++◌, length, take, flat_map, None, Some, refl, sym, ap, ◌∙◌, subst, append_assoc, append-nil, arith, length-append, length-take, All, Option, zero, suc, IfSome}
+use Rattle.std.proofs.Common.{◌≡◌, ◌≢◌, ◌⊎◌, ℕ, ◌+◌, ◌^◌, ◌<◌, ◌≤◌, List, [], ◌∷◌, ◌++◌, length, take, flat_map, None, Some, refl, sym, ap, ◌∙◌, subst, append_assoc, append-nil, arith, length-append, length-take, All, Option, IfSome}
 use mathlib.Core.Logic.{inl, inr}
 use Rattle.std.specs.Prelude.{Result, Ok, Err, IsErrOf}
 use Rattle.std.proofs.lemmas.List.{nil_from_length}
 use Rattle.std.proofs.lemmas.List.Elements.{All-push}
-use Rattle.outside_io.specs.Told.{Appends, Takes, IsEmpty, IsPrefix, WritesPart}
+use Rattle.outside_io.specs.Told.{Passage, Appends, AppendsBetween, IsReadTo, Takes, IsEmpty, WritesPart}
 use Rattle.outside_io.proofs.ToldLemmas.{appends_both, takes_both}
 use Rattle.capture_file.specs.Capture.{Record, Fits, magic, spelling}
 use Rattle.capture_file.specs.Tests.{BadAt}
@@ -14,61 +14,50 @@ use Rattle.capture_file.specs.declared.reader.CapKind.{CapKind}
 use Rattle.capture_file.specs.declared.reader.CapKind.TheVariants as kinds
 use Rattle.capture_file.specs.declared.reader.CapBad.{CapBad}
 use Rattle.capture_file.specs.declared.reader.CapBad.TheVariants.{Bad, ReadFault}
-use Rattle.capture_walk.specs.Leaves.{records_before, Begin, Fronts, WritesOf, WritesFrontOf, WritesBegun, Leaves, walk_bad_of}
-use Rattle.capture_walk.specs.Sofar.{HasRead}
+use Rattle.capture_walk.specs.Leaves.{records_before, HasGiven, Fronts, EndsAfter, WantsMemory, IsUnbegun, Leaves, walk_bad_of}
+use Rattle.capture_walk.specs.Inside.Sofar.{HasRead}
 use Rattle.capture_walk.specs.declared.walk_bad.WalkBad.{WalkBad}
 use Rattle.capture_walk.specs.declared.walk_bad.WalkBad.TheVariants as bads
 use Rattle.capture_walk.proofs.GoingLemmas.{no_name, offset_bound, first_offset, first_name, rest_on, none_done, none_taken, left_of}
 
-begin_at : (at : ℕ) (x : List ℕ) (done : List Record) (c taken : List ℕ) → 0 < at → All Fits done → x ≡ taken ++ c → taken ++ name_at at ≡ magic ++ flat_map spelling done → Begin done x
-begin_at at x done c taken some each p e = record {
+-- ---- what was read of octets that are told
+
+given_at : (at : ℕ) (x : List ℕ) (b : Option (List ℕ)) (done : List Record) (c taken : List ℕ) → 0 < at → All Fits done → x ≡ taken ++ c → b ≡ Some c
+    → taken ++ name_at at ≡ magic ++ flat_map spelling done → HasGiven 0 done x b
+given_at at x b done c taken some each p told e = record {
   each = each;
-  rest = c;
-  whole = p ∙ ap (λ l. l ++ c) (sym (append-nil taken) ∙ ap (λ l. taken ++ l) (sym (no_name at some)) ∙ e) ∙ append_assoc magic (flat_map spelling done) c;
+  read = record {
+    more = [];
+    rest = c;
+    whole = p ∙ ap (λ l. l ++ c) (sym (append-nil taken) ∙ ap (λ l. taken ++ l) (sym (no_name at some)) ∙ e);
+    told = told;
+    within = omega arith;
+  };
 }
 
--- the records read so far stand at the front
-begun : (x : List ℕ) (a : Option (List ℕ)) (at : ℕ) (done : List Record) → HasRead (Some x) a at done → (done ≡ []) ⊎ Begin done x
-begun x a zero done read = inl (none_done done (first_offset 0 (length (flat_map spelling done)) refl read.place))
-begun x a (suc at) done read =
-    let l = left_of x read.rest.0 a read.rest.1 in
-    inr (begin_at (suc at) x done l.rest read.rest.0 (omega arith) read.each l.whole read.rest.2)
-
--- a call that failed wrote a front of what it had to write
-front_at : (u v w : Option (List ℕ)) (first whole : List ℕ) → Appends u v first → WritesPart v w first whole → (front : List ℕ) × Appends u w front × IsPrefix front whole
-front_at u v w first whole before told = (first ++ told.0, appends_both u v w first told.0 before told.1, told.2)
-
--- a record was read and not taken
-step_failed : (so_far whole : List Record → List ℕ) (x : List ℕ) (a b u v w : Option (List ℕ)) (at next : ℕ) (done : List Record) (r : Record) → HasRead (Some x) a at done → Fits r → 0 < next → Takes a b (name_at at ++ spelling r)
-    → Appends u v (so_far done) → WritesPart v w (so_far done) (so_far (done ++ r ∷ [])) → WritesFrontOf so_far whole u w x
-step_failed so_far whole x a b u v w at next done r read fits some told before part =
+-- a record was read behind those that were taken
+given_one : (x : List ℕ) (a b : Option (List ℕ)) (at next : ℕ) (done : List Record) (r : Record) → HasRead (Some x) a at done → Fits r → 0 < next
+    → Takes a b (name_at at ++ spelling r) → HasGiven 0 (done ++ r ∷ []) x b
+given_one x a b at next done r read fits some told =
     let on = rest_on (Some x) a b at next done r read.rest some told in
     let l = left_of x on.0 b on.1 in
-    let front = front_at u v w (so_far done) (so_far (done ++ r ∷ [])) before part in (
-      done ++ r ∷ [],
-      inr (begin_at next x (done ++ r ∷ []) l.rest on.0 some (All-push Fits done r read.each fits) l.whole on.2),
-      (front.0, front.1, inl front.2),
-    )
+    given_at next x b (done ++ r ∷ []) l.rest on.0 some (All-push Fits done r read.each fits) l.whole l.told on.2
 
--- the end was not taken
-end_failed : (so_far whole : List Record → List ℕ) (x : List ℕ) (a u v w : Option (List ℕ)) (at : ℕ) (done : List Record) → HasRead (Some x) a at done
-    → Appends u v (so_far done) → WritesPart v w (so_far done) (whole done) → WritesFrontOf so_far whole u w x
-end_failed so_far whole x a u v w at done read before part =
-    let front = front_at u v w (so_far done) (whole done) before part in
-    (done, begun x a at done read, (front.0, front.1, inr front.2))
+-- a call that failed wrote a front part of what it had to write
+between : (u v w : Option (List ℕ)) (first whole : List ℕ) → Appends u v first → WritesPart v w first whole → AppendsBetween u w first whole
+between u v w first whole before told = (first ++ told.0, appends_both u v w first told.0 before told.1, (told.0, refl), told.2)
 
 whole_size : (x m f : List ℕ) (at : ℕ) → x ≡ m ++ f → length m ≡ 8 → offset_at at ≡ 8 + length f → at ≤ 2 ^ 40 → length x ≤ 2 ^ 40
 whole_size x m f at whole size place bound = let long = offset_bound at bound in omega (arith, ap length whole, length-append m f)
 
 -- at the end the octets that were told first are a capture of these records
-pub done_whole : (so_far whole : List Record → List ℕ) (first a b u w : Option (List ℕ)) (at : ℕ) (done : List Record) → HasRead first a at done → Takes a b (name_at at) → IsEmpty b
-    → Appends u w (whole done) → Leaves so_far whole first b u w (Ok tt)
-done_whole so_far whole None a b u w at done read told empty all = (empty, tt)
-done_whole so_far whole (Some x) a b u w at done read told empty all =
+ends_whole : (x : List ℕ) (a b : Option (List ℕ)) (at : ℕ) (done : List Record) → HasRead (Some x) a at done → Takes a b (name_at at) → IsEmpty b
+    → EndsAfter 0 x b done (Ok tt)
+ends_whole x a b at done read told empty =
     let l = left_of x (read.rest.0 ++ name_at at) b (takes_both (Some x) a b read.rest.0 (name_at at) read.rest.1 told) in
     let nothing : l.rest ≡ [] = subst (λ o. IsEmpty o) l.told empty in
     let all_of : x ≡ magic ++ flat_map spelling done = l.whole ∙ ap (λ c. (read.rest.0 ++ name_at at) ++ c) nothing ∙ append-nil (read.rest.0 ++ name_at at) ∙ read.rest.2 in
-    (empty, (done, record { each = read.each; whole = all_of }, whole_size x magic (flat_map spelling done) at all_of refl read.place read.bound, all))
+    (empty, record { each = read.each; whole = all_of }, whole_size x magic (flat_map spelling done) at all_of refl read.place read.bound)
 
 regrouped : (x t n m f c r : List ℕ) → x ≡ t ++ c → c ≡ n ++ r → t ++ n ≡ m ++ f → x ≡ m ++ (f ++ r)
 regrouped x t n m f c r p q e =
@@ -116,65 +105,139 @@ read_fronts taken part at done e each off (inr more) = inl (record {
   no_more = more.2;
 })
 
--- at an offset that is too high the records before it were taken
-too_long : (so_far whole : List Record → List ℕ) (x : List ℕ) (b u w : Option (List ℕ)) (done : List Record) (place : ℕ) → (bad : BadAt x kinds.TooLong place) × (records_before bad ≡ done) → Appends u w (whole done) → Leaves so_far whole (Some x) b u w (Err bads.TooLong)
-too_long so_far whole x b u w done place bad all = (place, bad.0, subst (λ rs. Appends u w (whole rs)) (sym bad.1) all)
-
 -- the records before a fault are the whole records at the front
 bad_fronts : (x : List ℕ) (kind : CapKind) (place : ℕ) → kind ≢ kinds.TooLong → (bad : BadAt x kind place) → Fronts (records_before bad) x
 bad_fronts x kind place other (inl name) = inr (refl, name.2)
 bad_fronts x kind place other (inr fault) = inl (record { each = fault.each; rest = fault.rest; whole = fault.whole; no_more = no_record_at_fault place kind fault.rest fault.fails other })
 
-bad_capture : (whole : List Record → List ℕ) (x : List ℕ) (u w : Option (List ℕ)) (done : List Record) (kind : CapKind) (place : ℕ) → kind ≢ kinds.TooLong → (bad : BadAt x kind place) × (records_before bad ≡ done) → Appends u w (whole done)
-    → BadAt x kind place × WritesOf whole u w x
-bad_capture whole x u w done kind place other bad all = (bad.0, (records_before bad.0, bad_fronts x kind place other bad.0, subst (λ rs. Appends u w (whole rs)) (sym bad.1) all))
+-- a test fails of what stands behind these records
+ends_bad : (x : List ℕ) (b : Option (List ℕ)) (done : List Record) (kind : CapKind) (place : ℕ) → kind ≢ kinds.TooLong
+    → (bad : BadAt x kind place) × (records_before bad ≡ done) → EndsAfter 0 x b done (Err (bads.BadCapture kind place))
+ends_bad x b done kind place other bad =
+    (other, bad.0, subst (λ rs. Fronts rs x) bad.1 (bad_fronts x kind place other bad.0))
 
--- what was read holds no more whole records
-read_fault : (so_far whole : List Record → List ℕ) (x : List ℕ) (a b u w : Option (List ℕ)) (at : ℕ) (done : List Record) → HasRead (Some x) a at done
-    → IsCutShort a b (IsUnfinished at) → Appends u w (whole done) → Leaves so_far whole (Some x) b u w (Err bads.ReadFault)
-read_fault so_far whole x a b u w at done read cut all =
-    let l = left_of x (read.rest.0 ++ cut.0) b (takes_both (Some x) a b read.rest.0 cut.0 read.rest.1 cut.1) in
-    (read.rest.0 ++ cut.0, (l.rest, l.told, l.whole), (done, read_fronts read.rest.0 cut.0 at done read.rest.2 read.each read.place cut.2, all))
+-- what was read before a fault holds no more whole records
+ends_cut : (x : List ℕ) (a b : Option (List ℕ)) (at : ℕ) (done : List Record) → HasRead (Some x) a at done → IsCutShort a b (IsUnfinished at)
+    → EndsAfter 0 x b done (Err bads.ReadFault)
+ends_cut x a b at done read cut =
+    let l = left_of x (read.rest.0 ++ cut.0) b (takes_both (Some x) a b read.rest.0 cut.0 read.rest.1 cut.1) in (
+      read.rest.0 ++ cut.0,
+      record { more = []; rest = l.rest; whole = l.whole; told = l.told; within = omega arith },
+      read_fronts read.rest.0 cut.0 at done read.rest.2 read.each read.place cut.2,
+    )
 
--- an error of the reader says how the walk ended
-pub bad_end : (so_far whole : List Record → List ℕ) (first a b u w : Option (List ℕ)) (at : ℕ) (done : List Record) (buf : List ℕ) (bad : CapBad) → HasRead first a at done → ReadsNext at a b buf (Err bad)
-    → Appends u w (whole done) → Leaves so_far whole first b u w (Err (walk_bad_of bad))
-bad_end so_far whole None a b u w at done buf (Bad kinds.TooLong place) read told all = tt
-bad_end so_far whole None a b u w at done buf (Bad kinds.Magic place) read told all = (λ e. cc, tt)
-bad_end so_far whole None a b u w at done buf (Bad kinds.Truncated place) read told all = (λ e. cc, tt)
-bad_end so_far whole None a b u w at done buf (Bad kinds.Link place) read told all = (λ e. cc, tt)
-bad_end so_far whole None a b u w at done buf (Bad kinds.Channel place) read told all = (λ e. cc, tt)
-bad_end so_far whole None a b u w at done buf (Bad kinds.Long place) read told all = (λ e. cc, tt)
-bad_end so_far whole None a b u w at done buf ReadFault read told all = tt
-bad_end so_far whole (Some x) a b u w at done buf (Bad kinds.TooLong place) read told all = too_long so_far whole x b u w done place (told_bad x a at done kinds.TooLong place read told) all
-bad_end so_far whole (Some x) a b u w at done buf (Bad kinds.Magic place) read told all = (λ e. cc, bad_capture whole x u w done kinds.Magic place (λ e. cc) (told_bad x a at done kinds.Magic place read told) all)
-bad_end so_far whole (Some x) a b u w at done buf (Bad kinds.Truncated place) read told all = (λ e. cc, bad_capture whole x u w done kinds.Truncated place (λ e. cc) (told_bad x a at done kinds.Truncated place read told) all)
-bad_end so_far whole (Some x) a b u w at done buf (Bad kinds.Link place) read told all = (λ e. cc, bad_capture whole x u w done kinds.Link place (λ e. cc) (told_bad x a at done kinds.Link place read told) all)
-bad_end so_far whole (Some x) a b u w at done buf (Bad kinds.Channel place) read told all = (λ e. cc, bad_capture whole x u w done kinds.Channel place (λ e. cc) (told_bad x a at done kinds.Channel place read told) all)
-bad_end so_far whole (Some x) a b u w at done buf (Bad kinds.Long place) read told all = (λ e. cc, bad_capture whole x u w done kinds.Long place (λ e. cc) (told_bad x a at done kinds.Long place read told) all)
-bad_end so_far whole (Some x) a b u w at done buf ReadFault read told all = read_fault so_far whole x a b u w at done read told all
+-- an error of the reader says how the records ended
+ends_by : (x : List ℕ) (a b : Option (List ℕ)) (at : ℕ) (done : List Record) (buf : List ℕ) (bad : CapBad) → HasRead (Some x) a at done → ReadsNext at a b buf (Err bad)
+    → EndsAfter 0 x b done (Err (walk_bad_of bad))
+ends_by x a b at done buf (Bad kinds.TooLong place) read told =
+    let bad = told_bad x a at done kinds.TooLong place read told in
+    (place, bad.0, sym bad.1)
+ends_by x a b at done buf (Bad kinds.Magic place) read told = ends_bad x b done kinds.Magic place (λ e. cc) (told_bad x a at done kinds.Magic place read told)
+ends_by x a b at done buf (Bad kinds.Truncated place) read told = ends_bad x b done kinds.Truncated place (λ e. cc) (told_bad x a at done kinds.Truncated place read told)
+ends_by x a b at done buf (Bad kinds.Link place) read told = ends_bad x b done kinds.Link place (λ e. cc) (told_bad x a at done kinds.Link place read told)
+ends_by x a b at done buf (Bad kinds.Channel place) read told = ends_bad x b done kinds.Channel place (λ e. cc) (told_bad x a at done kinds.Channel place read told)
+ends_by x a b at done buf (Bad kinds.Long place) read told = ends_bad x b done kinds.Long place (λ e. cc) (told_bad x a at done kinds.Long place read told)
+ends_by x a b at done buf ReadFault read told = ends_cut x a b at done read told
 
 -- ---- where the source may not tell
 
-pub front_told : (so_far whole : List Record → List ℕ) (first a b u v w : Option (List ℕ)) (at next : ℕ) (done : List Record) (r : Record) → HasRead first a at done → Fits r → 0 < next → Takes a b (name_at at ++ spelling r)
-    → Appends u v (so_far done) → WritesPart v w (so_far done) (so_far (done ++ r ∷ [])) → IfSome first (λ x. WritesFrontOf so_far whole u w x)
-front_told so_far whole None a b u v w at next done r read fits some told before part = tt
-front_told so_far whole (Some x) a b u v w at next done r read fits some told before part = step_failed so_far whole x a b u v w at next done r read fits some told before part
+-- records that ended so, with all that is written of them and the end
+ended : (so_far whole : List Record → List ℕ) (p : Passage) (done : List Record) (end : Result Unit WalkBad) → IfSome p.had (λ b. EndsAfter 0 b p.left done end)
+    → Appends p.held p.holds (whole done) → Leaves so_far whole 0 p end
+ended so_far whole p done end ends all = by_end p.had end ends
+  where
+    taken : (had : Option (List ℕ)) (end : Result Unit WalkBad) → IfSome had (λ b. EndsAfter 0 b p.left done end)
+        → IfSome had (λ b. (rs : List Record) × EndsAfter 0 b p.left rs end × Appends p.held p.holds (whole rs))
+    taken None end ends = tt
+    taken (Some b) end ends = (done, ends, all)
 
-pub end_front_told : (so_far whole : List Record → List ℕ) (first a u v w : Option (List ℕ)) (at : ℕ) (done : List Record) → HasRead first a at done
-    → Appends u v (so_far done) → WritesPart v w (so_far done) (whole done) → IfSome first (λ x. WritesFrontOf so_far whole u w x)
-end_front_told so_far whole None a u v w at done read before part = tt
-end_front_told so_far whole (Some x) a u v w at done read before part = end_failed so_far whole x a u v w at done read before part
+    by_end : (had : Option (List ℕ)) (end : Result Unit WalkBad) → IfSome had (λ b. EndsAfter 0 b p.left done end)
+        → Leaves so_far whole 0 (record p { had = had }) end
+    by_end had (Ok x) ends = taken had (Ok x) ends
+    by_end had (Err (bads.BadCapture kind at)) ends = taken had (Err (bads.BadCapture kind at)) ends
+    by_end had (Err bads.TooLong) ends = taken had (Err bads.TooLong) ends
+    by_end had (Err bads.ReadFault) ends = taken had (Err bads.ReadFault) ends
+    by_end None (Err bads.WriteFault) ends = tt
+    by_end (Some b) (Err bads.WriteFault) ends = absurd ends
+    by_end None (Err bads.Memory) ends = tt
+    by_end (Some b) (Err bads.Memory) ends = absurd ends
+
+whole_told : (first a b : Option (List ℕ)) (at : ℕ) (done : List Record) → HasRead first a at done → Takes a b (name_at at) → IsEmpty b
+    → IfSome first (λ x. EndsAfter 0 x b done (Ok tt))
+whole_told None a b at done read told empty = tt
+whole_told (Some x) a b at done read told empty = ends_whole x a b at done read told empty
+
+by_told : (first a b : Option (List ℕ)) (at : ℕ) (done : List Record) (buf : List ℕ) (bad : CapBad) → HasRead first a at done → ReadsNext at a b buf (Err bad)
+    → IfSome first (λ x. EndsAfter 0 x b done (Err (walk_bad_of bad)))
+by_told None a b at done buf bad read told = tt
+by_told (Some x) a b at done buf bad read told = ends_by x a b at done buf bad read told
+
+-- at the end of a capture
+pub done_whole : (so_far whole : List Record → List ℕ) (first a b u w : Option (List ℕ)) (at : ℕ) (done : List Record) → HasRead first a at done → Takes a b (name_at at) → IsEmpty b
+    → Appends u w (whole done) → Leaves so_far whole 0 (record { had = first; left = b; held = u; holds = w }) (Ok tt)
+done_whole so_far whole first a b u w at done read told empty all =
+    ended so_far whole (record { had = first; left = b; held = u; holds = w }) done (Ok tt) (whole_told first a b at done read told empty) all
+
+-- at an error of the reader
+pub bad_end : (so_far whole : List Record → List ℕ) (first a b u w : Option (List ℕ)) (at : ℕ) (done : List Record) (buf : List ℕ) (bad : CapBad) → HasRead first a at done → ReadsNext at a b buf (Err bad)
+    → Appends u w (whole done) → Leaves so_far whole 0 (record { had = first; left = b; held = u; holds = w }) (Err (walk_bad_of bad))
+bad_end so_far whole first a b u w at done buf bad read told all =
+    ended so_far whole (record { had = first; left = b; held = u; holds = w }) done (Err (walk_bad_of bad)) (by_told first a b at done buf bad read told) all
+
+-- the write of a record failed
+pub front_told : (so_far whole : List Record → List ℕ) (first a b u v w : Option (List ℕ)) (at next : ℕ) (done : List Record) (r : Record) → HasRead first a at done → Fits r → 0 < next
+    → Takes a b (name_at at ++ spelling r) → Appends u v (so_far done) → WritesPart v w (so_far done) (so_far (done ++ r ∷ []))
+    → Leaves so_far whole 0 (record { had = first; left = b; held = u; holds = w }) (Err bads.WriteFault)
+front_told so_far whole None a b u v w at next done r read fits some told before part = tt
+front_told so_far whole (Some x) a b u v w at next done r read fits some told before part = inl (record {
+  done = done;
+  last = r;
+  read = given_one x a b at next done r read fits some told;
+  written = between u v w (so_far done) (so_far (done ++ r ∷ [])) before part;
+})
+
+-- the write of the end failed
+end_front : (so_far whole : List Record → List ℕ) (first b u v w : Option (List ℕ)) (done : List Record) (end : Result Unit WalkBad) → IfSome first (λ x. EndsAfter 0 x b done end)
+    → Appends u v (so_far done) → WritesPart v w (so_far done) (whole done)
+    → Leaves so_far whole 0 (record { had = first; left = b; held = u; holds = w }) (Err bads.WriteFault)
+end_front so_far whole None b u v w done end ends before part = tt
+end_front so_far whole (Some x) b u v w done end ends before part =
+    inr (record { done = done; end = end; ended = ends; written = between u v w (so_far done) (whole done) before part })
+
+pub whole_front_told : (so_far whole : List Record → List ℕ) (first a b u v w : Option (List ℕ)) (at : ℕ) (done : List Record) → HasRead first a at done → Takes a b (name_at at) → IsEmpty b
+    → Appends u v (so_far done) → WritesPart v w (so_far done) (whole done)
+    → Leaves so_far whole 0 (record { had = first; left = b; held = u; holds = w }) (Err bads.WriteFault)
+whole_front_told so_far whole first a b u v w at done read told empty =
+    end_front so_far whole first b u v w done (Ok tt) (whole_told first a b at done read told empty)
+
+pub bad_front_told : (so_far whole : List Record → List ℕ) (first a b u v w : Option (List ℕ)) (at : ℕ) (done : List Record) (buf : List ℕ) (bad : CapBad) → HasRead first a at done → ReadsNext at a b buf (Err bad)
+    → Appends u v (so_far done) → WritesPart v w (so_far done) (whole done)
+    → Leaves so_far whole 0 (record { had = first; left = b; held = u; holds = w }) (Err bads.WriteFault)
+bad_front_told so_far whole first a b u v w at done buf bad read told =
+    end_front so_far whole first b u v w done (Err (walk_bad_of bad)) (by_told first a b at done buf bad read told)
 
 -- memory was refused: what was read before is written
-pub refused_told : (so_far : List Record → List ℕ) (first a u v w : Option (List ℕ)) (at : ℕ) (done : List Record) → HasRead first a at done
-    → Appends u v (so_far done) → w ≡ v → IfSome first (λ x. WritesBegun so_far u w x)
-refused_told so_far None a u v w at done read before same = tt
-refused_told so_far (Some x) a u v w at done read before same = (done, begun x a at done read, same ∙ before)
+pub refused_told : (so_far whole : List Record → List ℕ) (first a b u v w : Option (List ℕ)) (at next : ℕ) (done : List Record) (r : Record) → HasRead first a at done → Fits r → 0 < next
+    → Takes a b (name_at at ++ spelling r) → Appends u v (so_far done) → w ≡ v
+    → Leaves so_far whole 0 (record { had = first; left = b; held = u; holds = w }) (Err bads.Memory)
+refused_told so_far whole None a b u v w at next done r read fits some told before same = tt
+refused_told so_far whole (Some x) a b u v w at next done r read fits some told before same =
+    inl (record { done = done; last = r; read = given_one x a b at next done r read fits some told; written = same ∙ before })
+
+-- memory was refused before anything was read
+pub unbegun : (so_far whole : List Record → List ℕ) (p : Passage) → p.left ≡ p.had → p.holds ≡ p.held → Leaves so_far whole 0 p (Err bads.Memory)
+unbegun so_far whole p unread unwritten = by_told p.had unread
+  where
+    by_told : (had : Option (List ℕ)) → p.left ≡ had → IfSome had (λ b. WantsMemory so_far 0 b p ⊎ IsUnbegun 0 b p)
+    by_told None unread = tt
+    by_told (Some b) unread = inr (record {
+      read = record { more = []; rest = b; whole = refl; told = unread; within = omega arith };
+      written = unwritten;
+    })
 
 -- ---- a reader is given back
 
-pub takes_nothing : (a b : Option (List ℕ)) → Takes a b [] → a ≡ b
+takes_nothing : (a b : Option (List ℕ)) → Takes a b [] → a ≡ b
 takes_nothing a None e = e
 takes_nothing a (Some x) e = e
 
@@ -182,13 +245,60 @@ nothing_left : (rest spent : Option (List ℕ)) (ahead : List ℕ) → Takes res
 nothing_left rest None ahead told empty = tt
 nothing_left rest (Some c) ahead told empty = let whole : ahead ++ c ≡ [] = subst IsEmpty told empty in nil_from_length c (omega (arith, ap length whole, length-append ahead c))
 
+-- what was taken ahead of need is gone
+read_back : (most : ℕ) (read b : List ℕ) (rest spent : Option (List ℕ)) (ahead : List ℕ) → Takes rest spent ahead → length ahead ≤ most → IsReadTo 0 read b rest → IsReadTo most read b spent
+read_back most read b rest None ahead told bound r = absurd (no_some (sym r.told ∙ told))
+  where
+    no_some : {x : List ℕ} → ◌≡◌ {A = Option (List ℕ)} (Some x) None → ⊥
+    no_some e = cc
+read_back most read b rest (Some c) ahead told bound r =
+    let none : r.more ≡ [] = nil_from_length r.more (omega (arith, r.within)) in
+    let same : r.rest ≡ ahead ++ c = some_same r.rest (ahead ++ c) (sym r.told ∙ told) in
+    record {
+      more = ahead;
+      rest = c;
+      whole = r.whole ∙ ap (λ l. read ++ (l ++ r.rest)) none ∙ ap (λ l. read ++ l) same;
+      told = refl;
+      within = bound;
+    }
+  where
+    some_same : (a b : List ℕ) → ◌≡◌ {A = Option (List ℕ)} (Some a) (Some b) → a ≡ b
+    some_same a b e = cc
+
+ends_back : (most : ℕ) (b : List ℕ) (rest spent : Option (List ℕ)) (done : List Record) (ahead : List ℕ) (end : Result Unit WalkBad) → Takes rest spent ahead → length ahead ≤ most
+    → EndsAfter 0 b rest done end → EndsAfter most b spent done end
+ends_back most b rest spent done ahead (Ok x) told bound ends = (nothing_left rest spent ahead told ends.0, ends.1, ends.2)
+ends_back most b rest spent done ahead (Err (bads.BadCapture kind at)) told bound ends = ends
+ends_back most b rest spent done ahead (Err bads.TooLong) told bound ends = ends
+ends_back most b rest spent done ahead (Err bads.ReadFault) told bound ends = (ends.0, read_back most ends.0 b rest spent ahead told bound ends.1, ends.2)
+ends_back most b rest spent done ahead (Err bads.WriteFault) told bound ends = ends
+ends_back most b rest spent done ahead (Err bads.Memory) told bound ends = ends
+
+given_on : (most : ℕ) (rs : List Record) (b : List ℕ) (rest spent : Option (List ℕ)) (ahead : List ℕ) → Takes rest spent ahead → length ahead ≤ most → HasGiven 0 rs b rest → HasGiven most rs b spent
+given_on most rs b rest spent ahead told bound given =
+    record { each = given.each; read = read_back most (magic ++ flat_map spelling rs) b rest spent ahead told bound given.read }
+
 -- what a walk left stands when its source is given back, without what was taken of it ahead of need
-pub given_back : (so_far whole : List Record → List ℕ) (source rest spent old new : Option (List ℕ)) (ahead : List ℕ) (end : Result Unit WalkBad) → (IsErrOf end bads.ReadFault → ahead ≡ []) → Takes rest spent ahead
-    → Leaves so_far whole source rest old new end → Leaves so_far whole source spent old new end
-given_back so_far whole source rest spent old new ahead (Ok x) none told left = (nothing_left rest spent ahead told left.0, left.1)
-given_back so_far whole source rest spent old new ahead (Err (bads.BadCapture kind at)) none told left = left
-given_back so_far whole source rest spent old new ahead (Err bads.TooLong) none told left = left
-given_back so_far whole source rest spent old new ahead (Err bads.ReadFault) none told left =
-    subst (λ o. Leaves so_far whole source o old new (Err bads.ReadFault)) (takes_nothing rest spent (subst (Takes rest spent) (none refl) told)) left
-given_back so_far whole source rest spent old new ahead (Err bads.WriteFault) none told left = left
-given_back so_far whole source rest spent old new ahead (Err bads.Memory) none told left = left
+pub given_back : (so_far whole : List Record → List ℕ) (most : ℕ) (source rest spent old new : Option (List ℕ)) (ahead : List ℕ) (end : Result Unit WalkBad) → (IsErrOf end bads.ReadFault → ahead ≡ [])
+    → Takes rest spent ahead → length ahead ≤ most → Leaves so_far whole 0 (record { had = source; left = rest; held = old; holds = new }) end
+    → Leaves so_far whole most (record { had = source; left = spent; held = old; holds = new }) end
+given_back so_far whole most None rest spent old new ahead (Ok x) none told bound left = tt
+given_back so_far whole most None rest spent old new ahead (Err (bads.BadCapture kind at)) none told bound left = tt
+given_back so_far whole most None rest spent old new ahead (Err bads.TooLong) none told bound left = tt
+given_back so_far whole most None rest spent old new ahead (Err bads.ReadFault) none told bound left = tt
+given_back so_far whole most None rest spent old new ahead (Err bads.WriteFault) none told bound left = tt
+given_back so_far whole most None rest spent old new ahead (Err bads.Memory) none told bound left = tt
+given_back so_far whole most (Some b) rest spent old new ahead (Ok x) none told bound left = (left.0, (nothing_left rest spent ahead told left.1.0, left.1.1, left.1.2), left.2)
+given_back so_far whole most (Some b) rest spent old new ahead (Err (bads.BadCapture kind at)) none told bound left = left
+given_back so_far whole most (Some b) rest spent old new ahead (Err bads.TooLong) none told bound left = left
+given_back so_far whole most (Some b) rest spent old new ahead (Err bads.ReadFault) none told bound left =
+    let same : rest ≡ spent = takes_nothing rest spent (subst (Takes rest spent) (none refl) told) in
+    (left.0, subst (λ o. EndsAfter 0 b o left.0 (Err bads.ReadFault)) same left.1, left.2)
+given_back so_far whole most (Some b) rest spent old new ahead (Err bads.WriteFault) none told bound (inl f) =
+    inl (record { done = f.done; last = f.last; read = given_on most (f.done ++ f.last ∷ []) b rest spent ahead told bound f.read; written = f.written })
+given_back so_far whole most (Some b) rest spent old new ahead (Err bads.WriteFault) none told bound (inr f) =
+    inr (record { done = f.done; end = f.end; ended = ends_back most b rest spent f.done ahead f.end told bound f.ended; written = f.written })
+given_back so_far whole most (Some b) rest spent old new ahead (Err bads.Memory) none told bound (inl f) =
+    inl (record { done = f.done; last = f.last; read = given_on most (f.done ++ f.last ∷ []) b rest spent ahead told bound f.read; written = f.written })
+given_back so_far whole most (Some b) rest spent old new ahead (Err bads.Memory) none told bound (inr f) =
+    inr (record { read = read_back most [] b rest spent ahead told bound f.read; written = f.written })

@@ -10,8 +10,9 @@ use Rattle.outside_io.proofs.ToldLemmas.{appends_none, appends_both, takes_none,
 use Rattle.capture_file.specs.Capture.{Record, Fits, magic, spelling}
 use Rattle.capture_file.specs.Reading.{ReadsNext, name_at, offset_at}
 use Rattle.capture_file.specs.Heads.{record_of}
+use Rattle.capture_file.specs.Reader.{ReaderState}
 use Rattle.capture_file.specs.declared.head.Head.{Head}
-use Rattle.capture_walk.specs.Sofar.{Rest, HasRead, Sofar}
+use Rattle.capture_walk.specs.Inside.Sofar.{Rest, HasRead, Sofar}
 
 pub no_name : (at : ℕ) → 0 < at → name_at at ≡ []
 no_name at more = grind (arith, nat_tests)
@@ -90,15 +91,15 @@ left_of x taken (Some c) t = record { rest = c; told = refl; whole = some_same x
     some_same a b e = cc
 
 -- before the first record
-pub at_start : {V : Type 0} (so_far : List Record → List ℕ) (has_seen : V → List Record → Type 0) (first u : Option (List ℕ)) (at : ℕ) (visitor : V)
-    → at ≡ 0 → has_seen visitor [] → so_far [] ≡ [] → Sofar so_far has_seen first first at visitor u u
-at_start so_far has_seen first u at visitor zero seen empty = record {
+pub at_start : {V : Type 0} (so_far : List Record → List ℕ) (has_seen : V → List Record → Type 0) (reader : ReaderState) (u : Option (List ℕ)) (visitor : V)
+    → reader.at ≡ 0 → has_seen visitor [] → so_far [] ≡ [] → Sofar so_far has_seen reader.remaining reader visitor u u
+at_start so_far has_seen reader u visitor zero seen empty = record {
   done = [];
   read = record {
     each = All-nil Fits;
     place = subst (λ n. offset_at n ≡ 8) (sym zero) refl;
     bound = omega arith;
-    rest = subst (λ n. Rest first first n []) (sym zero) ([], takes_none first, refl);
+    rest = subst (λ n. Rest reader.remaining reader.remaining n []) (sym zero) ([], takes_none reader.remaining, refl);
   };
   seen = seen;
   sink = subst (Appends u u) (sym empty) (appends_none u);

@@ -1,6 +1,4 @@
 pub mod Causes
 pub mod Leaves
-pub mod Turns
-pub mod Sofar
-pub mod Copied
 pub mod Text
+pub mod Inside

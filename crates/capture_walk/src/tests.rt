@@ -15,7 +15,7 @@ struct Copier;
 
 impl Visitor for Copier {
     ghost use Rattle.std.specs.Prelude.{◌++◌, ◌∷◌, []};
-    ghost use Rattle.capture_walk.specs.Copied.{copied};
+    ghost use Rattle.capture_walk.specs.Inside.Copied.{copied};
 
     ghost so_far = { λ _ rs. copied rs };
 

@@ -1,10 +1,10 @@
-// What is done with the records of a capture.
+//! What is done with the records of a capture.
 ghost use Rattle.std.specs.Prelude.{◌≡◌, ◌++◌, ◌∷◌, [], ℕ, List, OnOk, OnErr, IsErrOf};
 ghost use Rattle.capture_file.specs.Capture.{Record, Fits};
 ghost use Rattle.capture_file.specs.Heads.{record_of};
-ghost use Rattle.outside_io.specs.Causes.{HasCause};
+ghost use Rattle.outside_io.specs.Causes.{HasCause, HasWriteCause, fault_by};
 ghost use Rattle.outside_io.specs.Told.{Writes, WritesPart};
-ghost use Rattle.capture_walk.specs.Causes.{HasVisitCause};
+ghost use Rattle.capture_walk.specs.Causes.{visit_fault};
 ghost use Rattle.capture_walk.specs.declared.visitor.VisitBad.TheVariants.{Memory};
 
 use capture_file::Head;
@@ -53,17 +53,26 @@ pub trait Visitor {
         sink: &mut K,
     ) -> Result<(), VisitBad>
         requires fits { Fits (record_of head.now octets.old) }
-        ensures seen { OnOk result ((done : List Record) → has_seen self.old done → has_seen self.new (done ++ record_of head.now octets.old ∷ [])) }
-        ensures sink { OnOk result ((done : List Record) → has_seen self.old done → Writes (K.contents sink.old) (K.contents sink.new) (so_far self.old done) (so_far self.old (done ++ record_of head.now octets.old ∷ []))) }
-        ensures part { OnErr result ((done : List Record) → has_seen self.old done → WritesPart (K.contents sink.old) (K.contents sink.new) (so_far self.old done) (so_far self.old (done ++ record_of head.now octets.old ∷ []))) }
+        ensures seen { OnOk result ((done : List Record) → has_seen self.old done
+            → has_seen self.new (done ++ record_of head.now octets.old ∷ [])) }
+        ensures sink { OnOk result ((done : List Record) → has_seen self.old done
+            → Writes (K.contents sink.old) (K.contents sink.new)
+            (so_far self.old done) (so_far self.old (done ++ record_of head.now octets.old ∷ []))) }
+        ensures part { OnErr result ((done : List Record) → has_seen self.old done
+            → WritesPart (K.contents sink.old) (K.contents sink.new)
+            (so_far self.old done) (so_far self.old (done ++ record_of head.now octets.old ∷ []))) }
         // Where memory was refused nothing was written.
         ensures none { IsErrOf result Memory → K.contents sink.new ≡ K.contents sink.old }
         ensures same { (so_far self.new ≡ so_far self.old) × (whole self.new ≡ whole self.old) }
-        ensures cause { HasVisitCause (K.faults sink.old) (K.faults sink.new) result };
+        ensures cause { HasWriteCause (fault_by visit_fault result) (K.faults sink.old) (K.faults sink.new) };
 
     /// Takes the end.
     fn finish<K: Sink>(&mut self, sink: &mut K) -> Result<(), Failed>
-        ensures sink { OnOk result ((done : List Record) → has_seen self.old done → Writes (K.contents sink.old) (K.contents sink.new) (so_far self.old done) (whole self.old done)) }
-        ensures part { OnErr result ((done : List Record) → has_seen self.old done → WritesPart (K.contents sink.old) (K.contents sink.new) (so_far self.old done) (whole self.old done)) }
+        ensures sink { OnOk result ((done : List Record) → has_seen self.old done
+            → Writes (K.contents sink.old) (K.contents sink.new)
+            (so_far self.old done) (whole self.old done)) }
+        ensures part { OnErr result ((done : List Record) → has_seen self.old done
+            → WritesPart (K.contents sink.old) (K.contents sink.new)
+            (so_far self.old done) (whole self.old done)) }
         ensures cause { HasCause (K.faults sink.old) (K.faults sink.new) result };
 }

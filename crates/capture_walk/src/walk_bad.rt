@@ -1,3 +1,4 @@
+//! Why a walk did not end after whole records.
 use capture_file::{CapBad, CapKind};
 use std::fmt::{self, Display, Formatter, Write};
 

@@ -1,9 +1,11 @@
-ghost use Rattle.std.specs.Prelude.{◌≡◌, ◌≤◌, ◌<◌, ◌^◌, false, [], ℕ, List, Option, IsErrOf};
-ghost use Rattle.capture_walk.specs.Causes.{HasReadCause, HasWriteCause};
-ghost use Rattle.capture_walk.specs.Leaves.{Leaves};
-ghost use Rattle.capture_walk.specs.Turns.{IfOn, IfOver};
-ghost use Rattle.capture_walk.specs.Sofar.{Sofar};
-ghost use Rattle.capture_walk.specs.declared.walk_bad.WalkBad.TheVariants.{ReadFault};
+//! The walk: each record is read and brought, and then the end.
+ghost use Rattle.std.specs.Prelude.{◌≡◌, ◌≤◌, ◌<◌, ◌⊎◌, ◌^◌, true, false, [], ℕ, List, Option, IsErrOf};
+ghost use Rattle.outside_io.specs.Causes.{HasReadCause, HasWriteCause, fault_by};
+ghost use Rattle.capture_walk.specs.Causes.{walk_fault};
+ghost use Rattle.capture_walk.specs.Leaves.{Leaves, passage};
+ghost use Rattle.capture_walk.specs.Inside.Turns.{IfOn, IfOver, TakesOneOrSpent};
+ghost use Rattle.capture_walk.specs.Inside.Sofar.{Sofar};
+ghost use Rattle.capture_walk.specs.declared.walk_bad.WalkBad.TheVariants.{ReadFault, WriteFault};
 
 use crate::visitor::{VisitBad, Visitor};
 use crate::walk_bad::WalkBad;
@@ -21,10 +23,14 @@ pub fn walk<S: Source, V: Visitor, K: Sink>(
     requires running { reader.old.spent ≡ false }
     requires fresh { V.has_seen visitor.old [] }
     requires empty { V.so_far visitor.old [] ≡ [] }
-    ensures work { (first : Option (List ℕ)) → first ≡ reader.old.remaining → Leaves (V.so_far visitor.old) (V.whole visitor.old) first reader.new.remaining (K.contents sink.old) (K.contents sink.new) result }
+    ensures work { Leaves (V.so_far visitor.old) (V.whole visitor.old) 0
+        (passage reader.old reader.new (K.contents sink.old) (K.contents sink.new)) result }
+    // Where a write fails before the capture has come to an end, no read has failed.
+    ensures stopped { IsErrOf result WriteFault
+        → (reader.new.faults ≡ reader.old.faults) ⊎ (reader.new.spent ≡ true) }
     ensures ahead { IsErrOf result ReadFault → reader.new.ahead ≡ [] }
-    ensures read { HasReadCause reader.old.faults reader.new.faults result }
-    ensures write { HasWriteCause (K.faults sink.old) (K.faults sink.new) result }
+    ensures read { HasReadCause (fault_by walk_fault result) reader.old.faults reader.new.faults }
+    ensures write { HasWriteCause (fault_by walk_fault result) (K.faults sink.old) (K.faults sink.new) }
 {
     let mut block = [0; 2048];
     loop {
@@ -44,13 +50,22 @@ fn visit_next<S: Source, V: Visitor, K: Sink>(
     sink: &mut K,
 ) -> Result<bool, WalkBad>
     requires fresh { reader.old.spent ≡ false }
-    ensures on { IfOn result ((first u : Option (List ℕ)) → Sofar (V.so_far visitor.old) V.has_seen first reader.old.remaining reader.old.at visitor.old u (K.contents sink.old) → Sofar (V.so_far visitor.old) V.has_seen first reader.new.remaining reader.new.at visitor.new u (K.contents sink.new)) }
-    ensures over { IfOver result (λ end. (first u : Option (List ℕ)) → Sofar (V.so_far visitor.old) V.has_seen first reader.old.remaining reader.old.at visitor.old u (K.contents sink.old) → Leaves (V.so_far visitor.old) (V.whole visitor.old) first reader.new.remaining u (K.contents sink.new) end) }
-    ensures same { IfOn result ((V.so_far visitor.new ≡ V.so_far visitor.old) × (V.whole visitor.new ≡ V.whole visitor.old)) }
-    ensures progress { IfOn result ((reader.old.at < reader.new.at) × (reader.new.at ≤ 2 ^ 40) × (reader.new.spent ≡ false)) }
+    ensures on { IfOn result ((first u : Option (List ℕ))
+        → Sofar (V.so_far visitor.old) V.has_seen first reader.old visitor.old u (K.contents sink.old)
+        → Sofar (V.so_far visitor.old) V.has_seen first reader.new visitor.new u (K.contents sink.new)) }
+    ensures over { IfOver result (λ end. (first u : Option (List ℕ))
+        → Sofar (V.so_far visitor.old) V.has_seen first reader.old visitor.old u (K.contents sink.old)
+        → Leaves (V.so_far visitor.old) (V.whole visitor.old) 0
+        (record { had = first; left = reader.new.remaining; held = u; holds = K.contents sink.new }) end) }
+    ensures same { IfOn result ((V.so_far visitor.new ≡ V.so_far visitor.old)
+        × (V.whole visitor.new ≡ V.whole visitor.old)) }
+    ensures progress { IfOn result ((reader.old.at < reader.new.at)
+        × (reader.new.at ≤ 2 ^ 40) × (reader.new.spent ≡ false)) }
+    // After a failed write no further record was taken.
+    ensures stopped { IsErrOf result WriteFault → TakesOneOrSpent reader.old reader.new }
     ensures ahead { IsErrOf result ReadFault → reader.new.ahead ≡ [] }
-    ensures read { HasReadCause reader.old.faults reader.new.faults result }
-    ensures write { HasWriteCause (K.faults sink.old) (K.faults sink.new) result }
+    ensures read { HasReadCause (fault_by walk_fault result) reader.old.faults reader.new.faults }
+    ensures write { HasWriteCause (fault_by walk_fault result) (K.faults sink.old) (K.faults sink.new) }
 {
     match reader.next(block) {
         Ok(Some(head)) => {

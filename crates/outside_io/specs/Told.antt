@@ -1,5 +1,5 @@
 -- What a sink holds and what remains of a source, where they tell. A silent object is none, and stays silent.
-use Rattle.std.specs.Prelude.{◌≡◌, ℕ, List, [], ◌++◌, IfSome, Option}
+use Rattle.std.specs.Prelude.{◌≡◌, ◌≤◌, ℕ, List, [], ◌++◌, length, IfSome, Some, Option}
 use Rattle.std.specs.Option.{option_map}
 
 -- these octets were put behind what was held
@@ -29,3 +29,22 @@ Takes old new octets = old ≡ option_map (λ rest. octets ++ rest) new
 -- no octet is told
 abbrev pub IsEmpty : Option (List ℕ) → Type 0
 IsEmpty told = IfSome told (λ octets. octets ≡ [])
+
+-- what a source had and has left, and what a sink held and holds
+pub record Passage : Type 0 where
+  pub had : Option (List ℕ)
+  pub left : Option (List ℕ)
+  pub held : Option (List ℕ)
+  pub holds : Option (List ℕ)
+
+-- the sink has gained the first of two lists of octets, and then a front part of what the second has behind it
+abbrev pub AppendsBetween : Option (List ℕ) → Option (List ℕ) → List ℕ → List ℕ → Type 0
+AppendsBetween old new first whole = (gain : List ℕ) × Appends old new gain × IsPrefix first gain × IsPrefix gain whole
+
+-- of a source that had these octets, those were read from the front, and at most so many more, ahead of need
+pub record IsReadTo (ahead : ℕ) (read had : List ℕ) (left : Option (List ℕ)) : Type 0 where
+  pub more : List ℕ
+  pub rest : List ℕ
+  pub whole : had ≡ read ++ (more ++ rest)
+  pub told : left ≡ Some rest
+  pub within : length more ≤ ahead

@@ -3,7 +3,7 @@ use Rattle.std.proofs.Common.{◌≡◌, ℕ, suc, ◌+◌, List, [], ◌∷◌,
 use Rattle.std.proofs.lemmas.Grind.{flat_map-append}
 use Rattle.capture_file.specs.Capture.{Record, magic, spelling}
 use Rattle.rist_pack.specs.Capture.{records_of, capture_of}
-use Rattle.rist_pack.specs.Steps.{spelled_from}
+use Rattle.rist_pack.specs.Inside.Steps.{spelled_from}
 
 records_behind : (f : ℕ → List ℕ → Record) (k : ℕ) (ps qs : List (List ℕ)) → records_of f k (ps ++ qs) ≡ records_of f k ps ++ records_of f (k + length ps) qs
 records_behind f k [] qs = let same : k ≡ k + 0 = omega arith in ap (λ i. records_of f i qs) same

@@ -1,28 +1,29 @@
 -- A packing, piece by piece.
 use Rattle.std.proofs.Common.{◌≡◌, ℕ, ◌+◌, ◌*◌, ◌<◌, List, [], ◌++◌, length, sym, ap, ◌∙◌, subst, arith, append-nil, append_assoc, length-append, Ok, Err, refl}
-use Rattle.std.specs.Prelude.{Option}
-use Rattle.outside_io.specs.Told.{Appends, AppendsPart}
+use mathlib.Core.Logic.{inl, inr}
+use Rattle.std.specs.Prelude.{Option, ◌≤◌}
+use Rattle.outside_io.specs.Told.{Appends, AppendsPart, AppendsBetween}
 use Rattle.outside_io.proofs.ToldLemmas.{takes_none, takes_both, appends_both}
 use Rattle.capture_file.specs.Capture.{Record, magic}
-use Rattle.rist_pack.specs.Pieces.{pieces_of, whole_pieces_of}
+use Rattle.rist_pack.specs.Pieces.{pieces_of, pieces_before_last, whole_pieces_of}
 use Rattle.rist_pack.specs.Capture.{capture_of}
 use Rattle.rist_pack.specs.Packing.{Packs}
-use Rattle.rist_pack.specs.Steps.{PacksPiece, spelled_from, Sofar}
+use Rattle.rist_pack.specs.Inside.Steps.{PacksPiece, spelled_from, Sofar}
 use Rattle.rist_pack.specs.declared.packing.Turn.TheVariants.{On, Over}
 use Rattle.rist_pack.specs.declared.bad.PackBad.{PackBad}
 use Rattle.rist_pack.specs.declared.bad.PackBad.TheVariants.{ReadFault, WriteFault, TooLong}
-use Rattle.rist_pack.proofs.PieceLemmas.{no_piece, pieces_behind, whole_pieces_behind, no_whole_piece, all_whole, length-pieces}
+use Rattle.rist_pack.proofs.PieceLemmas.{no_piece, pieces_behind, whole_pieces_behind, no_whole_piece, all_whole, length-pieces, before_last}
 use Rattle.rist_pack.proofs.CaptureLemmas.{capture_behind}
 
 -- no piece is the name alone
 name_alone : (f : ℕ → List ℕ → Record) → magic ≡ capture_of f (pieces_of [])
 name_alone f = sym (ap (capture_of f) (no_piece [] refl))
 
-pub at_start : (f : ℕ → List ℕ → Record) (had old new : Option (List ℕ)) → Appends old new magic → Sofar f 0 had had old new
+pub at_start : (f : ℕ → List ℕ → Record) (had old new : Option (List ℕ)) → Appends old new magic → Sofar f 0 (record { had = had; left = had; held = old; holds = new })
 at_start f had old new named = record { read = []; taken = takes_none had; size = refl; written = subst (Appends old new) (name_alone f) named }
 
-pub name_failed : (f : ℕ → List ℕ → Record) (had old new : Option (List ℕ)) → AppendsPart old new magic → Packs f had had old new (Err WriteFault)
-name_failed f had old new named = ([], takes_none had, (omega arith, subst (AppendsPart old new) (name_alone f) named))
+pub name_failed : (f : ℕ → List ℕ → Record) (had old new : Option (List ℕ)) → AppendsPart old new magic → Packs f (record { had = had; left = had; held = old; holds = new }) (Err WriteFault)
+name_failed f had old new named = ([], takes_none had, (omega arith, inl (refl, named)))
 
 -- what was packed and the next piece are a front of a capture
 packed_more : (f : ℕ → List ℕ → Record) (k : ℕ) (a b : List ℕ) → length a ≡ 1316 * k
@@ -37,13 +38,18 @@ packed_whole f k a b size few =
     ∙ sym (ap (capture_of f) (whole_pieces_behind k a b size ∙ ap (λ ps. whole_pieces_of a ++ ps) (no_whole_piece b few)
     ∙ append-nil (whole_pieces_of a) ∙ all_whole k a size))
 
--- a part that was put behind what was put is a part of both
-part_behind : (a b c : Option (List ℕ)) (xs ys : List ℕ) → Appends a b xs → AppendsPart b c ys → AppendsPart a c (xs ++ ys)
+-- a part that was put behind what was put stands between both
+part_behind : (a b c : Option (List ℕ)) (xs ys : List ℕ) → Appends a b xs → AppendsPart b c ys → AppendsBetween a c xs (xs ++ ys)
 part_behind a b c xs ys put (front, (rest, whole), part) =
-    (xs ++ front, (rest, ap (λ l. xs ++ l) whole ∙ sym (append_assoc xs front rest)), appends_both a b c xs front put part)
+    (xs ++ front, appends_both a b c xs front put part, (front, refl), (rest, ap (λ l. xs ++ l) whole ∙ sym (append_assoc xs front rest)))
 
-pub goes_on : (f : ℕ → List ℕ → Record) (k : ℕ) (had left rest old held new : Option (List ℕ)) → Sofar f k had left old held
-    → PacksPiece f k left rest held new (Ok On) → Sofar f (k + 1) had rest old new
+-- what was packed before the last piece
+packed_before : (f : ℕ → List ℕ → Record) (k : ℕ) (a b : List ℕ) → length a ≡ 1316 * k → 0 < length b → length b ≤ 1316
+    → capture_of f (pieces_of a) ≡ capture_of f (pieces_before_last (a ++ b))
+packed_before f k a b size some few = sym (ap (capture_of f) (before_last k a b size some few))
+
+pub goes_on : (f : ℕ → List ℕ → Record) (k : ℕ) (had left rest old held new : Option (List ℕ)) → Sofar f k (record { had = had; left = left; held = old; holds = held })
+    → PacksPiece f k (record { had = left; left = rest; held = held; holds = new }) (Ok On) → Sofar f (k + 1) (record { had = had; left = rest; held = old; holds = new })
 goes_on f k had left rest old held new s (b, taken, (whole, bound, written)) = record {
   read = s.read ++ b;
   taken = takes_both had left rest s.read b s.taken taken;
@@ -51,8 +57,8 @@ goes_on f k had left rest old held new s (b, taken, (whole, bound, written)) = r
   written = subst (Appends old new) (packed_more f k s.read b s.size) (appends_both old held new (capture_of f (pieces_of s.read)) (spelled_from f k (pieces_of b)) s.written written);
 }
 
-pub ended : (f : ℕ → List ℕ → Record) (k : ℕ) (had left rest old held new : Option (List ℕ)) → Sofar f k had left old held
-    → PacksPiece f k left rest held new (Ok Over) → Packs f had rest old new (Ok tt)
+pub ended : (f : ℕ → List ℕ → Record) (k : ℕ) (had left rest old held new : Option (List ℕ)) → Sofar f k (record { had = had; left = left; held = old; holds = held })
+    → PacksPiece f k (record { had = left; left = rest; held = held; holds = new }) (Ok Over) → Packs f (record { had = had; left = rest; held = old; holds = new }) (Ok tt)
 ended f k had left rest old held new s (b, taken, (empty, bound, written)) = (
   s.read ++ b,
   takes_both had left rest s.read b s.taken taken,
@@ -63,8 +69,8 @@ ended f k had left rest old held new s (b, taken, (empty, bound, written)) = (
   ),
 )
 
-pub stopped : (f : ℕ → List ℕ → Record) (k : ℕ) (had left rest old held new : Option (List ℕ)) (bad : PackBad) → Sofar f k had left old held
-    → PacksPiece f k left rest held new (Err bad) → Packs f had rest old new (Err bad)
+pub stopped : (f : ℕ → List ℕ → Record) (k : ℕ) (had left rest old held new : Option (List ℕ)) (bad : PackBad) → Sofar f k (record { had = had; left = left; held = old; holds = held })
+    → PacksPiece f k (record { had = left; left = rest; held = held; holds = new }) (Err bad) → Packs f (record { had = had; left = rest; held = old; holds = new }) (Err bad)
 stopped f k had left rest old held new ReadFault s ((b, taken, (few, bound)), written) = (
   s.read ++ b,
   takes_both had left rest s.read b s.taken taken,
@@ -81,11 +87,13 @@ stopped f k had left rest old held new TooLong s ((b, taken, (few, bound)), writ
     subst (Appends old new) (packed_whole f k s.read b s.size few) (appends_both old held new (capture_of f (pieces_of s.read)) [] s.written written),
   ),
 )
-stopped f k had left rest old held new WriteFault s (b, taken, (bound, written)) = (
+stopped f k had left rest old held new WriteFault s (b, taken, ((some, few), bound, written)) = (
   s.read ++ b,
   takes_both had left rest s.read b s.taken taken,
   (
     omega (arith, s.size, length-append s.read b),
-    subst (AppendsPart old new) (packed_more f k s.read b s.size) (part_behind old held new (capture_of f (pieces_of s.read)) (spelled_from f k (pieces_of b)) s.written written),
+    inr (subst (λ xs. AppendsBetween old new xs (capture_of f (pieces_of (s.read ++ b)))) (packed_before f k s.read b s.size some few)
+        (subst (AppendsBetween old new (capture_of f (pieces_of s.read))) (packed_more f k s.read b s.size)
+        (part_behind old held new (capture_of f (pieces_of s.read)) (spelled_from f k (pieces_of b)) s.written written))),
   ),
 )

@@ -1,10 +1,10 @@
 -- Pieces of octets that are cut at a whole piece.
-use Rattle.std.proofs.Common.{◌≡◌, ℕ, zero, suc, ◌+◌, ◌*◌, ◌/◌, ◌<◌, ◌≤◌, List, [], ◌∷◌, ◌++◌, length, take, drop, refl, sym, ap, ◌∙◌, arith, length-append, append_assoc, append-nil, length-drop}
+use Rattle.std.proofs.Common.{◌≡◌, ℕ, zero, suc, ◌+◌, ◌-◌, ◌*◌, ◌/◌, ◌<◌, ◌≤◌, List, [], ◌∷◌, ◌++◌, length, take, drop, refl, sym, ap, ◌∙◌, arith, length-append, append_assoc, append-nil, length-drop}
 use Rattle.std.specs.Fork.{slice_chunk}
 use Rattle.std.proofs.lemmas.List.FromFn.{map-range_with_len_more, length-map-range_with_len}
 use Rattle.std.proofs.lemmas.List.{take-append-le, take_all, drop-append-le}
 use Rattle.std.proofs.Math.Seq.{drop-append-add}
-use Rattle.rist_pack.specs.Pieces.{first_pieces, pieces_of, whole_pieces_of}
+use Rattle.rist_pack.specs.Pieces.{first_pieces, pieces_of, pieces_before_last, whole_pieces_of}
 
 pub more : (m n : ℕ) (b : List ℕ) → m + 1 ≡ n → first_pieces n b ≡ first_pieces m b ++ slice_chunk b 1316 m ∷ []
 more m n b e = ap (λ i. first_pieces i b) (sym e) ∙ map-range_with_len_more (slice_chunk b 1316) 0 m m (omega arith)
@@ -79,3 +79,11 @@ unfolding pieces_of
 length-pieces m b size =
     let all : (length b + 1315) / 1316 ≡ m = omega arith in
     length-map-range_with_len (slice_chunk b 1316) 0 ((length b + 1315) / 1316) ∙ all
+
+-- all pieces but the last, which may be short
+pub before_last : (m : ℕ) (a b : List ℕ) → length a ≡ 1316 * m → 0 < length b → length b ≤ 1316 → pieces_before_last (a ++ b) ≡ pieces_of a
+unfolding pieces_of pieces_before_last
+before_last m a b size some few =
+    let all : (length (a ++ b) + 1315) / 1316 - 1 ≡ m = omega (arith, length-append a b) in
+    let front : (length a + 1315) / 1316 ≡ m = omega arith in
+    ap (λ i. first_pieces i (a ++ b)) all ∙ front_pieces m a b (omega arith) ∙ ap (λ i. first_pieces i a) (sym front)

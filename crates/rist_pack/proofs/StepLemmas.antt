@@ -6,7 +6,7 @@ use Rattle.outside_io.specs.Told.{Appends, AppendsPart}
 use Rattle.outside_io.proofs.ToldLemmas.{appends_none}
 use Rattle.capture_file.specs.Capture.{Record, spelling}
 use Rattle.rist_pack.specs.Pieces.{pieces_of}
-use Rattle.rist_pack.specs.Steps.{ReadsPiece, PacksPiece, spelled_from}
+use Rattle.rist_pack.specs.Inside.Steps.{ReadsPiece, PacksPiece, spelled_from}
 use Rattle.rist_pack.specs.declared.packing.Turn.TheVariants.{On, Over}
 use Rattle.rist_pack.specs.declared.bad.PackBad.TheVariants.{WriteFault}
 use Rattle.rist_pack.proofs.PieceLemmas.{no_piece, one_piece}
@@ -17,7 +17,7 @@ one : (f : ℕ → List ℕ → Record) (k : ℕ) (b : List ℕ) → 0 < length 
 one f k b some few = sym (ap (spelled_from f k) (one_piece b some few) ∙ one_record f k b)
 
 pub nothing_left : (f : ℕ → List ℕ → Record) (k n : ℕ) (had left told : Option (List ℕ)) (block : List ℕ) → length block ≡ 1316
-    → ReadsPiece k had left block (Ok n) → n ≡ 0 → PacksPiece f k had left told told (Ok Over)
+    → ReadsPiece k had left block (Ok n) → n ≡ 0 → PacksPiece f k (record { had = had; left = left; held = told; holds = told }) (Ok Over)
 nothing_left f k n had left told block long (few, bound, taken, ended) none =
     let size : length (take n block) ≡ n = length-take-le n block (omega arith) in (
       take n block,
@@ -30,7 +30,7 @@ nothing_left f k n had left told block long (few, bound, taken, ended) none =
     )
 
 pub whole_piece : (f : ℕ → List ℕ → Record) (k n : ℕ) (had left old new : Option (List ℕ)) (block : List ℕ) → length block ≡ 1316
-    → ReadsPiece k had left block (Ok n) → n ≡ 1316 → Appends old new (spelling (f k (take n block))) → PacksPiece f k had left old new (Ok On)
+    → ReadsPiece k had left block (Ok n) → n ≡ 1316 → Appends old new (spelling (f k (take n block))) → PacksPiece f k (record { had = had; left = left; held = old; holds = new }) (Ok On)
 whole_piece f k n had left old new block long (few, bound, taken, ended) all written =
     let size : length (take n block) ≡ n = length-take-le n block (omega arith) in (
       take n block,
@@ -43,7 +43,7 @@ whole_piece f k n had left old new block long (few, bound, taken, ended) all wri
     )
 
 pub last_piece : (f : ℕ → List ℕ → Record) (k n : ℕ) (had left old new : Option (List ℕ)) (block : List ℕ) → length block ≡ 1316
-    → ReadsPiece k had left block (Ok n) → 0 < n → n < 1316 → Appends old new (spelling (f k (take n block))) → PacksPiece f k had left old new (Ok Over)
+    → ReadsPiece k had left block (Ok n) → 0 < n → n < 1316 → Appends old new (spelling (f k (take n block))) → PacksPiece f k (record { had = had; left = left; held = old; holds = new }) (Ok Over)
 last_piece f k n had left old new block long (few, bound, taken, ended) some short written =
     let size : length (take n block) ≡ n = length-take-le n block (omega arith) in (
       take n block,
@@ -56,12 +56,13 @@ last_piece f k n had left old new block long (few, bound, taken, ended) some sho
     )
 
 pub part_written : (f : ℕ → List ℕ → Record) (k n : ℕ) (had left old new : Option (List ℕ)) (block : List ℕ) → length block ≡ 1316
-    → ReadsPiece k had left block (Ok n) → 0 < n → AppendsPart old new (spelling (f k (take n block))) → PacksPiece f k had left old new (Err WriteFault)
+    → ReadsPiece k had left block (Ok n) → 0 < n → AppendsPart old new (spelling (f k (take n block))) → PacksPiece f k (record { had = had; left = left; held = old; holds = new }) (Err WriteFault)
 part_written f k n had left old new block long (few, bound, taken, ended) some written =
     let size : length (take n block) ≡ n = length-take-le n block (omega arith) in (
       take n block,
       taken,
       (
+        (omega (arith, size), omega (arith, size)),
         omega (arith, size),
         subst (AppendsPart old new) (one f k (take n block) (omega (arith, size)) (omega (arith, size))) written,
       ),

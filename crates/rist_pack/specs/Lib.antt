@@ -2,4 +2,4 @@ pub mod Text
 pub mod Pieces
 pub mod Capture
 pub mod Packing
-pub mod Steps
+pub mod Inside

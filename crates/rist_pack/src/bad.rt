@@ -1,3 +1,4 @@
+//! Why a source is not packed to its end.
 use std::fmt::{self, Display, Formatter, Write};
 
 /// Why a source is not packed to its end.

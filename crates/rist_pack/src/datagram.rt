@@ -1,4 +1,4 @@
-// The datagram that a piece is sent in.
+//! The datagram that a piece is sent in.
 ghost use Rattle.std.specs.Prelude.{◌≡◌, ◌≤◌, ◌<◌, ◌%◌, ◌^◌, true, length, take, is_some, IsSome};
 ghost use Rattle.rist_wire.specs.Media.{can_restore};
 ghost use Rattle.rist_wire.specs.Writing.{next_pair, after_pair};
@@ -46,7 +46,8 @@ fn put_sent(
     requires strip { IsSome strip → shutter.old.session.nulls ≡ true }
     requires whole { can_restore strip payload.now ≡ true }
     ensures channel { result.0 ≡ media_channel shutter.old.session }
-    ensures octets { take result.1 block.new ≡ media_datagram shutter.old.session (next_pair shutter.old.sealer)
+    ensures octets { take result.1 block.new
+        ≡ media_datagram shutter.old.session (next_pair shutter.old.sealer)
         (media_with settings.now k (record { strip = strip; payload = payload.now })) }
     ensures state { shutter.new ≡ record shutter.old { sealer = after_pair shutter.old.sealer } }
     ensures within { result.1 ≤ 2048 }
@@ -78,7 +79,8 @@ pub(crate) fn put_piece(
     requires gap { settings.now.gap ≤ 1000000 }
     requires piece { length piece.now ≤ 1316 }
     ensures channel { result.0 ≡ media_channel shutter.old.session }
-    ensures octets { take result.1 block.new ≡ piece_octets shutter.old.session (next_pair shutter.old.sealer) settings.now k piece.now }
+    ensures octets { take result.1 block.new
+        ≡ piece_octets shutter.old.session (next_pair shutter.old.sealer) settings.now k piece.now }
     ensures state { shutter.new ≡ record shutter.old { sealer = after_pair shutter.old.sealer } }
     ensures within { result.1 ≤ 2048 }
 {

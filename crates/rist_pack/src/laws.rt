@@ -18,10 +18,12 @@ ghost use Rattle.rist_pack.specs.declared.settings.PackSettings.{PackSettings};
 /// Each datagram is taken in its session as media of the flow, with its own number and time, and its content is its
 /// piece.
 pub fn each_datagram_is_its_piece()
-    ensures taken { (session : Session) (nonces : Option (List ℕ)) (settings : PackSettings) (k : ℕ) (piece : List ℕ)
+    ensures taken { (session : Session) (nonces : Option (List ℕ)) (settings : PackSettings) (k : ℕ)
+        (piece : List ℕ)
         → IsSession session → IfSome nonces AreNonces → is_some nonces ≡ is_some session.pass
         → settings.flow % 2 ≡ 0 → settings.flow < 2 ^ 32 → k < 2 ^ 36 → length piece ≤ 1316
-        → item_of session (packed_record session nonces settings k piece).channel (packed_record session nonces settings k piece).octets
+        → item_of session (packed_record session nonces settings k piece).channel
+        (packed_record session nonces settings k piece).octets
         ≡ Ok (items.Media (taken_of session settings k piece)) }
     ensures content { (session : Session) (settings : PackSettings) (k : ℕ) (piece : List ℕ)
         → content_of (taken_of session settings k piece) ≡ content_for session.nulls piece }
@@ -29,12 +31,17 @@ pub fn each_datagram_is_its_piece()
 
 /// In the Simple Profile a record is the RTP packet of its piece, on the channel of media.
 pub fn a_record_of_the_simple_profile_is_its_packet()
-    ensures { (session : Session) (settings : PackSettings) (k : ℕ) (piece : List ℕ) → IsSession session → session.profile ≡ Simple
+    ensures { (session : Session) (settings : PackSettings) (k : ℕ) (piece : List ℕ)
+        → IsSession session → session.profile ≡ Simple
         → packed_record session None settings k piece ≡ record {
           link = 0;
           channel = channels.Media;
           us = k * settings.gap;
-          octets = rtp.spelling (packet_with (record { number = (settings.first + k) % 2 ^ 16; stamp = stamp_of settings k; ssrc = settings.flow }) None piece) None;
+          octets = rtp.spelling (packet_with (record {
+            number = (settings.first + k) % 2 ^ 16;
+            stamp = stamp_of settings k;
+            ssrc = settings.flow;
+          }) None piece) None;
         } }
 {}
 
@@ -42,7 +49,8 @@ pub fn a_record_of_the_simple_profile_is_its_packet()
 pub fn without_a_passphrase_a_capture_is_one()
     ensures { (session : Session) (nonces : Option (List ℕ)) (settings : PackSettings) (b : List ℕ)
         → session.pass ≡ None → is_some nonces ≡ is_some session.pass
-        → capture_of (packed_record session nonces settings) (pieces_of b) ≡ capture_of (packed_record session None settings) (pieces_of b) }
+        → capture_of (packed_record session nonces settings) (pieces_of b)
+        ≡ capture_of (packed_record session None settings) (pieces_of b) }
 {}
 
 /// The pieces are the octets that were cut, each of 1 to 1,316 octets.
@@ -53,6 +61,8 @@ pub fn the_pieces_are_the_whole()
 
 /// What is written is a capture of these records.
 pub fn what_is_packed_is_a_capture()
-    ensures { (session : Session) (nonces : Option (List ℕ)) (settings : PackSettings) (b : List ℕ) → settings.gap ≤ 1000000 → length b ≤ 2 ^ 40
-        → IsCapture (records_of (packed_record session nonces settings) 0 (pieces_of b)) (capture_of (packed_record session nonces settings) (pieces_of b)) }
+    ensures { (session : Session) (nonces : Option (List ℕ)) (settings : PackSettings) (b : List ℕ)
+        → settings.gap ≤ 1000000 → length b ≤ 2 ^ 40
+        → IsCapture (records_of (packed_record session nonces settings) 0 (pieces_of b))
+        (capture_of (packed_record session nonces settings) (pieces_of b)) }
 {}

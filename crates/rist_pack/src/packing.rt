@@ -1,14 +1,14 @@
-// Reading pieces and writing their records.
+//! Reading pieces and writing their records.
 ghost use Rattle.std.specs.Prelude.{◌≡◌, ◌≤◌, ◌<◌, ◌+◌, ◌*◌, ◌%◌, ◌^◌, ◌-◌, min, true, false, ℕ, List, [], Some, Err, length, is_some, IfOk, OnOk, OnErr, IsOk};
-ghost use Rattle.outside_io.specs.Causes.{HasCause, Rose};
+ghost use Rattle.outside_io.specs.Causes.{HasCause, HasReadCause, HasWriteCause, Rose, fault_by};
 ghost use Rattle.outside_io.specs.Told.{Appends, AppendsPart};
 ghost use Rattle.capture_file.specs.Capture.{spelling};
 ghost use Rattle.rist_wire.specs.Session.{IsSession};
 ghost use Rattle.rist_wire.specs.Writing.{next_pair, after_pair};
 ghost use Rattle.rist_pack.specs.Capture.{record_with, packed_record, nonces_of, HasGiven};
-ghost use Rattle.rist_pack.specs.Packing.{Packs, HasReadCause, HasCauses};
+ghost use Rattle.rist_pack.specs.Packing.{Packs, pack_fault, passage};
 ghost use Rattle.rist_pack.specs.declared.packing.Turn.TheVariants as Turn;
-ghost use Rattle.rist_pack.specs.Steps.{ReadsPiece, PacksPiece};
+ghost use Rattle.rist_pack.specs.Inside.Steps.{ReadsPiece, PacksPiece};
 
 use crate::datagram::{put_piece, time_of};
 use crate::{PackBad, PackSettings};
@@ -32,7 +32,7 @@ fn read_piece<S: Source>(
     requires place { 1316 * k ≤ 2 ^ 40 }
     ensures value { ReadsPiece k (S.remaining source.old) (S.remaining source.new) piece.new result }
     ensures ahead { result ≡ Err PackBad.ReadFault → S.ahead source.new ≡ [] }
-    ensures cause { HasReadCause (S.faults source.old) (S.faults source.new) result }
+    ensures cause { HasReadCause (fault_by pack_fault result) (S.faults source.old) (S.faults source.new) }
 {
     let room = (MAX_LEN + 1 - k * PIECE_LEN as u64).min(PIECE_LEN as u64) as usize;
     match read_full(source, &mut piece[..room]) {
@@ -100,12 +100,18 @@ fn pack_piece<S: Source, K: Sink>(
     requires place { 1316 * k ≤ 2 ^ 40 }
     requires gap { settings.now.gap ≤ 1000000 }
     requires begun { capture.old.begun ≡ true }
-    ensures value { PacksPiece (packed_record shutter.old.session (nonces_of shutter.old.sealer) settings.now) k (S.remaining source.old) (S.remaining source.new) capture.old.contents capture.new.contents result }
+    ensures value { PacksPiece
+        (packed_record shutter.old.session (nonces_of shutter.old.sealer) settings.now) k
+        (passage (S.remaining source.old) (S.remaining source.new) capture.old capture.new) result }
     ensures ahead { result ≡ Err PackBad.ReadFault → S.ahead source.new ≡ [] }
     ensures begun { capture.new.begun ≡ true }
     // A pair was given where the source goes on.
-    ensures state { IfOk result (λ turn. turn ≡ Turn.On → shutter.new ≡ record shutter.old { sealer = after_pair shutter.old.sealer }) }
-    ensures cause { HasCauses (S.faults source.old) (S.faults source.new) capture.old.faults capture.new.faults result }
+    ensures state { IfOk result (λ turn. turn ≡ Turn.On
+        → shutter.new ≡ record shutter.old { sealer = after_pair shutter.old.sealer }) }
+    ensures read { HasReadCause (fault_by pack_fault result) (S.faults source.old) (S.faults source.new) }
+    ensures write { HasWriteCause (fault_by pack_fault result) capture.old.faults capture.new.faults }
+    // After a failed write nothing is read.
+    ensures stopped { result ≡ Err PackBad.WriteFault → S.faults source.new ≡ S.faults source.old }
 {
     let mut piece = [0; PIECE_LEN];
     let count = match read_piece(k, source, &mut piece) {
@@ -137,12 +143,18 @@ pub fn pack<S: Source, K: Sink>(
     requires fresh { capture.old.begun ≡ false }
     requires flow { settings.now.flow % 2 ≡ 0 }
     requires gap { (1 ≤ settings.now.gap) × (settings.now.gap ≤ 1000000) }
-    ensures work { Packs (packed_record session.now (nonces_of sealer) settings.now) (S.remaining source.old) (S.remaining source.new) capture.old.contents capture.new.contents result }
+    ensures work { Packs (packed_record session.now (nonces_of sealer) settings.now)
+        (passage (S.remaining source.old) (S.remaining source.new) capture.old capture.new) result }
     ensures ahead { result ≡ Err PackBad.ReadFault → S.ahead source.new ≡ [] }
     ensures begun { capture.new.begun ≡ true }
-    ensures cause { HasCauses (S.faults source.old) (S.faults source.new) capture.old.faults capture.new.faults result }
+    ensures read { HasReadCause (fault_by pack_fault result) (S.faults source.old) (S.faults source.new) }
+    ensures write { HasWriteCause (fault_by pack_fault result) capture.old.faults capture.new.faults }
+    // After a failed write nothing is read.
+    ensures stopped { result ≡ Err PackBad.WriteFault → S.faults source.new ≡ S.faults source.old }
     // A source that is no longer than that is packed to its end, where no call fails.
-    ensures complete { (b : List ℕ) → S.remaining source.old ≡ Some b → length b ≤ 2 ^ 40 → (Rose (S.faults source.old) (S.faults source.new) → ⊥) → (Rose capture.old.faults capture.new.faults → ⊥) → IsOk result }
+    ensures complete { (b : List ℕ) → S.remaining source.old ≡ Some b → length b ≤ 2 ^ 40
+        → (Rose (S.faults source.old) (S.faults source.new) → ⊥)
+        → (Rose capture.old.faults capture.new.faults → ⊥) → IsOk result }
 {
     match capture.begin() {
         Ok(()) => {}

@@ -1,3 +1,4 @@
+//! The flow that a source is packed as.
 /// The flow that a source is packed as.
 #[derive(Clone, Copy, Debug, PartialEq, Eq)]
 pub struct PackSettings {

@@ -1,4 +1,4 @@
-// Worked captures, and each answer that a source in memory can bring.
+//! Worked captures, and each answer that a source in memory can bring.
 ghost use Rattle.std.specs.Prelude.{◌≡◌, ◌⊎◌, ◌≤◌, ◌%◌, None, is_some};
 ghost use Rattle.rist_wire.specs.Session.{IsSession};
 ghost use Rattle.rist_pack.specs.Capture.{HasGiven};
@@ -120,10 +120,15 @@ fn each_piece_is_a_datagram(rt: HostRuntime) -> Result<(), Fail> {
     let two = [0x47; 2632];
     let both = joined(alloc, &[NAME, HEAD_0, &two[..1316], HEAD_1, &two[1316..]])?;
     assert_eq!(rt; both.len(), 2688);
-    let cases: [(&[u8], &[u8]); 3] = [(b"", NAME), (b"A", A), (&two, both.as_slice())];
-    for (octets, want) in cases {
+    // The name is one put, and so is each record: none comes behind them, which would fail.
+    let cases: [(&[u8], &[u8], u64); 3] = [
+        (b"", NAME, 1),
+        (b"A", A, 2),
+        (&two, both.as_slice(), 3),
+    ];
+    for (octets, want, puts) in cases {
         let source = Bytes::with(alloc, octets, &[])?;
-        let (capture, answer) = packed(alloc, &DEFAULTS, source, 4096, &[])?;
+        let (capture, answer) = packed(alloc, &DEFAULTS, source, 4096, &[puts])?;
         assert_eq!(rt; answer, Ok(()));
         assert_eq!(rt; capture.as_slice(), want);
     }

@@ -25,7 +25,7 @@ use Rattle.rist_wire.specs.declared.bad.WireBad.{WireBad}
 use Rattle.rist_wire.specs.declared.item.Item.{Item}
 use Rattle.rist_wire.specs.declared.item.Item.TheVariants as items
 use Rattle.rist_replay.specs.Replay.{released_so_far, replayed}
-use Rattle.rist_replay.specs.Visiting.{answer_of}
+use Rattle.rist_replay.specs.Inside.Visiting.{answer_of}
 
 -- one more record is one more step
 pub history_push : (session : Session) (rs : List Record) (r : Record) → receiver_history session (rs ++ r ∷ []) ≡ step_of session r ∷ receiver_history session rs

@@ -1,4 +1,4 @@
 pub mod Steps
 pub mod Replay
 pub mod Exact
-pub mod Visiting
+pub mod Inside

@@ -11,12 +11,15 @@ ghost use Rattle.rist_replay.specs.Exact.{IsCaptureOf, reached_payloads};
 
 /// What is released while records come is a front of what they release in all.
 pub fn what_is_released_stays()
-    ensures { (session : Session) (limits : Limits) (rs : List Record) → IsPrefix (released_so_far session limits rs) (replayed session limits rs) }
+    ensures { (session : Session) (limits : Limits) (rs : List Record)
+        → IsPrefix (released_so_far session limits rs) (replayed session limits rs) }
 {}
 
 /// The records of a run of copies of what one sender sent release the payloads of the numbers reached, by rising sent
 /// number, each once.
 pub fn what_was_reached_is_released()
-    ensures { (session : Session) (limits : Limits) (p : SentStream) (run : List Delivery) (rs : List Record) → 1 ≤ limits.playout_delay → IsCaptureOf session p run rs → HasSteadyTimestamps p → AreDeliveriesOf limits p run
+    ensures { (session : Session) (limits : Limits) (p : SentStream) (run : List Delivery) (rs : List Record)
+        → 1 ≤ limits.playout_delay → IsCaptureOf session p run rs
+        → HasSteadyTimestamps p → AreDeliveriesOf limits p run
         → replayed session limits rs ≡ concat (reached_payloads limits p run) }
 {}

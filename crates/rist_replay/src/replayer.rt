@@ -1,11 +1,11 @@
-// A receiver as a visitor of a capture's records.
+//! A receiver as a visitor of a capture's records.
 ghost use Rattle.std.specs.Prelude.{◌≡◌, ◌<◌};
 ghost use Rattle.receiver_rules.specs.Seen.{seen};
 ghost use Rattle.seq_unwrap.specs.Nearest.{cycle_of};
 ghost use Rattle.rist_wire.specs.Media.{content_of};
 ghost use Rattle.rist_ends.specs.Told.{IsFitWhat, input_of};
 ghost use Rattle.rist_replay.specs.Steps.{arrival_of, input_read};
-ghost use Rattle.rist_replay.specs.Visiting.{answer_of};
+ghost use Rattle.rist_replay.specs.Inside.Visiting.{answer_of};
 
 use capture_file::Head;
 use capture_walk::{VisitBad, Visitor};
@@ -31,9 +31,12 @@ pub struct Replayer {
 // The payload with its null packets in their places: a view of the datagram, or of the block where some were deleted.
 fn content_in<'a>(media: &Media<'a>, block: &'a mut [u8; 1500]) -> &'a [u8]
     ensures value { result.now ≡ content_of media.now }
+    // The bits of its number fit their width.
+    ensures fits { media.now.word < cycle_of media.now.width }
 {
+    let payload = media.payload();
     if media.is_whole() {
-        return media.payload();
+        return payload;
     }
     let len = media.content(block);
     &block[..len]
@@ -43,7 +46,6 @@ fn arrival_in<'a>(media: &Media<'a>, block: &'a mut [u8; 1500]) -> Arrival<'a>
     ensures value { seen result ≡ arrival_of media.now }
     ensures fits { result.word < cycle_of result.width }
 {
-    let _ = media.payload();
     Arrival {
         flow: media.flow,
         width: media.width,
@@ -79,7 +81,7 @@ fn answer_of(outcome: Outcome) -> Result<(), VisitBad>
 
 impl Visitor for Replayer {
     ghost use Rattle.rist_replay.specs.Replay.{released_so_far, replayed};
-    ghost use Rattle.rist_replay.specs.Visiting.{HasReplayed};
+    ghost use Rattle.rist_replay.specs.Inside.Visiting.{HasReplayed};
 
     ghost so_far = { λ r. released_so_far r.opener r.receiver.buffer.limits };
 

@@ -1,7 +1,9 @@
-ghost use Rattle.std.specs.Prelude.{◌≡◌, ℕ, List, [], false, Option, IsErrOf};
-ghost use Rattle.capture_walk.specs.Causes.{HasReadCause, HasWriteCause};
-ghost use Rattle.capture_walk.specs.Leaves.{Leaves};
-ghost use Rattle.capture_walk.specs.declared.walk_bad.WalkBad.TheVariants.{ReadFault};
+//! The replay: a walk whose visitor is a receiver.
+ghost use Rattle.std.specs.Prelude.{◌≡◌, ◌⊎◌, [], true, false, IsErrOf};
+ghost use Rattle.outside_io.specs.Causes.{HasReadCause, HasWriteCause, fault_by};
+ghost use Rattle.capture_walk.specs.Causes.{walk_fault};
+ghost use Rattle.capture_walk.specs.Leaves.{Leaves, passage};
+ghost use Rattle.capture_walk.specs.declared.walk_bad.WalkBad.TheVariants.{ReadFault, WriteFault};
 ghost use Rattle.rist_wire.specs.Session.{IsSession};
 ghost use Rattle.rist_ends.specs.Receiver.{limits_of};
 ghost use Rattle.rist_replay.specs.Replay.{released_so_far, replayed, AreSettings};
@@ -26,10 +28,15 @@ pub fn replay<S: Source, K: Sink>(
     requires settings { AreSettings settings.now }
     requires start { reader.old.at ≡ 0 }
     requires running { reader.old.spent ≡ false }
-    ensures work { (first : Option (List ℕ)) → first ≡ reader.old.remaining → Leaves (released_so_far session.now (limits_of settings.now)) (replayed session.now (limits_of settings.now)) first reader.new.remaining (K.contents sink.old) (K.contents sink.new) result }
+    ensures work { Leaves (released_so_far session.now (limits_of settings.now))
+        (replayed session.now (limits_of settings.now)) 0
+        (passage reader.old reader.new (K.contents sink.old) (K.contents sink.new)) result }
+    // Where a write fails before the capture has come to an end, no read has failed.
+    ensures stopped { IsErrOf result WriteFault
+        → (reader.new.faults ≡ reader.old.faults) ⊎ (reader.new.spent ≡ true) }
     ensures ahead { IsErrOf result ReadFault → reader.new.ahead ≡ [] }
-    ensures read { HasReadCause reader.old.faults reader.new.faults result }
-    ensures write { HasWriteCause (K.faults sink.old) (K.faults sink.new) result }
+    ensures read { HasReadCause (fault_by walk_fault result) reader.old.faults reader.new.faults }
+    ensures write { HasWriteCause (fault_by walk_fault result) (K.faults sink.old) (K.faults sink.new) }
 {
     let opener = match Opener::with(alloc, session) {
         Ok(opener) => opener,

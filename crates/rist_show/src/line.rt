@@ -1,4 +1,4 @@
-// A record's line.
+//! A record's line.
 ghost use Rattle.std.specs.Prelude.{◌≡◌, IfOk};
 ghost use Rattle.rist_show.specs.Lines.{line_by};
 ghost use Rattle.rist_show.specs.Origins.{origin_in};

@@ -1,4 +1,4 @@
-// What a datagram is, as a JSON object.
+//! What a datagram is, as a JSON object.
 ghost use Rattle.std.specs.Prelude.{◌≡◌, length, IfOk};
 ghost use Rattle.serde_json.specs.View.{view};
 ghost use Rattle.rist_wire.specs.Media.{content_of};

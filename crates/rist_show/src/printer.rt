@@ -1,7 +1,8 @@
-// A visitor that writes the line of each record.
+//! A visitor that writes the line of each record.
 ghost use Rattle.std.specs.Prelude.{OnOk, OnErr, IsOkUnless};
 ghost use Rattle.outside_io.specs.Told.{Appends, AppendsPart};
-ghost use Rattle.capture_walk.specs.Causes.{HasVisitCause};
+ghost use Rattle.outside_io.specs.Causes.{HasWriteCause, fault_by};
+ghost use Rattle.capture_walk.specs.Causes.{visit_fault};
 ghost use Rattle.capture_walk.specs.declared.visitor.VisitBad.TheVariants.{WriteFault};
 
 use crate::line::line;
@@ -16,7 +17,7 @@ fn put_line<K: Sink>(text: &[u8], sink: &mut K) -> Result<(), VisitBad>
     ensures ok { OnOk result (Appends (K.contents sink.old) (K.contents sink.new) text.now) }
     ensures err { OnErr result (AppendsPart (K.contents sink.old) (K.contents sink.new) text.now) }
     ensures only { IsOkUnless result WriteFault }
-    ensures cause { HasVisitCause (K.faults sink.old) (K.faults sink.new) result }
+    ensures cause { HasWriteCause (fault_by visit_fault result) (K.faults sink.old) (K.faults sink.new) }
 {
     match sink.put(text) {
         Ok(()) => Ok(()),

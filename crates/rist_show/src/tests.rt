@@ -1,4 +1,4 @@
-// The lines of worked datagrams, and each refusal once.
+//! The lines of worked datagrams, and each refusal once.
 ghost use Rattle.std.specs.Prelude.{None};
 ghost use Rattle.rist_wire.specs.Session.{IsSession};
 
@@ -80,7 +80,7 @@ fn shown(
     let head = [0, channel, high, low, 0, 0, 0, 0, 0, 0, 0, 0];
     let octets = joined(alloc, &[NAME, head.as_slice(), datagram])?;
     let mut reader = Reader::over(Bytes::with(alloc, octets.as_slice(), &[])?);
-    let mut sink = Store8::with(alloc, 1024, &[])?;
+    let mut sink = Store8::with(alloc, 8192, &[])?;
     let end = show(alloc, session, &mut reader, &mut sink);
     Ok((Vec::from_slice(alloc, sink.octets())?, end))
 }
@@ -112,6 +112,12 @@ fn each_record_is_a_line_however_the_capture_is_cut(rt: HostRuntime) -> Result<(
         assert_eq!(rt; end, Ok(()));
         assert_eq!(rt; text.as_slice(), lines.as_slice(), "cut at {cut}");
     }
+    // Each line is one put, and the end is none: no fourth put is made, which would fail.
+    let mut reader = Reader::over(Bytes::with(alloc, octets.as_slice(), &[])?);
+    let mut sink = Store8::with(alloc, 1024, &[3])?;
+    let end = show(alloc, &simple_session(), &mut reader, &mut sink);
+    assert_eq!(rt; end, Ok(()));
+    assert_eq!(rt; sink.octets(), lines.as_slice());
     Ok(())
 }
 
@@ -147,6 +153,35 @@ fn block_with(front: &[u8; 20]) -> [u8; 2048] {
     block
 }
 
+// Whether the line of a compound has as many asks as a record of 2,048 octets holds.
+fn shows_503_asks(alloc: Global) -> Result<bool, Fail> {
+    let mut datagram = joined(
+        alloc,
+        &[
+            b"\x80\xC9\x00\x01\x00\x00\x00\x07\x81\xCA\x00\x03\x00\x00\x00\x07\x01\x04rist\x00\x00",
+            b"\x80\xCC\x01\xF9\x10\x20\x30\x40RIST",
+        ],
+    )?;
+    let mut asks = Vec::new(alloc);
+    for place in 0..503 {
+        datagram.extend_from_slice(b"\xFF\xFF\x00\x01")?;
+        if place > 0 {
+            asks.push(b',')?;
+        }
+        asks.extend_from_slice(b"[65535,1]")?;
+    }
+    let want = joined(
+        alloc,
+        &[
+            b"{\"asks\":[",
+            asks.as_slice(),
+            b"],\"at\":0,\"channel\":\"control\",\"item\":\"control\",\"link\":0,\"packets\":[201,202,204]}\n",
+        ],
+    )?;
+    let (line, end) = shown(alloc, &simple_session(), 1, datagram.as_slice())?;
+    Ok(datagram.len() == 2048 && end == Ok(()) && line.as_slice() == want.as_slice())
+}
+
 #[test]
 fn an_item_is_told_by_its_fields(rt: HostRuntime) -> Result<(), Fail> {
     let alloc = rt.alloc();
@@ -163,6 +198,7 @@ fn an_item_is_told_by_its_fields(rt: HostRuntime) -> Result<(), Fail> {
         line.as_slice(),
         b"{\"asks\":[[65535,1]],\"at\":0,\"channel\":\"control\",\"item\":\"control\",\"link\":0,\"packets\":[201,202,204]}\n".as_slice()
     );
+    assert!(rt; shows_503_asks(alloc)?);
     // Null packets 0, 3 and 6 of seven were deleted; numbers have 32 bits.
     let stripped = block_with(
         b"\x90\x21\x00\x0a\x00\x00\x00\x00\xA0\x2B\x3C\x4D\x52\x49\x00\x01\xF8\x49\x00\x02",

@@ -1,13 +1,14 @@
 -- What a replay leaves is the exact release set.
-use Rattle.std.proofs.Common.{◌≡◌, ℕ, ◌≤◌, List, [], ◌∷◌, ◌++◌, Some, Option, IfSome, sym, ap, ◌∙◌, subst, append-nil, length, ◌^◌, arith}
+use Rattle.std.proofs.Common.{◌≡◌, ℕ, ◌≤◌, List, [], ◌∷◌, ◌++◌, None, Some, Option, IfSome, sym, ap, ◌∙◌, subst, append-nil, arith}
 use Rattle.std.specs.Prelude.{Result, Ok, Err}
 use Rattle.std.specs.List.{concat}
-use Rattle.outside_io.specs.Told.{Appends}
+use Rattle.outside_io.specs.Told.{Passage, Appends}
 use Rattle.outside_io.specs.Shelf.{Shelf}
 use Rattle.outside_io.specs.declared.host.Place.TheVariants.{Back}
 use Rattle.capture_file.specs.Capture.{Record, IsCapture, IsFront, magic}
 use Rattle.capture_file.proofs.FormatLemmas.{one_reading, no_record_in_nothing}
-use Rattle.capture_walk.specs.Leaves.{Leaves}
+use Rattle.capture_file.specs.Reader.{most_ahead}
+use Rattle.capture_walk.specs.Leaves.{Leaves, EndsAfter}
 use Rattle.capture_walk.specs.declared.walk_bad.WalkBad.{WalkBad}
 use Rattle.capture_walk.specs.declared.walk_bad.WalkBad.TheVariants as walks
 use Rattle.receiver_rules.specs.Steps.{end_step}
@@ -21,6 +22,7 @@ use Rattle.rist_top.specs.Sessions.{session_read, replay_limits}
 use Rattle.rist_top.specs.Works.{walk_status}
 use Rattle.rist_top.specs.Exact.{WritesReached}
 use Rattle.rist_top.specs.Ran.{Ran}
+use Rattle.rist_top.specs.Objects.{Tells, passage}
 use Rattle.rist_top.specs.declared.status.Status.{Status}
 use Rattle.rist_top.specs.declared.status.Status.TheVariants as statuses
 use Rattle.rist_top.proofs.PlaceLemmas.{same_here}
@@ -42,14 +44,19 @@ same_back : {X : Type 0} (x y : X) → Back x ≡ Back y → x ≡ y
 same_back x y e = cc
 
 -- a walk that is Done ended well
-done_walk : (so_far whole : List Record → List ℕ) (source rest old new : Option (List ℕ)) (end : Result Unit WalkBad) → statuses.Done ≡ walk_status end → Leaves so_far whole source rest old new end
-    → IfSome source (λ b. (rs : List Record) × IsCapture rs b × (length b ≤ 2 ^ 40) × Appends old new (whole rs))
-done_walk so_far whole source rest old new (Ok x) e left = left.1
-done_walk so_far whole source rest old new (Err (walks.BadCapture kind at)) e left = cc
-done_walk so_far whole source rest old new (Err walks.TooLong) e left = cc
-done_walk so_far whole source rest old new (Err walks.ReadFault) e left = cc
-done_walk so_far whole source rest old new (Err walks.WriteFault) e left = cc
-done_walk so_far whole source rest old new (Err walks.Memory) e left = cc
+done_walk : (so_far whole : List Record → List ℕ) (p : Passage) (end : Result Unit WalkBad) → statuses.Done ≡ walk_status end → Leaves so_far whole most_ahead p end
+    → IfSome p.had (λ b. (rs : List Record) × IsCapture rs b × Appends p.held p.holds (whole rs))
+done_walk so_far whole p (Ok x) e left = by_told p.had left
+  where
+    by_told : (had : Option (List ℕ)) → IfSome had (λ b. (rs : List Record) × EndsAfter 0 b p.left rs (Ok tt) × Appends p.held p.holds (whole rs))
+        → IfSome had (λ b. (rs : List Record) × IsCapture rs b × Appends p.held p.holds (whole rs))
+    by_told None left = tt
+    by_told (Some b) left = (left.0, left.1.1, left.2)
+done_walk so_far whole p (Err (walks.BadCapture kind at)) e left = cc
+done_walk so_far whole p (Err walks.TooLong) e left = cc
+done_walk so_far whole p (Err walks.ReadFault) e left = cc
+done_walk so_far whole p (Err walks.WriteFault) e left = cc
+done_walk so_far whole p (Err walks.Memory) e left = cc
 
 released : (c : ReplayCommand) (rs : List Record) (p : SentStream) (run : List Delivery) → 1 ≤ c.delay → IsCaptureOf (session_read c.session) p run rs → HasSteadyTimestamps p → AreDeliveriesOf (replay_limits c) p run
     → replayed (session_read c.session) (replay_limits c) rs ≡ concat (reached_payloads (replay_limits c) p run)
@@ -57,21 +64,21 @@ released c rs p run some is steady honest =
     ap (λ h. concat (released_payloads (replay_limits c) (end_step ∷ h))) is ∙ ap concat (sent.release_set (replay_limits c) p run steady (omega arith) honest)
 
 done_reached : (c : ReplayCommand) (first old new : Option (List ℕ)) (b : List ℕ) (rs : List Record) (p : SentStream) (run : List Delivery) → 1 ≤ c.delay → first ≡ Some b
-    → IfSome first (λ b. (rs : List Record) × IsCapture rs b × (length b ≤ 2 ^ 40) × Appends old new (replayed (session_read c.session) (replay_limits c) rs))
+    → IfSome first (λ b. (rs : List Record) × IsCapture rs b × Appends old new (replayed (session_read c.session) (replay_limits c) rs))
     → IsCapture rs b → IsCaptureOf (session_read c.session) p run rs → HasSteadyTimestamps p → AreDeliveriesOf (replay_limits c) p run → Appends old new (concat (reached_payloads (replay_limits c) p run))
 done_reached c first old new b rs p run some told work capture is steady honest =
-    let here = subst (λ o. IfSome o (λ b. (rs : List Record) × IsCapture rs b × (length b ≤ 2 ^ 40) × Appends old new (replayed (session_read c.session) (replay_limits c) rs))) told work in
+    let here = subst (λ o. IfSome o (λ b. (rs : List Record) × IsCapture rs b × Appends old new (replayed (session_read c.session) (replay_limits c) rs))) told work in
     let same : here.0 ≡ rs = one_capture b here.0 rs here.1 capture in
-    subst (Appends old new) (ap (replayed (session_read c.session) (replay_limits c)) same ∙ released c rs p run some is steady honest) here.3
+    subst (Appends old new) (ap (replayed (session_read c.session) (replay_limits c)) same ∙ released c rs p run some is steady honest) here.2
 
-pub ran_reached : {I O E : Type 0} (remaining : I → Option (List ℕ)) (read_faults : I → ℕ) (contents : O → Option (List ℕ)) (write_faults : O → ℕ) (words : E → Option (List ℕ)) (word_faults : E → ℕ) (old new : Shelf I O E) (c : ReplayCommand) (status : Status)
-    → 1 ≤ c.delay → status ≡ statuses.Done → Ran remaining read_faults contents write_faults words word_faults old new (Replay c) status → WritesReached remaining contents old new c
-ran_reached remaining read_faults contents write_faults words word_faults old new c status some done ran source sink filled b rs p run here_source here_sink back_sink told is_capture is steady honest =
-    let r = subst (λ s. Ran remaining read_faults contents write_faults words word_faults old new (Replay c) s) done ran in
+pub ran_reached : {I O E : Type 0} (tells : Tells I O E) (old new : Shelf I O E) (c : ReplayCommand) (status : Status)
+    → 1 ≤ c.delay → status ≡ statuses.Done → Ran tells old new (Replay c) status → WritesReached tells old new c
+ran_reached tells old new c status some done ran source sink filled b rs p run here_source here_sink back_sink told is_capture is steady honest =
+    let r = subst (λ s. Ran tells old new (Replay c) s) done ran in
     let source_is = same_here r.source source (sym r.took_source ∙ here_source) in
     let sink_is = same_here r.sink sink (sym r.took_sink ∙ here_sink) in
     let filled_is = same_back r.filled filled (sym r.gave_sink ∙ back_sink) in
-    let left = done_walk (released_so_far (session_read c.session) (replay_limits c)) (replayed (session_read c.session) (replay_limits c)) (remaining r.source) (remaining r.spent) (contents r.sink) (contents r.filled) r.work.0 r.work.1 r.work.2 in
-    subst (λ o. Appends (contents o) (contents filled) (concat (reached_payloads (replay_limits c) p run))) sink_is
-    (subst (λ o. Appends (contents r.sink) (contents o) (concat (reached_payloads (replay_limits c) p run))) filled_is
-    (done_reached c (remaining r.source) (contents r.sink) (contents r.filled) b rs p run some (ap remaining source_is ∙ told) left is_capture is steady honest))
+    let left = done_walk (released_so_far (session_read c.session) (replay_limits c)) (replayed (session_read c.session) (replay_limits c)) (passage tells r.source r.spent r.sink r.filled) r.work.0 r.work.1 r.work.2 in
+    subst (λ o. Appends (tells.contents o) (tells.contents filled) (concat (reached_payloads (replay_limits c) p run))) sink_is
+    (subst (λ o. Appends (tells.contents r.sink) (tells.contents o) (concat (reached_payloads (replay_limits c) p run))) filled_is
+    (done_reached c (tells.remaining r.source) (tells.contents r.sink) (tells.contents r.filled) b rs p run some (ap tells.remaining source_is ∙ told) left is_capture is steady honest))

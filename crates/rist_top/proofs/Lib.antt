@@ -2,3 +2,4 @@ pub mod PlaceLemmas
 pub mod ExactLemmas
 pub mod CompleteLemmas
 pub mod UntouchedLemmas
+pub mod LineLemmas

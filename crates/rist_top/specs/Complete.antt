@@ -1,5 +1,5 @@
 -- A command whose calls don't fail comes to its end, or memory is refused.
-use Rattle.std.specs.Prelude.{◌≡◌, ◌⊎◌, ◌≤◌, ◌^◌, ℕ, List, length, Some, Option}
+use Rattle.std.specs.Prelude.{◌≡◌, ◌⊎◌, ◌≤◌, ◌^◌, ℕ, List, length, Some}
 use Rattle.outside_io.specs.Causes.{Rose}
 use Rattle.outside_io.specs.Shelf.{Shelf}
 use Rattle.outside_io.specs.declared.host.Place.TheVariants.{Here, Back}
@@ -7,6 +7,7 @@ use Rattle.capture_file.specs.Capture.{Record, IsCapture}
 use Rattle.rist_words.specs.CommandLine.{CommandLine, Replay, Show, Pack}
 use Rattle.rist_top.specs.Ran.{source_name, sink_name}
 use Rattle.rist_top.specs.Sealing.{FailedAt}
+use Rattle.rist_top.specs.Objects.{Tells}
 use Rattle.rist_top.specs.declared.status.Status.{Status}
 use Rattle.rist_top.specs.declared.status.Status.TheVariants as statuses
 
@@ -21,13 +22,15 @@ IsWholeInput (Show c) b = IsWholeCapture b
 IsWholeInput (Pack c) b = length b ≤ 2 ^ 40
 
 -- no read, no write and no drawing of random words failed
-pub record NoneFailed {I O E : Type 0} (read_faults : I → ℕ) (write_faults : O → ℕ) (word_faults : E → ℕ) (old new : Shelf I O E) (c : CommandLine) : Type 0 where
-  pub reads : (source spent : I) → old.sources (source_name c) ≡ Here source → new.sources (source_name c) ≡ Back spent → Rose (read_faults source) (read_faults spent) → ⊥
-  pub writes : (sink filled : O) → old.sinks (sink_name c) ≡ Here sink → new.sinks (sink_name c) ≡ Back filled → Rose (write_faults sink) (write_faults filled) → ⊥
-  pub words : FailedAt word_faults old new → ⊥
+pub record NoneFailed {I O E : Type 0} (tells : Tells I O E) (old new : Shelf I O E) (c : CommandLine) : Type 0 where
+  pub reads : (source spent : I) → old.sources (source_name c) ≡ Here source → new.sources (source_name c) ≡ Back spent
+      → Rose (tells.read_faults source) (tells.read_faults spent) → ⊥
+  pub writes : (sink filled : O) → old.sinks (sink_name c) ≡ Here sink → new.sinks (sink_name c) ≡ Back filled
+      → Rose (tells.write_faults sink) (tells.write_faults filled) → ⊥
+  pub words : FailedAt tells old new → ⊥
 
 -- a command over such a source in which nothing failed is done, or memory was refused
-abbrev pub Completes : {I O E : Type 0} → (I → Option (List ℕ)) → (I → ℕ) → (O → ℕ) → (E → ℕ) → Shelf I O E → Shelf I O E → CommandLine → Status → Type 0
-Completes {I} remaining read_faults write_faults word_faults old new c status =
-    (source : I) (b : List ℕ) → old.sources (source_name c) ≡ Here source → remaining source ≡ Some b → IsWholeInput c b
-    → NoneFailed read_faults write_faults word_faults old new c → (status ≡ statuses.Done) ⊎ (status ≡ statuses.Memory)
+abbrev pub Completes : {I O E : Type 0} → Tells I O E → Shelf I O E → Shelf I O E → CommandLine → Status → Type 0
+Completes {I} tells old new c status =
+    (source : I) (b : List ℕ) → old.sources (source_name c) ≡ Here source → tells.remaining source ≡ Some b → IsWholeInput c b
+    → NoneFailed tells old new c → (status ≡ statuses.Done) ⊎ (status ≡ statuses.Memory)

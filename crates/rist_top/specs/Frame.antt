@@ -21,3 +21,8 @@ pub record KeepsOthers {I O E : Type 0} (old new : Shelf I O E) (c : CommandLine
   pub sink : CameBack (old.sinks (sink_name c)) (new.sinks (sink_name c))
   pub first : CameBack (old.entropies 0) (new.entropies 0)
   pub undrawn : draws_words c ≡ false → new.entropies 0 ≡ old.entropies 0
+
+-- a sink is opened only where a source could be: where the source stands as it stood, so does the sink
+abbrev pub OpensSourceFirst : {I O E : Type 0} → Shelf I O E → Shelf I O E → CommandLine → Type 0
+OpensSourceFirst old new c =
+    new.sources (source_name c) ≡ old.sources (source_name c) → new.sinks (sink_name c) ≡ old.sinks (sink_name c)

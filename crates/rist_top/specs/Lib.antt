@@ -1,6 +1,8 @@
 pub mod ExitCodes
 pub mod Text
 pub mod Causes
+pub mod Objects
+pub mod Lines
 pub mod Sessions
 pub mod Works
 pub mod Places
@@ -10,3 +12,4 @@ pub mod Frame
 pub mod Untouched
 pub mod Exact
 pub mod Complete
+pub mod Inside

@@ -1,10 +1,12 @@
 -- What a run says of the objects of its host.
-use Rattle.std.specs.Prelude.{◌≡◌, ℕ, List, Option, codes}
+use Rattle.std.specs.Prelude.{◌≡◌, ℕ, List, codes}
+use Rattle.outside_io.specs.Causes.{HasReadCause, HasWriteCause}
 use Rattle.outside_io.specs.Told.{IsEmpty}
 use Rattle.outside_io.specs.Shelf.{Shelf}
 use Rattle.outside_io.specs.declared.host.Place.TheVariants.{Here, Back}
 use Rattle.rist_words.specs.CommandLine.{CommandLine, Replay, Show, Pack}
-use Rattle.rist_top.specs.Causes.{HasReadCause, HasWriteCause}
+use Rattle.rist_top.specs.Causes.{fault_of}
+use Rattle.rist_top.specs.Objects.{Tells, passage}
 use Rattle.rist_top.specs.Works.{Works}
 use Rattle.rist_top.specs.Sealing.{FailedAt, DrawnFirst}
 use Rattle.rist_top.specs.declared.status.Status.{Status}
@@ -23,8 +25,7 @@ sink_name (Show c) = codes "-"
 sink_name (Pack c) = c.capture
 
 -- the source and the sink of a line were handed out and came back, and the status says what they tell
-pub record Ran {I O E : Type 0} (remaining : I → Option (List ℕ)) (read_faults : I → ℕ) (contents : O → Option (List ℕ)) (write_faults : O → ℕ) (words : E → Option (List ℕ)) (word_faults : E → ℕ)
-    (old new : Shelf I O E) (c : CommandLine) (status : Status) : Type 0 where
+pub record Ran {I O E : Type 0} (tells : Tells I O E) (old new : Shelf I O E) (c : CommandLine) (status : Status) : Type 0 where
   pub source : I
   pub spent : I
   pub sink : O
@@ -33,9 +34,9 @@ pub record Ran {I O E : Type 0} (remaining : I → Option (List ℕ)) (read_faul
   pub gave_source : new.sources (source_name c) ≡ Back spent
   pub took_sink : old.sinks (sink_name c) ≡ Here sink
   pub gave_sink : new.sinks (sink_name c) ≡ Back filled
-  pub fresh : IsEmpty (contents sink)
-  pub work : Works (DrawnFirst words word_faults old.entropies new.entropies) c (remaining source) (remaining spent) (contents sink) (contents filled) status
-  pub read : HasReadCause (read_faults source) (read_faults spent) status
-  pub write : HasWriteCause (write_faults sink) (write_faults filled) status
+  pub fresh : IsEmpty (tells.contents sink)
+  pub work : Works (DrawnFirst tells old.entropies new.entropies) c (passage tells source spent sink filled) status
+  pub read : HasReadCause (fault_of status) (tells.read_faults source) (tells.read_faults spent)
+  pub write : HasWriteCause (fault_of status) (tells.write_faults sink) (tells.write_faults filled)
   -- where random words failed they came from the first place
-  pub random : status ≡ statuses.EntropyFault → FailedAt word_faults old new
+  pub random : status ≡ statuses.EntropyFault → FailedAt tells old new

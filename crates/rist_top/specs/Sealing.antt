@@ -1,5 +1,5 @@
 -- What is left where the sealer of a packing is made, or can't be.
-use Rattle.std.specs.Prelude.{◌≡◌, ◌≢◌, ◌⊎◌, ℕ, List, Bool, false, Option, Result, Ok, Err}
+use Rattle.std.specs.Prelude.{◌≡◌, ◌≢◌, ℕ, Bool, false}
 use Rattle.psk_seal.specs.Nonces.{Draws}
 use Rattle.psk_seal.specs.Sealer.{SealerState}
 use Rattle.outside_io.specs.Causes.{Rose}
@@ -7,8 +7,7 @@ use Rattle.outside_io.specs.Shelf.{Shelf}
 use Rattle.outside_io.specs.declared.host.Place.{Place}
 use Rattle.outside_io.specs.declared.host.Place.TheVariants.{Here, Back}
 use Rattle.rist_top.specs.Places.{CameBack}
-use Rattle.rist_top.specs.declared.status.Status.{Status}
-use Rattle.rist_top.specs.declared.status.Status.TheVariants as statuses
+use Rattle.rist_top.specs.Objects.{Tells}
 
 -- sources and sinks stand as they stood, and of a host that has handed out none all random words but the first, which came
 -- back; that one too where none are drawn
@@ -20,27 +19,18 @@ pub record KeepsObjects {I O E : Type 0} (old new : Shelf I O E) (draws : Bool) 
   pub undrawn : draws ≡ false → (place : ℕ) → new.entropies place ≡ old.entropies place
 
 -- the nonces of a sealer are drawn from the first source of random words, which was handed out, did not fail, and came back
-pub record DrawnFirst {E : Type 0} (remaining : E → Option (List ℕ)) (faults : E → ℕ) (old new : ℕ → Place E) (sealer : SealerState) : Type 0 where
+pub record DrawnFirst {I O E : Type 0} (tells : Tells I O E) (old new : ℕ → Place E) (sealer : SealerState) : Type 0 where
   pub words : E
   pub drawn : E
   pub took : old 0 ≡ Here words
   pub gave : new 0 ≡ Back drawn
-  pub nonces : Draws (remaining words) (remaining drawn) sealer.nonces 16
-  pub none : faults drawn ≡ faults words
+  pub nonces : Draws (tells.words words) (tells.words drawn) sealer.nonces 16
+  pub none : tells.word_faults drawn ≡ tells.word_faults words
 
 -- the first source of random words was handed out, failed, and came back
-pub record FailedAt {I O E : Type 0} (faults : E → ℕ) (old new : Shelf I O E) : Type 0 where
+pub record FailedAt {I O E : Type 0} (tells : Tells I O E) (old new : Shelf I O E) : Type 0 where
   pub words : E
   pub drawn : E
   pub took : old.entropies 0 ≡ Here words
   pub gave : new.entropies 0 ≡ Back drawn
-  pub rose : Rose (faults words) (faults drawn)
-
--- a sealer can't be had where nothing is handed out, or where words fail
-abbrev pub CanRefuse : Status → Type 0
-CanRefuse status = (status ≡ statuses.OpenFault) ⊎ ((status ≡ statuses.Memory) ⊎ (status ≡ statuses.EntropyFault))
-
--- P holds of an error
-abbrev pub OnErrIs : {T E : Type 0} → Result T E → (E → Type 0) → Type 0
-OnErrIs (Ok x) P = Unit {0}
-OnErrIs (Err e) P = P e
+  pub rose : Rose (tells.word_faults words) (tells.word_faults drawn)

@@ -1,7 +1,8 @@
 -- What is left where a line's work is not begun, or wants memory.
-use Rattle.std.specs.Prelude.{◌≡◌, ◌≢◌, ◌⊎◌, ℕ, List, Option}
+use Rattle.std.specs.Prelude.{◌≡◌, ◌≢◌, ◌⊎◌, ℕ, List}
 use Rattle.outside_io.specs.Shelf.{Shelf, Stays}
 use Rattle.rist_words.specs.CommandLine.{CommandLine, Pack}
+use Rattle.rist_top.specs.Objects.{Tells}
 use Rattle.rist_top.specs.Places.{IsAsItWas}
 use Rattle.rist_top.specs.Ran.{Ran, source_name, sink_name}
 use Rattle.rist_top.specs.declared.status.Status.TheVariants as statuses
@@ -14,15 +15,8 @@ pub record Untouched {I O E : Type 0} (old new : Shelf I O E) (c : CommandLine) 
   pub other_sinks : (name : List ℕ) → name ≢ sink_name c → new.sinks name ≡ old.sinks name
   pub entropies : Stays old.entropies new.entropies
 
--- a source and a sink are as they were handed out, and no random word was drawn
-pub record IsUnbegun {I O E : Type 0} (source spent : I) (sink filled : O) (old new : Shelf I O E) : Type 0 where
-  pub unread : spent ≡ source
-  pub unwritten : filled ≡ sink
-  pub entropies : Stays old.entropies new.entropies
-
 -- Where memory is refused a packing has touched nothing. A walk over a capture has touched nothing, or its sink has gained
 -- exactly what is written of some records at the front.
-abbrev pub LeavesAtMemory : {I O E : Type 0} → (I → Option (List ℕ)) → (I → ℕ) → (O → Option (List ℕ)) → (O → ℕ) → (E → Option (List ℕ)) → (E → ℕ) → Shelf I O E → Shelf I O E → CommandLine → Type 0
-LeavesAtMemory remaining read_faults contents write_faults words word_faults old new (Pack c) = Untouched old new (Pack c)
-LeavesAtMemory remaining read_faults contents write_faults words word_faults old new c =
-    Untouched old new c ⊎ Ran remaining read_faults contents write_faults words word_faults old new c statuses.Memory
+abbrev pub LeavesAtMemory : {I O E : Type 0} → Tells I O E → Shelf I O E → Shelf I O E → CommandLine → Type 0
+LeavesAtMemory tells old new (Pack c) = Untouched old new (Pack c)
+LeavesAtMemory tells old new c = Untouched old new c ⊎ Ran tells old new c statuses.Memory

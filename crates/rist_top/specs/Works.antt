@@ -4,7 +4,9 @@ use Rattle.outside_io.specs.declared.host.HostBad.{HostBad}
 use Rattle.outside_io.specs.declared.host.HostBad.TheVariants as hosts
 use Rattle.psk_seal.specs.Sealer.{SealerState}
 use Rattle.psk_seal.specs.Nonces.{AreNonces}
+use Rattle.outside_io.specs.Told.{Passage}
 use Rattle.capture_file.specs.Capture.{Record}
+use Rattle.capture_file.specs.Reader.{most_ahead}
 use Rattle.capture_walk.specs.Leaves.{Leaves}
 use Rattle.capture_walk.specs.declared.walk_bad.WalkBad.{WalkBad}
 use Rattle.capture_walk.specs.declared.walk_bad.WalkBad.TheVariants as walks
@@ -41,12 +43,14 @@ host_status hosts.Failed = statuses.OpenFault
 host_status hosts.NoMemory = statuses.Memory
 
 -- a walk over the source's records ended so, and left this
-abbrev pub Walks : (List Record → List ℕ) → (List Record → List ℕ) → Option (List ℕ) → Option (List ℕ) → Option (List ℕ) → Option (List ℕ) → Status → Type 0
-Walks so_far whole source rest old new status = (end : Result Unit WalkBad) × (status ≡ walk_status end) × Leaves so_far whole source rest old new end
+abbrev pub Walks : (List Record → List ℕ) → (List Record → List ℕ) → Passage → Status → Type 0
+Walks so_far whole p status = (end : Result Unit WalkBad) × (status ≡ walk_status end) × Leaves so_far whole most_ahead p end
 
 -- a packing under a sealer, where there is one, ended so, and left this
-abbrev pub PacksAs : PackCommand → Option SealerState → Option (List ℕ) → Option (List ℕ) → Option (List ℕ) → Option (List ℕ) → Status → Type 0
-PacksAs c sealer source rest old new status = (end : Result Unit PackBad) × (status ≡ pack_status end) × Packs (packed_record (session_with c.session c.nulls c.wide) (nonces_of sealer) (pack_settings c)) source rest old new end
+abbrev pub PacksAs : PackCommand → Option SealerState → Passage → Status → Type 0
+PacksAs c sealer p status =
+    (end : Result Unit PackBad) × (status ≡ pack_status end)
+    × Packs (packed_record (session_with c.session c.nulls c.wide) (nonces_of sealer) (pack_settings c)) p end
 
 -- the sealer of a packing: one that has given no pair, exactly where there is a passphrase
 pub record IsFreshFor (c : PackCommand) (sealer : Option SealerState) : Type 0 where
@@ -55,16 +59,18 @@ pub record IsFreshFor (c : PackCommand) (sealer : Option SealerState) : Type 0 w
   pub nonces : IfSome sealer (λ s. AreNonces s.nonces)
 
 -- what a replay leaves
-abbrev pub Replays : ReplayCommand → Option (List ℕ) → Option (List ℕ) → Option (List ℕ) → Option (List ℕ) → Status → Type 0
-Replays c source rest old new status = Walks (released_so_far (session_read c.session) (replay_limits c)) (replayed (session_read c.session) (replay_limits c)) source rest old new status
+abbrev pub Replays : ReplayCommand → Passage → Status → Type 0
+Replays c p status =
+    Walks (released_so_far (session_read c.session) (replay_limits c)) (replayed (session_read c.session) (replay_limits c)) p status
 
 -- what a showing leaves
-abbrev pub Shows : ShowCommand → Option (List ℕ) → Option (List ℕ) → Option (List ℕ) → Option (List ℕ) → Status → Type 0
-Shows c source rest old new status = Walks (lines (session_read c.session)) (lines (session_read c.session)) source rest old new status
+abbrev pub Shows : ShowCommand → Passage → Status → Type 0
+Shows c p status = Walks (lines (session_read c.session)) (lines (session_read c.session)) p status
 
--- what a command leaves of the octets that its source, where it tells, had and has left, and of what its sink held and holds,
--- and what else is known of the sealer of a packing
-abbrev pub Works : (SealerState → Type 0) → CommandLine → Option (List ℕ) → Option (List ℕ) → Option (List ℕ) → Option (List ℕ) → Status → Type 0
-Works IsKnown (Replay c) source rest old new status = Replays c source rest old new status
-Works IsKnown (Show c) source rest old new status = Shows c source rest old new status
-Works IsKnown (Pack c) source rest old new status = ((status ≡ statuses.EntropyFault) × (rest ≡ source) × (new ≡ old)) ⊎ ((sealer : Option SealerState) × IsFreshFor c sealer × IfSome sealer IsKnown × PacksAs c sealer source rest old new status)
+-- what a command leaves of its source and its sink, where they tell, and what else is known of the sealer of a packing
+abbrev pub Works : (SealerState → Type 0) → CommandLine → Passage → Status → Type 0
+Works IsKnown (Replay c) p status = Replays c p status
+Works IsKnown (Show c) p status = Shows c p status
+Works IsKnown (Pack c) p status =
+    ((status ≡ statuses.EntropyFault) × (p.left ≡ p.had) × (p.holds ≡ p.held))
+    ⊎ ((sealer : Option SealerState) × IsFreshFor c sealer × IfSome sealer IsKnown × PacksAs c sealer p status)

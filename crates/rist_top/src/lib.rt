@@ -5,6 +5,7 @@
 mod sealing;
 mod sessions;
 mod status;
+mod telling;
 #[cfg(test)]
 mod tests;
 mod top;

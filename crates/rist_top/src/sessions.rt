@@ -1,4 +1,4 @@
-// The session and the settings that a line speaks of.
+//! The session and the settings that a line speaks of.
 ghost use Rattle.std.specs.Prelude.{◌≡◌, false};
 ghost use Rattle.rist_words.specs.Shown.{shown_session};
 ghost use Rattle.rist_words.specs.Ranges.{IsInSession};

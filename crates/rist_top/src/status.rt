@@ -1,3 +1,4 @@
+//! How a command ended.
 use capture_file::CapKind;
 use capture_walk::WalkBad;
 use outside_io::HostBad;

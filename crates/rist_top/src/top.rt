@@ -1,16 +1,19 @@
-ghost use Rattle.std.specs.Prelude.{◌≡◌, ◌≢◌, ◌⊎◌, IsTrue, Some, None, map, string_bytes};
-ghost use Rattle.outside_io.specs.Causes.{Rose};
-ghost use Rattle.rist_words.specs.CommandLine.{CommandLine, Replay, ReplayCommand, line_of};
+//! The top call, and a line from its objects to its status.
+ghost use Rattle.std.specs.Prelude.{◌≡◌, ◌≢◌, ◌⊎◌, IsTrue};
+ghost use Rattle.outside_io.specs.Causes.{HasOpenCause, Rose};
+ghost use Rattle.rist_words.specs.CommandLine.{Replay, ReplayCommand};
 ghost use Rattle.rist_words.specs.Shown.{shown};
 ghost use Rattle.rist_words.specs.Ranges.{IsInRange};
-ghost use Rattle.rist_top.specs.Causes.{HasOpenCause};
+ghost use Rattle.rist_top.specs.Causes.{fault_of};
+ghost use Rattle.rist_top.specs.Lines.{IsLine, IsNoLine, IfLine, IsFresh};
 ghost use Rattle.rist_top.specs.Ran.{Ran, source_name, sink_name};
-ghost use Rattle.rist_top.specs.Frame.{KeepsOthers};
+ghost use Rattle.rist_top.specs.Frame.{KeepsOthers, OpensSourceFirst};
 ghost use Rattle.rist_top.specs.Untouched.{Untouched, LeavesAtMemory};
 ghost use Rattle.rist_top.specs.Exact.{WritesReached};
 ghost use Rattle.rist_top.specs.Complete.{Completes};
 
 use crate::status::Status;
+use crate::telling::Telling;
 use crate::working::{Worked, work};
 use outside_io::Host;
 use rist_words::{Line, Refused, line};
@@ -19,32 +22,43 @@ use std::alloc::Global;
 /// Does what the words of a command line say, the program's name first, with the objects of a host.
 pub fn run<H: Host>(alloc: Global, words: &[String], host: &mut H) -> Status
     // The words are refused exactly where they are no line, memory aside.
-    ensures usage { result ≡ Status.Usage → line_of (map string_bytes words.now) ≡ None }
-    ensures refused { line_of (map string_bytes words.now) ≡ None → (result ≡ Status.Usage) ⊎ (result ≡ Status.Memory) }
+    ensures usage { result ≡ Status.Usage → IsNoLine words.now }
+    ensures refused { IsNoLine words.now → (result ≡ Status.Usage) ⊎ (result ≡ Status.Memory) }
 
     // A fault at opening comes exactly where a call of the host failed.
-    ensures opened { HasOpenCause (H.faults host.old) (H.faults host.new) result }
+    ensures opened { HasOpenCause (fault_of result) (H.faults host.old) (H.faults host.new) }
 
     // What is no line touches nothing, and a line only what it speaks of.
-    ensures same { IsTrue H.tells → line_of (map string_bytes words.now) ≡ None → H.shelf host.new ≡ H.shelf host.old }
-    ensures others { (c : CommandLine) → line_of (map string_bytes words.now) ≡ Some c → IsTrue H.tells → (H.shelf host.old).next_entropy ≡ 0 → KeepsOthers (H.shelf host.old) (H.shelf host.new) c }
+    ensures same { IsTrue H.tells → IsNoLine words.now → H.shelf host.new ≡ H.shelf host.old }
+    ensures others { IsFresh H.tells (H.shelf host.old)
+        → IfLine words.now (λ c. KeepsOthers (H.shelf host.old) (H.shelf host.new) c) }
+
+    // A sink is opened only after its source.
+    ensures order { IsTrue H.tells
+        → IfLine words.now (λ c. OpensSourceFirst (H.shelf host.old) (H.shelf host.new) c) }
 
     // Every other answer but want of memory is about what the host's objects tell.
-    ensures ran { (c : CommandLine) → line_of (map string_bytes words.now) ≡ Some c → IsTrue H.tells → (H.shelf host.old).next_entropy ≡ 0 → result ≢ Status.OpenFault → result ≢ Status.Memory
-        → Ran H.Input.remaining H.Input.faults H.Output.contents H.Output.faults H.Random.remaining H.Random.faults (H.shelf host.old) (H.shelf host.new) c result }
+    ensures ran { IsFresh H.tells (H.shelf host.old) → result ≢ Status.OpenFault → result ≢ Status.Memory
+        → IfLine words.now (λ c.
+        Ran ⟦<H as Telling>⟧.objects (H.shelf host.old) (H.shelf host.new) c result) }
 
-    // Where nothing can be opened, or memory is refused before a walk, all comes back as it was.
-    ensures closed { (c : CommandLine) → line_of (map string_bytes words.now) ≡ Some c → IsTrue H.tells → result ≡ Status.OpenFault → Untouched (H.shelf host.old) (H.shelf host.new) c }
-    ensures memory { (c : CommandLine) → line_of (map string_bytes words.now) ≡ Some c → IsTrue H.tells → (H.shelf host.old).next_entropy ≡ 0 → result ≡ Status.Memory
-        → LeavesAtMemory H.Input.remaining H.Input.faults H.Output.contents H.Output.faults H.Random.remaining H.Random.faults (H.shelf host.old) (H.shelf host.new) c }
+    // Where nothing can be opened, all comes back as it was.
+    ensures closed { IsTrue H.tells → result ≡ Status.OpenFault
+        → IfLine words.now (λ c. Untouched (H.shelf host.old) (H.shelf host.new) c) }
+    // Where memory is refused, a packing has touched nothing. A walk over a capture may have written what it read before.
+    ensures memory { IsFresh H.tells (H.shelf host.old) → result ≡ Status.Memory
+        → IfLine words.now (λ c.
+        LeavesAtMemory ⟦<H as Telling>⟧.objects (H.shelf host.old) (H.shelf host.new) c) }
 
     // What a replay leaves is the exact release set, in sent numbers.
-    ensures reached { (c : ReplayCommand) → line_of (map string_bytes words.now) ≡ Some (Replay c) → IsTrue H.tells → (H.shelf host.old).next_entropy ≡ 0 → result ≡ Status.Done
-        → WritesReached H.Input.remaining H.Output.contents (H.shelf host.old) (H.shelf host.new) c }
+    ensures reached { (c : ReplayCommand) → IsLine words.now (Replay c)
+        → IsFresh H.tells (H.shelf host.old) → result ≡ Status.Done
+        → WritesReached ⟦<H as Telling>⟧.objects (H.shelf host.old) (H.shelf host.new) c }
 
     // Where no call fails, a capture is taken to its end, and so is a source.
-    ensures complete { (c : CommandLine) → line_of (map string_bytes words.now) ≡ Some c → IsTrue H.tells → (H.shelf host.old).next_entropy ≡ 0 → (Rose (H.faults host.old) (H.faults host.new) → ⊥)
-        → Completes H.Input.remaining H.Input.faults H.Output.faults H.Random.faults (H.shelf host.old) (H.shelf host.new) c result }
+    ensures complete { IsFresh H.tells (H.shelf host.old) → (Rose (H.faults host.old) (H.faults host.new) → ⊥)
+        → IfLine words.now (λ c.
+        Completes ⟦<H as Telling>⟧.objects (H.shelf host.old) (H.shelf host.new) c result) }
 {
     match line(alloc, words) {
         Ok(line) => run_line(alloc, host, &line),
@@ -57,13 +71,17 @@ pub fn run<H: Host>(alloc: Global, words: &[String], host: &mut H) -> Status
 fn run_line<H: Host>(alloc: Global, host: &mut H, line: &Line<'_>) -> Status
     requires range { IsInRange (shown line.now) }
     ensures line { result ≢ Status.Usage }
-    ensures opened { HasOpenCause (H.faults host.old) (H.faults host.new) result }
-    ensures others { IsTrue H.tells → (H.shelf host.old).next_entropy ≡ 0 → KeepsOthers (H.shelf host.old) (H.shelf host.new) (shown line.now) }
-    ensures ran { IsTrue H.tells → (H.shelf host.old).next_entropy ≡ 0 → result ≢ Status.OpenFault → result ≢ Status.Memory
-        → Ran H.Input.remaining H.Input.faults H.Output.contents H.Output.faults H.Random.remaining H.Random.faults (H.shelf host.old) (H.shelf host.new) (shown line.now) result }
-    ensures closed { IsTrue H.tells → result ≡ Status.OpenFault → Untouched (H.shelf host.old) (H.shelf host.new) (shown line.now) }
-    ensures memory { IsTrue H.tells → (H.shelf host.old).next_entropy ≡ 0 → result ≡ Status.Memory → Untouched (H.shelf host.old) (H.shelf host.new) (shown line.now)
-        ⊎ Ran H.Input.remaining H.Input.faults H.Output.contents H.Output.faults H.Random.remaining H.Random.faults (H.shelf host.old) (H.shelf host.new) (shown line.now) result }
+    ensures opened { HasOpenCause (fault_of result) (H.faults host.old) (H.faults host.new) }
+    ensures others { IsFresh H.tells (H.shelf host.old)
+        → KeepsOthers (H.shelf host.old) (H.shelf host.new) (shown line.now) }
+    ensures order { IsTrue H.tells → OpensSourceFirst (H.shelf host.old) (H.shelf host.new) (shown line.now) }
+    ensures ran { IsFresh H.tells (H.shelf host.old) → result ≢ Status.OpenFault → result ≢ Status.Memory
+        → Ran ⟦<H as Telling>⟧.objects (H.shelf host.old) (H.shelf host.new) (shown line.now) result }
+    ensures closed { IsTrue H.tells → result ≡ Status.OpenFault
+        → Untouched (H.shelf host.old) (H.shelf host.new) (shown line.now) }
+    ensures memory { IsFresh H.tells (H.shelf host.old) → result ≡ Status.Memory
+        → Untouched (H.shelf host.old) (H.shelf host.new) (shown line.now)
+        ⊎ Ran ⟦<H as Telling>⟧.objects (H.shelf host.old) (H.shelf host.new) (shown line.now) result }
 {
     let source = match host.source(source_name(line)) {
         Ok(source) => source,

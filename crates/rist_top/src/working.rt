@@ -1,16 +1,20 @@
-// The work of each command over its source and its sink.
+//! The work of each command over its source and its sink.
 ghost use Rattle.std.specs.Prelude.{◌≡◌, ◌≢◌, ◌⊎◌, IsTrue};
+ghost use Rattle.outside_io.specs.Causes.{HasReadCause, HasWriteCause, HasOpenCause};
 ghost use Rattle.rist_words.specs.Shown.{shown, shown_session, shown_replay, shown_show, shown_pack};
 ghost use Rattle.rist_words.specs.Ranges.{IsInRange, IsInSession, IsInReplay, IsInPack};
+ghost use Rattle.rist_top.specs.Causes.{fault_of};
 ghost use Rattle.rist_top.specs.Frame.{draws_words};
+ghost use Rattle.rist_top.specs.Lines.{IsFresh};
+ghost use Rattle.rist_top.specs.Objects.{passage};
 ghost use Rattle.rist_top.specs.Works.{Works, Replays, Shows, PacksAs, IsFreshFor};
 ghost use Rattle.rist_top.specs.Sealing.{KeepsObjects, DrawnFirst, FailedAt};
-ghost use Rattle.rist_top.specs.Causes.{HasCauses, HasOpenCause, IsOwn};
-ghost use Rattle.rist_top.specs.Untouched.{IsUnbegun};
+ghost use Rattle.rist_top.specs.Inside.Answers.{IsOwn, IsUnbegun};
 
 use crate::sealing::sealer_for;
 use crate::sessions::session_of;
 use crate::status::Status;
+use crate::telling::Telling;
 use capture_file::{Reader, Writer};
 use outside_io::{Host, Sink, Source};
 use psk_seal::Sealer;
@@ -40,8 +44,15 @@ pub fn replay_line<S: Source, K: Sink>(
 ) -> Worked<S, K>
     requires range { IsInReplay (shown_replay line.now) }
     ensures line { IsOwn result.status }
-    ensures work { Replays (shown_replay line.now) (S.remaining source) (S.remaining result.source) (K.contents sink) (K.contents result.sink) result.status }
-    ensures causes { HasCauses (S.faults source) (S.faults result.source) (K.faults sink) (K.faults result.sink) result.status }
+    ensures work { Replays (shown_replay line.now)
+        (record {
+          had = S.remaining source;
+          left = S.remaining result.source;
+          held = K.contents sink;
+          holds = K.contents result.sink;
+        }) result.status }
+    ensures read { HasReadCause (fault_of result.status) (S.faults source) (S.faults result.source) }
+    ensures write { HasWriteCause (fault_of result.status) (K.faults sink) (K.faults result.sink) }
 {
     let session = session_of(&line.session, false, false);
     let settings = Settings {
@@ -66,8 +77,15 @@ pub fn show_line<S: Source, K: Sink>(
 ) -> Worked<S, K>
     requires range { IsInSession (shown_session line.now.session) }
     ensures line { IsOwn result.status }
-    ensures work { Shows (shown_show line.now) (S.remaining source) (S.remaining result.source) (K.contents sink) (K.contents result.sink) result.status }
-    ensures causes { HasCauses (S.faults source) (S.faults result.source) (K.faults sink) (K.faults result.sink) result.status }
+    ensures work { Shows (shown_show line.now)
+        (record {
+          had = S.remaining source;
+          left = S.remaining result.source;
+          held = K.contents sink;
+          holds = K.contents result.sink;
+        }) result.status }
+    ensures read { HasReadCause (fault_of result.status) (S.faults source) (S.faults result.source) }
+    ensures write { HasWriteCause (fault_of result.status) (K.faults sink) (K.faults result.sink) }
 {
     let session = session_of(&line.session, false, false);
     let mut reader = Reader::over(source);
@@ -89,8 +107,15 @@ pub fn pack_line<S: Source, K: Sink>(
     requires range { IsInPack (shown_pack line.now) }
     requires fresh { IsFreshFor (shown_pack line.now) sealer }
     ensures line { IsOwn result.status }
-    ensures work { PacksAs (shown_pack line.now) sealer (S.remaining source) (S.remaining result.source) (K.contents sink) (K.contents result.sink) result.status }
-    ensures causes { HasCauses (S.faults source) (S.faults result.source) (K.faults sink) (K.faults result.sink) result.status }
+    ensures work { PacksAs (shown_pack line.now) sealer
+        (record {
+          had = S.remaining source;
+          left = S.remaining result.source;
+          held = K.contents sink;
+          holds = K.contents result.sink;
+        }) result.status }
+    ensures read { HasReadCause (fault_of result.status) (S.faults source) (S.faults result.source) }
+    ensures write { HasWriteCause (fault_of result.status) (K.faults sink) (K.faults result.sink) }
 {
     let session = session_of(&line.session, line.nulls, line.wide);
     let settings = PackSettings {
@@ -117,15 +142,27 @@ pub fn work<H: Host>(
 ) -> Worked<H::Input, H::Output>
     requires range { IsInRange (shown line.now) }
     ensures line { result.status ≢ Status.Usage }
-    ensures work { IsTrue H.tells → (H.shelf host.old).next_entropy ≡ 0 → result.status ≢ Status.OpenFault → result.status ≢ Status.Memory
-        → Works (DrawnFirst H.Random.remaining H.Random.faults (H.shelf host.old).entropies (H.shelf host.new).entropies) (shown line.now) (H.Input.remaining source) (H.Input.remaining result.source) (H.Output.contents sink) (H.Output.contents result.sink) result.status }
-    ensures causes { HasCauses (H.Input.faults source) (H.Input.faults result.source) (H.Output.faults sink) (H.Output.faults result.sink) result.status }
-    ensures closed { IsTrue H.tells → result.status ≡ Status.OpenFault → IsUnbegun source result.source sink result.sink (H.shelf host.old) (H.shelf host.new) }
-    ensures memory { IsTrue H.tells → (H.shelf host.old).next_entropy ≡ 0 → result.status ≡ Status.Memory → IsUnbegun source result.source sink result.sink (H.shelf host.old) (H.shelf host.new)
-        ⊎ Works (DrawnFirst H.Random.remaining H.Random.faults (H.shelf host.old).entropies (H.shelf host.new).entropies) (shown line.now) (H.Input.remaining source) (H.Input.remaining result.source) (H.Output.contents sink) (H.Output.contents result.sink) result.status }
-    ensures others { IsTrue H.tells → KeepsObjects (H.shelf host.old) (H.shelf host.new) (draws_words (shown line.now)) }
-    ensures opened { HasOpenCause (H.faults host.old) (H.faults host.new) result.status }
-    ensures random { IsTrue H.tells → (H.shelf host.old).next_entropy ≡ 0 → result.status ≡ Status.EntropyFault → FailedAt H.Random.faults (H.shelf host.old) (H.shelf host.new) }
+    ensures work { IsFresh H.tells (H.shelf host.old)
+        → result.status ≢ Status.OpenFault → result.status ≢ Status.Memory
+        → Works
+        (DrawnFirst ⟦<H as Telling>⟧.objects (H.shelf host.old).entropies (H.shelf host.new).entropies)
+        (shown line.now)
+        (passage ⟦<H as Telling>⟧.objects source result.source sink result.sink) result.status }
+    ensures read { HasReadCause (fault_of result.status) (H.Input.faults source) (H.Input.faults result.source) }
+    ensures write { HasWriteCause (fault_of result.status) (H.Output.faults sink) (H.Output.faults result.sink) }
+    ensures closed { IsTrue H.tells → result.status ≡ Status.OpenFault
+        → IsUnbegun source result.source sink result.sink (H.shelf host.old) (H.shelf host.new) }
+    ensures memory { IsFresh H.tells (H.shelf host.old) → result.status ≡ Status.Memory
+        → IsUnbegun source result.source sink result.sink (H.shelf host.old) (H.shelf host.new)
+        ⊎ Works
+        (DrawnFirst ⟦<H as Telling>⟧.objects (H.shelf host.old).entropies (H.shelf host.new).entropies)
+        (shown line.now)
+        (passage ⟦<H as Telling>⟧.objects source result.source sink result.sink) result.status }
+    ensures others { IsTrue H.tells
+        → KeepsObjects (H.shelf host.old) (H.shelf host.new) (draws_words (shown line.now)) }
+    ensures opened { HasOpenCause (fault_of result.status) (H.faults host.old) (H.faults host.new) }
+    ensures random { IsFresh H.tells (H.shelf host.old) → result.status ≡ Status.EntropyFault
+        → FailedAt ⟦<H as Telling>⟧.objects (H.shelf host.old) (H.shelf host.new) }
 {
     match line {
         Line::Replay(line) => replay_line(alloc, line, source, sink),

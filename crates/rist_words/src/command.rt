@@ -1,4 +1,4 @@
-// The program's commands, as `clap` parses them.
+//! The program's commands, as `clap` parses them.
 ghost use Rattle.std.specs.Prelude.{◌≡◌, IfOk, false, map};
 ghost use Rattle.clap.specs.Words.{app_of, rule_of, with_rule, with_subcommand};
 ghost use Rattle.clap.specs.declared.Command.TheViews.{out-Command as fields_of};
@@ -65,8 +65,10 @@ fn with_arguments<'a>(
     flags: &[&'a str],
     positions: &[&'a str],
 ) -> Result<Command<'a>, AllocError>
-    ensures app { IfOk result (λ r. app_of r ≡ with_arguments (app_of command.entry) (map (λ s. s.now) options.now) (map (λ s. s.now) flags.now) (map (λ s. s.now) positions.now)) }
-    ensures local { IfOk result (λ r. (fields_of command.entry).has_globals ≡ false → (fields_of r).has_globals ≡ false) }
+    ensures app { IfOk result (λ r. app_of r ≡ with_arguments (app_of command.entry)
+        (map (λ s. s.now) options.now) (map (λ s. s.now) flags.now) (map (λ s. s.now) positions.now)) }
+    ensures local { IfOk result (λ r. (fields_of command.entry).has_globals ≡ false
+        → (fields_of r).has_globals ≡ false) }
 {
     let command = with_all(alloc, command, Kind::Valued, options)?;
     let command = with_all(alloc, command, Kind::Flag, flags)?;
@@ -89,7 +91,8 @@ fn with_all<'a>(
     names: &[&'a str],
 ) -> Result<Command<'a>, AllocError>
     ensures app { IfOk result (λ r. app_of r ≡ with_rules kind (app_of command.entry) (map (λ s. s.now) names.now)) }
-    ensures local { IfOk result (λ r. (fields_of command.entry).has_globals ≡ false → (fields_of r).has_globals ≡ false) }
+    ensures local { IfOk result (λ r. (fields_of command.entry).has_globals ≡ false
+        → (fields_of r).has_globals ≡ false) }
 {
     for name in names {
         command = with(command, argument(alloc, kind, name))?;
@@ -100,7 +103,8 @@ fn with_all<'a>(
 fn with<'a>(command: Command<'a>, arg: Arg<'a>) -> Result<Command<'a>, AllocError>
     requires local { arg.global ≡ false }
     ensures app { IfOk result (λ r. app_of r ≡ with_rule (app_of command.entry) (rule_of arg.entry)) }
-    ensures local { IfOk result (λ r. (fields_of command.entry).has_globals ≡ false → (fields_of r).has_globals ≡ false) }
+    ensures local { IfOk result (λ r. (fields_of command.entry).has_globals ≡ false
+        → (fields_of r).has_globals ≡ false) }
 {
     command.arg(arg)
 }

@@ -1,3 +1,5 @@
+//! The text for words that are no line.
+
 /// What the program takes, for the error output where words are no line.
 pub const USAGE: &str = "\
 usage: rist COMMAND [OPTION..] ARGUMENT..

@@ -1,4 +1,4 @@
-// The lines of the program.
+//! The lines of the program.
 use outside_io::Profile;
 use std::fmt::{self, Display, Formatter, Write};
 

@@ -1,4 +1,4 @@
-// The parse of the words.
+//! The parse of the words.
 ghost use Rattle.std.specs.Prelude.{◌≡◌, [], Err, IfOk, map, string_bytes};
 ghost use Rattle.clap.specs.Words.{subcommand_rows_of};
 ghost use Rattle.rist_words.specs.Commands.{faults_of, command_in};

@@ -1,4 +1,4 @@
-// The line that the words are.
+//! The line that the words are.
 ghost use Rattle.std.specs.Prelude.{◌≡◌, Err, Some, None, IfOk, map, option_map, string_bytes};
 ghost use Rattle.clap.specs.Words.{found_of, rows_of};
 ghost use Rattle.rist_words.specs.CommandLine.{firsts, line_of, command_line, replay_of, show_of, pack_of};

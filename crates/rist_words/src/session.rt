@@ -1,4 +1,4 @@
-// The session of a line.
+//! The session of a line.
 ghost use Rattle.std.specs.Prelude.{◌≡◌, option_map};
 ghost use Rattle.clap.specs.Words.{found_of, rows_of};
 ghost use Rattle.rist_words.specs.CommandLine.{session_of};

@@ -1,4 +1,4 @@
-// The values of options and positions.
+//! The values of options and positions.
 ghost use Rattle.std.specs.Prelude.{◌≡◌, ◌<◌, ◌≤◌, ◌^◌, IfNone, IfSome, option_map, true};
 ghost use Rattle.std.specs.Char.{is_ascii_digit};
 ghost use Rattle.std.specs.List.{list_all};
@@ -115,7 +115,8 @@ pub fn phrase<'a>(
     option: &str,
     profile: Profile,
 ) -> Option<Option<&'a str>>
-    ensures { option_map (option_map (λ s. s.now)) result ≡ phrase_of profile (first_of option.now (rows_of (found_of matches.now))) }
+    ensures { option_map (option_map (λ s. s.now)) result
+        ≡ phrase_of profile (first_of option.now (rows_of (found_of matches.now))) }
 {
     match (given(matches, option), profile) {
         (None, _) => Some(None),

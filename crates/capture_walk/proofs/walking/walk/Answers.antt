@@ -1,15 +1,14 @@
 -- The last turn says what the whole walk leaves.
 use Rattle.std.proofs.Common.{sym, subst}
 use Rattle.std.specs.Prelude.{Ok}
-use Rattle.capture_walk.specs.Leaves.{Leaves}
-use Rattle.capture_walk.specs.Sofar.{Sofar}
+use Rattle.capture_walk.specs.Leaves.{Leaves, passage}
+use Rattle.capture_walk.specs.Inside.Sofar.{Sofar}
 use Rattle.capture_walk.proofs.walking.walk.Goals as goal
 
 pub returns-in-Ok-false-clause-work : goal.returns-in-Ok-false-clause-work
-returns-in-Ok-false-clause-work g c first is =
+returns-in-Ok-false-clause-work g c =
     let over = rw c.in-Ok-false.field-0-test at c.in-Ok-false.ensures.over in
     let i = c.loop-bad.invariant in
-    let left = over first (g.K.Sink.contents c.args.sink.now)
-    (subst (λ o. Sofar (g.V.Visitor.so_far c.loop-bad.visitor) g.V.Visitor.has_seen o c.loop-bad.reader.remaining c.loop-bad.reader.at c.loop-bad.visitor (g.K.Sink.contents c.args.sink.now) (g.K.Sink.contents c.loop-bad.sink)) (sym is)
-    (subst (λ f. Sofar f g.V.Visitor.has_seen c.args.reader.now.remaining c.loop-bad.reader.remaining c.loop-bad.reader.at c.loop-bad.visitor (g.K.Sink.contents c.args.sink.now) (g.K.Sink.contents c.loop-bad.sink)) (sym i.so_far) i.sofar)) in
-    subst (λ w. Leaves (g.V.Visitor.so_far c.args.visitor.now) w first c.visit_next.new.reader.remaining (g.K.Sink.contents c.args.sink.now) (g.K.Sink.contents c.visit_next.new.sink) (Ok tt)) i.whole left
+    let left = over c.args.reader.now.remaining (g.K.Sink.contents c.args.sink.now)
+    (subst (λ f. Sofar f g.V.Visitor.has_seen c.args.reader.now.remaining c.loop-bad.reader c.loop-bad.visitor (g.K.Sink.contents c.args.sink.now) (g.K.Sink.contents c.loop-bad.sink)) (sym i.so_far) i.sofar) in
+    subst (λ w. Leaves (g.V.Visitor.so_far c.args.visitor.now) w 0 (passage c.args.reader.now c.visit_next.new.reader (g.K.Sink.contents c.args.sink.now) (g.K.Sink.contents c.visit_next.new.sink)) (Ok tt)) i.whole left

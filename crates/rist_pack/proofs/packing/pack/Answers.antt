@@ -4,7 +4,7 @@ use Rattle.psk_seal.specs.Sealer.{SealerState}
 use Rattle.capture_file.specs.Capture.{Record}
 use Rattle.rist_wire.specs.Writing.{ShutterState, after_pair}
 use Rattle.rist_pack.specs.Capture.{packed_record, nonces_of, HasGiven}
-use Rattle.rist_pack.specs.Steps.{PacksPiece}
+use Rattle.rist_pack.specs.Inside.Steps.{PacksPiece}
 use Rattle.rist_pack.specs.Packing.{Packs}
 use Rattle.rist_pack.specs.declared.packing.Turn.TheVariants.{On, Over}
 use Rattle.rist_pack.proofs.DatagramLemmas.{after-given, after-nonces, after-some}
@@ -34,7 +34,7 @@ pub loop-k-preserved : goal.loop-k-preserved
 loop-k-preserved g c =
     let inv = c.loop-k.invariant in
     let now = rw c.in-Ok-On.field-0-is at c.in-Ok-On.ensures.value in
-    let packed = subst (λ (f : ℕ → List ℕ → Record). PacksPiece f c.loop-k.k (g.S.Source.remaining c.loop-k.source) (g.S.Source.remaining c.pack_piece.new.source) c.loop-k.capture.contents c.pack_piece.new.capture.contents (Ok On))
+    let packed = subst (λ (f : ℕ → List ℕ → Record). PacksPiece f c.loop-k.k (record { had = g.S.Source.remaining c.loop-k.source; left = g.S.Source.remaining c.pack_piece.new.source; held = c.loop-k.capture.contents; holds = c.pack_piece.new.capture.contents }) (Ok On))
     (λ i. packed_record (inv.session i) (inv.nonces i) c.args.settings.now) now in
     let is = c.in-Ok-On.ensures.state c.in-Ok-On.field-0-is in
     let sealer : c.pack_piece.new.shutter.sealer ≡ after_pair c.loop-k.shutter.sealer = ap (λ (s : ShutterState). s.sealer) is in
@@ -47,17 +47,17 @@ loop-k-preserved g c =
       nonces = ap nonces_of sealer ∙ after-nonces c.loop-k.shutter.sealer ∙ inv.nonces;
       paired = ap (λ (s : Option SealerState). is_some s) sealer ∙ after-some c.loop-k.shutter.sealer ∙ inv.paired;
       given = subst (HasGiven (c.loop-k.k + 1)) (sym sealer) (after-given c.loop-k.shutter.sealer c.loop-k.k inv.given);
-      source_faults = c.in-Ok-On.ensures.cause.read ∙ inv.source_faults;
-      sink_faults = c.in-Ok-On.ensures.cause.write ∙ inv.sink_faults;
+      source_faults = c.in-Ok-On.ensures.read ∙ inv.source_faults;
+      sink_faults = c.in-Ok-On.ensures.write ∙ inv.sink_faults;
     }
 
 pub returns-in-Ok-Over-clause-work : goal.returns-in-Ok-Over-clause-work
 returns-in-Ok-Over-clause-work g c =
     let inv = c.loop-k.invariant in
     let now = rw c.in-Ok-Over.field-0-is at c.in-Ok-Over.ensures.value in
-    let packed = subst (λ (f : ℕ → List ℕ → Record). PacksPiece f c.loop-k.k (g.S.Source.remaining c.loop-k.source) (g.S.Source.remaining c.pack_piece.new.source) c.loop-k.capture.contents c.pack_piece.new.capture.contents (Ok Over))
+    let packed = subst (λ (f : ℕ → List ℕ → Record). PacksPiece f c.loop-k.k (record { had = g.S.Source.remaining c.loop-k.source; left = g.S.Source.remaining c.pack_piece.new.source; held = c.loop-k.capture.contents; holds = c.pack_piece.new.capture.contents }) (Ok Over))
     (λ i. packed_record (inv.session i) (inv.nonces i) c.args.settings.now) now in
-    subst (λ (s : ShutterState). Packs (packed_record c.args.session.now (nonces_of s.sealer) c.args.settings.now) (g.S.Source.remaining c.args.source.now) (g.S.Source.remaining c.pack_piece.new.source) c.args.capture.now.contents c.pack_piece.new.capture.contents (Ok tt))
+    subst (λ (s : ShutterState). Packs (packed_record c.args.session.now (nonces_of s.sealer) c.args.settings.now) (record { had = g.S.Source.remaining c.args.source.now; left = g.S.Source.remaining c.pack_piece.new.source; held = c.args.capture.now.contents; holds = c.pack_piece.new.capture.contents }) (Ok tt))
     c.with-shutter.ensures.value
     (ended (packed_record c.args.session.now (nonces_of c.with-shutter.result.sealer) c.args.settings.now) c.loop-k.k _ _ _ c.args.capture.now.contents c.loop-k.capture.contents c.pack_piece.new.capture.contents
     inv.sofar packed)
@@ -65,9 +65,9 @@ returns-in-Ok-Over-clause-work g c =
 pub returns-in-Err-pack_piece-clause-work : goal.returns-in-Err-pack_piece-clause-work
 returns-in-Err-pack_piece-clause-work g c =
     let inv = c.loop-k.invariant in
-    let packed = subst (λ (f : ℕ → List ℕ → Record). PacksPiece f c.loop-k.k (g.S.Source.remaining c.loop-k.source) (g.S.Source.remaining c.pack_piece.new.source) c.loop-k.capture.contents c.pack_piece.new.capture.contents (Err c.in-Err-pack_piece.bad))
+    let packed = subst (λ (f : ℕ → List ℕ → Record). PacksPiece f c.loop-k.k (record { had = g.S.Source.remaining c.loop-k.source; left = g.S.Source.remaining c.pack_piece.new.source; held = c.loop-k.capture.contents; holds = c.pack_piece.new.capture.contents }) (Err c.in-Err-pack_piece.bad))
     (λ i. packed_record (inv.session i) (inv.nonces i) c.args.settings.now) c.in-Err-pack_piece.ensures.value in
-    subst (λ (s : ShutterState). Packs (packed_record c.args.session.now (nonces_of s.sealer) c.args.settings.now) (g.S.Source.remaining c.args.source.now) (g.S.Source.remaining c.pack_piece.new.source) c.args.capture.now.contents c.pack_piece.new.capture.contents (Err c.in-Err-pack_piece.bad))
+    subst (λ (s : ShutterState). Packs (packed_record c.args.session.now (nonces_of s.sealer) c.args.settings.now) (record { had = g.S.Source.remaining c.args.source.now; left = g.S.Source.remaining c.pack_piece.new.source; held = c.args.capture.now.contents; holds = c.pack_piece.new.capture.contents }) (Err c.in-Err-pack_piece.bad))
     c.with-shutter.ensures.value
     (stopped (packed_record c.args.session.now (nonces_of c.with-shutter.result.sealer) c.args.settings.now) c.loop-k.k _ _ _ c.args.capture.now.contents c.loop-k.capture.contents c.pack_piece.new.capture.contents c.in-Err-pack_piece.bad
     inv.sofar packed)

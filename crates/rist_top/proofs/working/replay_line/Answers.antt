@@ -1,21 +1,22 @@
 -- The walk's end says what the replay leaves, and its source comes back.
-use Rattle.std.proofs.Common.{sym, ap, subst}
-use Rattle.capture_file.specs.Reader.{ReaderState}
-use Rattle.capture_walk.specs.Leaves.{Leaves}
+use Rattle.std.proofs.Common.{subst}
+use Rattle.capture_file.specs.Reader.{ReaderState, most_ahead}
+use Rattle.capture_walk.specs.Leaves.{Leaves, passage}
 use Rattle.capture_walk.proofs.EndingLemmas.{given_back}
 use Rattle.rist_wire.specs.declared.session.Session.{Session}
 use Rattle.rist_words.specs.Shown.{shown_replay}
 use Rattle.rist_replay.specs.Replay.{released_so_far, replayed}
-use Rattle.rist_top.specs.Sessions.{replay_limits}
+use Rattle.rist_top.specs.Sessions.{session_read, replay_limits}
 use Rattle.rist_top.proofs.working.replay_line.Goals as goal
 
 pub returns-clause-work : goal.returns-clause-work
 returns-clause-work g c = (
   c.replay-end.result,
   c.of_walk.ensures.value,
-  given_back _ _ (g.S.Source.remaining c.args.source) c.replay-end.new.reader.remaining (g.S.Source.remaining c.back.result) (g.K.Sink.contents c.args.sink) (g.K.Sink.contents c.replay-end.new.sink) c.replay-end.new.reader.ahead c.replay-end.result
-      c.replay-end.ensures.ahead c.back.ensures.value
-      (subst (λ (s : Session). Leaves (released_so_far s (replay_limits (shown_replay c.args.line.now))) (replayed s (replay_limits (shown_replay c.args.line.now))) (g.S.Source.remaining c.args.source) c.replay-end.new.reader.remaining (g.K.Sink.contents c.args.sink) (g.K.Sink.contents c.replay-end.new.sink) c.replay-end.result)
-      c.session_of-session.ensures.value
-      (c.replay-end.ensures.work (g.S.Source.remaining c.args.source) (sym (ap (λ (r : ReaderState). r.remaining) c.over-reader.ensures.value)))),
+  given_back _ _ most_ahead (g.S.Source.remaining c.args.source) c.replay-end.new.reader.remaining (g.S.Source.remaining c.back.result) (g.K.Sink.contents c.args.sink) (g.K.Sink.contents c.replay-end.new.sink) c.replay-end.new.reader.ahead c.replay-end.result
+      c.replay-end.ensures.ahead c.back.ensures.value c.back.ensures.within
+      (subst (λ (r : ReaderState). Leaves (released_so_far (session_read (shown_replay c.args.line.now).session) (replay_limits (shown_replay c.args.line.now))) (replayed (session_read (shown_replay c.args.line.now).session) (replay_limits (shown_replay c.args.line.now))) 0 (passage r c.replay-end.new.reader (g.K.Sink.contents c.args.sink) (g.K.Sink.contents c.replay-end.new.sink)) c.replay-end.result)
+      c.over-reader.ensures.value
+      (subst (λ (s : Session). Leaves (released_so_far s (replay_limits (shown_replay c.args.line.now))) (replayed s (replay_limits (shown_replay c.args.line.now))) 0 (passage c.over-reader.result c.replay-end.new.reader (g.K.Sink.contents c.args.sink) (g.K.Sink.contents c.replay-end.new.sink)) c.replay-end.result)
+      c.session_of-session.ensures.value c.replay-end.ensures.work)),
 )

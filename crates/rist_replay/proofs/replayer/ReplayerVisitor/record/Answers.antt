@@ -9,7 +9,7 @@ use Rattle.receiver_rules.specs.History.{released_bytes}
 use Rattle.outside_io.specs.Told.{Writes, WritesPart}
 use Rattle.rist_ends.specs.Told.{input_of}
 use Rattle.rist_replay.specs.Steps.{step_of, input_read, receiver_history, history_of}
-use Rattle.rist_replay.specs.Visiting.{HasReplayed}
+use Rattle.rist_replay.specs.Inside.Visiting.{HasReplayed}
 use Rattle.rist_replay.specs.Replay.{released_so_far}
 use Rattle.rist_ends.specs.Receiver.{IsReceiverAfter}
 use Rattle.rist_replay.proofs.ReplayLemmas.{on_made, on_refused, on_memory, pushed, wrote_nothing}

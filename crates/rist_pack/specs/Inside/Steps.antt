@@ -1,7 +1,7 @@
 -- What the steps of a packing answer, by the octets that a source had and has left, and those that a capture held and
 -- holds, where these are told.
 use Rattle.std.specs.Prelude.{◌≡◌, ℕ, ◌+◌, ◌*◌, ◌^◌, ◌<◌, ◌≤◌, List, [], length, take, flat_map, Result, Ok, Err, Option}
-use Rattle.outside_io.specs.Told.{Takes, IsEmpty, Appends, AppendsPart}
+use Rattle.outside_io.specs.Told.{Passage, Takes, IsEmpty, Appends, AppendsPart}
 use Rattle.capture_file.specs.Capture.{Record, spelling}
 use Rattle.rist_pack.specs.Pieces.{pieces_of}
 use Rattle.rist_pack.specs.Capture.{records_of, capture_of}
@@ -27,16 +27,20 @@ abbrev pub spelled_from : (ℕ → List ℕ → Record) → ℕ → List (List �
 spelled_from record_of k pieces = flat_map spelling (records_of record_of k pieces)
 
 -- what the packing of piece k answers: a whole piece was packed, the source ended in it, or why it is not packed
-abbrev pub PacksPiece : (ℕ → List ℕ → Record) → ℕ → Option (List ℕ) → Option (List ℕ) → Option (List ℕ) → Option (List ℕ) → Result Turn PackBad → Type 0
-PacksPiece record_of k had left old new (Ok On) = Reads had left (λ b. (length b ≡ 1316) × (1316 * k + length b ≤ 2 ^ 40) × Appends old new (spelled_from record_of k (pieces_of b)))
-PacksPiece record_of k had left old new (Ok Over) = Reads had left (λ b. IsEmpty left × (1316 * k + length b ≤ 2 ^ 40) × Appends old new (spelled_from record_of k (pieces_of b)))
-PacksPiece record_of k had left old new (Err ReadFault) = ReadsPart had left (λ n. 1316 * k + n ≤ 2 ^ 40) × Appends old new []
-PacksPiece record_of k had left old new (Err TooLong) = ReadsPart had left (λ n. 2 ^ 40 < 1316 * k + n) × Appends old new []
-PacksPiece record_of k had left old new (Err WriteFault) = Reads had left (λ b. (1316 * k + length b ≤ 2 ^ 40) × AppendsPart old new (spelled_from record_of k (pieces_of b)))
+abbrev pub PacksPiece : (ℕ → List ℕ → Record) → ℕ → Passage → Result Turn PackBad → Type 0
+PacksPiece record_of k p (Ok On) =
+    Reads p.had p.left (λ b. (length b ≡ 1316) × (1316 * k + length b ≤ 2 ^ 40) × Appends p.held p.holds (spelled_from record_of k (pieces_of b)))
+PacksPiece record_of k p (Ok Over) =
+    Reads p.had p.left (λ b. IsEmpty p.left × (1316 * k + length b ≤ 2 ^ 40) × Appends p.held p.holds (spelled_from record_of k (pieces_of b)))
+PacksPiece record_of k p (Err ReadFault) = ReadsPart p.had p.left (λ n. 1316 * k + n ≤ 2 ^ 40) × Appends p.held p.holds []
+PacksPiece record_of k p (Err TooLong) = ReadsPart p.had p.left (λ n. 2 ^ 40 < 1316 * k + n) × Appends p.held p.holds []
+PacksPiece record_of k p (Err WriteFault) =
+    Reads p.had p.left (λ b. ((0 < length b) × (length b ≤ 1316)) × (1316 * k + length b ≤ 2 ^ 40)
+    × AppendsPart p.held p.holds (spelled_from record_of k (pieces_of b)))
 
 -- k whole pieces were packed
-pub record Sofar (record_of : ℕ → List ℕ → Record) (k : ℕ) (had left old new : Option (List ℕ)) : Type 0 where
+pub record Sofar (record_of : ℕ → List ℕ → Record) (k : ℕ) (p : Passage) : Type 0 where
   pub read : List ℕ
-  pub taken : Takes had left read
+  pub taken : Takes p.had p.left read
   pub size : length read ≡ 1316 * k
-  pub written : Appends old new (capture_of record_of (pieces_of read))
+  pub written : Appends p.held p.holds (capture_of record_of (pieces_of read))

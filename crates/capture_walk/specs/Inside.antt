@@ -1,0 +1,4 @@
+-- What private contracts and a test's visitor cite.
+pub mod Turns
+pub mod Sofar
+pub mod Copied

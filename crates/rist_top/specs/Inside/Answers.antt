@@ -1,0 +1,31 @@
+-- What the parts of a run answer.
+use Rattle.std.specs.Prelude.{◌≡◌, ◌≢◌, ◌⊎◌, Result, Ok, Err}
+use Rattle.outside_io.specs.Shelf.{Shelf, Stays}
+use Rattle.rist_top.specs.declared.status.Status.{Status}
+use Rattle.rist_top.specs.declared.status.Status.TheVariants as statuses
+
+-- the status of what is had, or of what could not be had
+abbrev pub status_of : {T : Type 0} → Result T Status → Status
+status_of (Ok x) = statuses.Done
+status_of (Err status) = status
+
+-- a status that the work over a source and a sink can have
+pub record IsOwn (status : Status) : Type 0 where
+  pub line : status ≢ statuses.Usage
+  pub opened : status ≢ statuses.OpenFault
+  pub random : status ≢ statuses.EntropyFault
+
+-- a sealer can't be had where nothing is handed out, or where words fail
+abbrev pub CanRefuse : Status → Type 0
+CanRefuse status = (status ≡ statuses.OpenFault) ⊎ ((status ≡ statuses.Memory) ⊎ (status ≡ statuses.EntropyFault))
+
+-- P holds of an error
+abbrev pub OnErrIs : {T E : Type 0} → Result T E → (E → Type 0) → Type 0
+OnErrIs (Ok x) P = Unit {0}
+OnErrIs (Err e) P = P e
+
+-- a source and a sink are as they were handed out, and no random word was drawn
+pub record IsUnbegun {I O E : Type 0} (source spent : I) (sink filled : O) (old new : Shelf I O E) : Type 0 where
+  pub unread : spent ≡ source
+  pub unwritten : filled ≡ sink
+  pub entropies : Stays old.entropies new.entropies

@@ -1,0 +1,21 @@
+//! What the objects of a host tell, as one value of the contracts.
+ghost use Rattle.rist_top.specs.Objects.{Tells};
+
+use outside_io::Host;
+
+/// Each host: a contract names what its objects tell by one word.
+pub trait Telling: Host {
+    /// What its sources, its sinks and its random words tell.
+    ghost objects: { Tells Self.Input Self.Output Self.Random };
+}
+
+impl<H: Host> Telling for H {
+    ghost objects = { record {
+      remaining = H.Input.remaining;
+      read_faults = H.Input.faults;
+      contents = H.Output.contents;
+      write_faults = H.Output.faults;
+      words = H.Random.remaining;
+      word_faults = H.Random.faults;
+    } };
+}
