@@ -2,12 +2,12 @@
 //! and arrivals apart, and with both as one step.
 ghost use Rattle.std.specs.Prelude.{◌<◌, ◌^◌, IfOk};
 ghost use Rattle.std.specs.List.{All};
-ghost use Rattle.receiver_rules.specs.Plain.{IsFit};
+ghost use Rattle.receiver_plain.specs.Told.{IsFit};
 
 use crate::{Arrival, Buffer, MAX_PAYLOAD, Phase, Verdict, WriteFault};
 use outside_io::Store8;
 use receiver_rules::Limits;
-use receiver_rules::plain::{Event, Step, released, verdicts};
+use receiver_plain::{Event, Step, released, verdicts};
 use seq_unwrap::Width;
 use std::alloc::{AllocError, Global};
 use std::test::Fail;

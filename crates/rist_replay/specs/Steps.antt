@@ -12,7 +12,7 @@ use Rattle.receiver_rules.specs.ReceiverSteps.{Input, Media, Control, Keepalive,
 
 -- media with its null packets restored
 abbrev pub arrival_of : MediaValue → Arrival
-arrival_of media = record { flow = media.flow; width = media.width; sequence_number = media.word; timestamp = media.stamp; payload = content_of media }
+arrival_of media = record { flow = media.flow; width = media.width; word = media.word; timestamp = media.stamp; payload = content_of media }
 
 -- what is told of a datagram: that it is an item of this kind, or is refused
 abbrev pub input_read : Result Item WireBad → Input

@@ -2,12 +2,12 @@
 ghost use Rattle.std.specs.Prelude.{◌<◌, ◌^◌, IfOk};
 ghost use Rattle.std.specs.List.{All};
 ghost use Rattle.receiver_rules.specs.Bounds.{AreInRange};
-ghost use Rattle.receiver_rules.specs.Plain.{IsFit};
+ghost use Rattle.receiver_plain.specs.Told.{IsFit};
 
 use crate::{Status, run};
 use capture_file::CapKind;
 use outside_io::{Host, MemHost, MemParts, MemSource, Pieces, Place, Slot, Store8, Words};
-use receiver_rules::plain::{Event, Step, released};
+use receiver_plain::{Event, Step, released};
 use receiver_rules::{Arrival, Limits, tick_of};
 use seq_unwrap::Width;
 use std::alloc::{AllocError, Global};

@@ -1,6 +1,6 @@
 -- the steps so far are fit
 use Rattle.std.specs.List.{All}
-use Rattle.receiver_rules.specs.Plain.{IsFit}
+use Rattle.receiver_plain.specs.Told.{IsFit}
 use Rattle.reorder_buffer.proofs.tests.made_run.Given as goal
 
 abbrev pub invariant-loop-place : goal.invariant-loop-place
