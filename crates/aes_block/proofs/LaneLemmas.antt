@@ -45,9 +45,6 @@ map_same f g (x ∷ xs) h all =
 pub looked_up : (t : List ℕ) (g : ℕ → ℕ) (v : List ℕ) {js r : List ℕ} → r ≡ map (read t) js → js ≡ map g v → r ≡ map (λ x. read t (g x)) v
 looked_up t g v e h = e ∙ ap (map (read t)) h ∙ map-map (read t) g v
 
-pub mapped : (f g : ℕ → ℕ) (v : List ℕ) {js r : List ℕ} → r ≡ map f js → js ≡ map g v → r ≡ map (λ x. f (g x)) v
-mapped f g v e h = e ∙ ap (map f) h ∙ map-map f g v
-
 pub summed : (g h : ℕ → ℕ) (v : List ℕ) {xs ys r : List ℕ} → r ≡ zip2 bit_xor xs ys → xs ≡ map g v → ys ≡ map h v → r ≡ map (λ x. bit_xor (g x) (h x)) v
 summed g h v e p q = e ∙ zip2_of_maps bit_xor g h v p q
 

@@ -1,6 +1,6 @@
 -- The words of a key, and one more word of its schedule.
-use Rattle.std.proofs.Common.{◌≡◌, ℕ, zero, suc, ◌+◌, ◌-◌, ◌*◌, ◌/◌, ◌%◌, ◌<◌, ◌≤◌, List, [], ◌∷◌, ◌++◌, length, map, take, drop, set, get_or, bit_xor, refl, ap, sym, ◌∙◌, arith}
-use Rattle.std.specs.List.{range_with_len, concat}
+use Rattle.std.proofs.Common.{◌≡◌, ℕ, zero, suc, ◌+◌, ◌-◌, ◌*◌, ◌/◌, ◌<◌, ◌≤◌, List, [], ◌∷◌, ◌++◌, length, map, take, drop, set, get_or, bit_xor, refl, ap, sym, ◌∙◌, arith}
+use Rattle.std.specs.List.{range_with_len}
 use Rattle.std.specs.Simd.Lanes.{zip2}
 use Rattle.std.proofs.lemmas.List.{get_or-map, get_or-take, length-take-le, map-append, take_more, take_more_set}
 use Rattle.std.proofs.lemmas.List.FromFn.{get_or-map-range_with_len}
@@ -16,14 +16,6 @@ constants_are = refl
 
 pub constant_is : (k : ℕ) → k < 10 → get_or ROUND_CONSTANTS k 0 ≡ power_of_x k
 constant_is k low = ap (λ (t : List ℕ). get_or t k 0) constants_are ∙ get_or-map-range_with_len power_of_x 0 10 k k 0 low (omega arith)
-
-pub concat-words_of : (key : List ℕ) → length key % 4 ≡ 0 → concat (words_of key) ≡ key
-concat-words_of [] whole = refl
-concat-words_of (a ∷ []) whole = absurd (omega arith)
-concat-words_of (a ∷ b ∷ []) whole = absurd (omega arith)
-concat-words_of (a ∷ b ∷ c ∷ []) whole = absurd (omega arith)
-concat-words_of (a ∷ b ∷ c ∷ d ∷ key) whole =
-    ap (λ (s : List ℕ). a ∷ b ∷ c ∷ d ∷ s) (concat-words_of key (omega arith))
 
 pub length-words_of : (key : List ℕ) → length (words_of key) ≡ length key / 4
 length-words_of [] = refl

@@ -1,5 +1,5 @@
 -- The octets of the exclusive or of two words.
-use Rattle.std.proofs.Common.{◌≡◌, ℕ, ◌/◌, ◌%◌, ◌^◌, bit_xor, List, [], ◌∷◌, ap, ◌∙◌}
+use Rattle.std.proofs.Common.{◌≡◌, ℕ, ◌/◌, ◌%◌, ◌^◌, bit_xor, [], ◌∷◌, ap, ◌∙◌}
 use Rattle.std.proofs.lemmas.Nat.{xor_mod, xor_shr}
 use Rattle.std.specs.Simd.Lanes.{zip2}
 use Rattle.aes_block.specs.Inside.Words.{word_octets}
@@ -10,10 +10,3 @@ octet-bit_xor k a b = ap (λ (n : ℕ). n % 2 ^ 8) (xor_shr a b k) ∙ xor_mod (
 pub word_octets-bit_xor : (a b : ℕ) → word_octets (bit_xor a b) ≡ zip2 bit_xor (word_octets a) (word_octets b)
 word_octets-bit_xor a b =
     λ i. octet-bit_xor 24 a b i ∷ octet-bit_xor 16 a b i ∷ octet-bit_xor 8 a b i ∷ xor_mod a b 8 i ∷ []
-
-pub word_octets-bit_xor_of_four : (a b c d : ℕ) → word_octets (bit_xor (bit_xor (bit_xor a b) c) d)
-    ≡ zip2 bit_xor (zip2 bit_xor (zip2 bit_xor (word_octets a) (word_octets b)) (word_octets c)) (word_octets d)
-word_octets-bit_xor_of_four a b c d =
-    word_octets-bit_xor (bit_xor (bit_xor a b) c) d
-    ∙ ap (λ (w : List ℕ). zip2 bit_xor w (word_octets d)) (word_octets-bit_xor (bit_xor a b) c
-    ∙ ap (λ (w : List ℕ). zip2 bit_xor w (word_octets c)) (word_octets-bit_xor a b))

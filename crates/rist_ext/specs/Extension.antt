@@ -45,11 +45,16 @@ abbrev pub upper_of : Option ℕ → ℕ → ℕ
 upper_of None unread = unread
 upper_of (Some upper) unread = upper
 
--- the flags N and E, the size, the reserved bits; then the nulls, then the upper half
+-- the flags N and E, the size and the reserved bits
+abbrev pub first_octet : ExtWord → Unread → ℕ
+first_octet word unread =
+    128 * from_bool (is_some word.strip) + 64 * from_bool (is_some word.upper)
+    + 8 * size_of word.strip unread.size + unread.reserved
+
+-- the first octet; then the nulls, then the upper half
 abbrev pub spelling : ExtWord → Unread → List ℕ
 spelling word unread =
-    (128 * from_bool (is_some word.strip) + 64 * from_bool (is_some word.upper) + 8 * size_of word.strip unread.size + unread.reserved)
-    ∷ second_octet word.strip unread.second ∷ to_be_bytes w16 (upper_of word.upper unread.upper)
+    first_octet word unread ∷ second_octet word.strip unread.second ∷ to_be_bytes w16 (upper_of word.upper unread.upper)
 
 -- The octets spell the word, with some bits that aren't read.
 pub record Spells (word : ExtWord) (octets : List ℕ) : Type 0 where

@@ -3,6 +3,7 @@
 use Rattle.std.specs.Prelude.{ℕ, ◌-◌, ◌/◌, ◌%◌, ◌^◌, Bool, ◌&&◌, not, List, length, take, drop, slice_index, if◌then◌else◌, ◌==◌, Option, Some, None, Result, Ok, Err}
 use Rattle.std.specs.Int.{w16, from_be_bytes, bit_at}
 use Rattle.ts_nulls.specs.Shape.{Shape}
+use Rattle.rist_ext.specs.declared.ext_word.TheConstants.{RIST_PROFILE}
 use Rattle.rist_ext.specs.declared.ext_word.ExtWord.{ExtWord}
 use Rattle.rist_ext.specs.declared.ext_word.ExtBad.{ExtBad}
 use Rattle.rist_ext.specs.declared.ext_word.ExtBad.TheVariants.{Profile, Length, Size}
@@ -22,7 +23,8 @@ nulls_in units second = second % 128 - second % 128 % 2 ^ (7 - units)
 -- what was deleted, by the first two octets
 abbrev pub strip_in : ℕ → ℕ → Option Shape
 strip_in first second =
-    if has_strip first then Some (record { units = units_in first; long = bit_at second 7 == 1; nulls = nulls_in (units_in first) second })
+    if has_strip first
+    then Some (record { units = units_in first; long = bit_at second 7 == 1; nulls = nulls_in (units_in first) second })
     else None
 
 -- the upper half of the number, by the first octet and the last two
@@ -39,7 +41,7 @@ word_in octets = record {
 -- the tests in their order
 unfoldable pub reading_of : ℕ → List ℕ → Result ExtWord ExtBad
 reading_of profile octets =
-    if not (profile == 0x5249) then Err Profile
+    if not (profile == RIST_PROFILE) then Err Profile
     else (if not (length octets == 4) then Err Length
     else (if has_strip (slice_index octets 0) && (units_in (slice_index octets 0) == 0) then Err Size
     else Ok (word_in octets)))

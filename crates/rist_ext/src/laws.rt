@@ -4,6 +4,8 @@ ghost use Rattle.rist_ext.specs.declared.ext_word.ExtWord.{ExtWord};
 ghost use Rattle.rist_ext.specs.Extension.{Spells};
 ghost use Rattle.rist_ext.specs.Reading.{reading_of};
 
+use crate::ext_word::RIST_PROFILE;
+
 /// Octets spell one word at most.
 pub fn one_word_is_spelled()
     ensures { (v w : ExtWord) (octets : List ℕ) → Spells v octets → Spells w octets → v ≡ w }
@@ -11,5 +13,5 @@ pub fn one_word_is_spelled()
 
 /// A word that is spelled is read.
 pub fn what_is_spelled_is_read()
-    ensures { (word : ExtWord) (octets : List ℕ) → Spells word octets → reading_of 0x5249 octets ≡ Ok word }
+    ensures { (word : ExtWord) (octets : List ℕ) → Spells word octets → reading_of RIST_PROFILE octets ≡ Ok word }
 {}

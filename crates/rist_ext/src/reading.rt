@@ -84,7 +84,7 @@ impl ExtWord {
         ensures found { IfOk result (λ word. Spells word words.now) }
 
         // A word that is spelled is read.
-        ensures only { (word : ExtWord) → profile ≡ 0x5249 → Spells word words.now → result ≡ Ok word }
+        ensures only { (word : ExtWord) → profile ≡ RIST_PROFILE → Spells word words.now → result ≡ Ok word }
     {
         value_of(profile, words)
     }

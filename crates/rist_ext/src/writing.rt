@@ -1,13 +1,12 @@
-ghost use Rattle.std.specs.Prelude.{◌≡◌, ◌*◌, ◌+◌, ◌^◌, ◌<◌, Ok, is_some, IfSome};
-ghost use Rattle.std.specs.Int.{from_bool};
-ghost use Rattle.rist_ext.specs.Extension.{size_of, second_octet, upper_of};
+ghost use Rattle.std.specs.Prelude.{◌≡◌, ◌^◌, ◌<◌, Ok, IfSome};
+ghost use Rattle.rist_ext.specs.Extension.{first_octet, second_octet, upper_of, nothing_unread};
 ghost use Rattle.ts_nulls.specs.Shape.{IsShape};
 
-use crate::ext_word::ExtWord;
+use crate::ext_word::{ExtWord, RIST_PROFILE};
 
 // The first two octets: the flags and the size, then the nulls.
 fn halves(word: &ExtWord) -> (u8, u8)
-    ensures first { result.0 ≡ 128 * from_bool (is_some word.now.strip) + 64 * from_bool (is_some word.now.upper) + 8 * size_of word.now.strip 0 }
+    ensures first { result.0 ≡ first_octet word.now nothing_unread }
     ensures second { result.1 ≡ second_octet word.now.strip 0 }
     ensures fits { IfSome word.now.strip (λ shape. IsShape shape.units shape.nulls) }
 {
@@ -40,7 +39,7 @@ impl ExtWord {
         ensures octets { result ≡ spelling self.now nothing_unread }
 
         // What is written is read back.
-        ensures read_back { reading_of 0x5249 result ≡ Ok self.now }
+        ensures read_back { reading_of RIST_PROFILE result ≡ Ok self.now }
     {
         let (first, second) = halves(self);
         let [high, low] = upper_of(self).to_be_bytes();

@@ -1,4 +1,4 @@
-ghost use Rattle.std.specs.Prelude.{◌≡◌, ◌≤◌, length, IfOk};
+ghost use Rattle.std.specs.Prelude.{◌≡◌, ◌≤◌, length, IfOk, OnErr, IsSome};
 ghost use Rattle.rist_wire.specs.Session.{IsSession};
 ghost use Rattle.rist_wire.specs.Cipher.{secret_of, secret_with};
 ghost use Rattle.rist_wire.specs.Tunnel.{message_at};
@@ -30,7 +30,8 @@ impl Model for Opener {
 
     ghost view = { λ o. o.session };
 
-    ghost invariant = { λ o. IsSession o.session × (secret_of o.keys ≡ secret_with o.session.pass o.session.bits) };
+    ghost invariant = { λ o. IsSession o.session
+        × (secret_of o.keys ≡ secret_with o.session.pass o.session.bits) };
 }
 
 // Where the message of a datagram lies, which is deciphered in place where its header says so.
@@ -68,6 +69,7 @@ fn message_part(
 fn keys_of(alloc: Global, session: &Session) -> Result<Option<Keys>, NoMemory>
     requires session { IsSession session.now }
     ensures keys { IfOk result (λ keys. secret_of keys ≡ secret_with session.now.pass session.now.bits) }
+    ensures memory { OnErr result (IsSome session.now.pass) }
 {
     match &session.pass {
         Some(pass) => Ok(Some(Keys::with(alloc, Phrase::of(pass.octets()), session.bits)?)),
@@ -80,6 +82,8 @@ impl Opener {
     pub fn with(alloc: Global, session: &Session) -> Result<Opener, NoMemory>
         requires session { IsSession session.now }
         ensures ok { IfOk result (λ opener. opener ≡ session.now) }
+        // Memory is taken for keys alone.
+        ensures memory { OnErr result (IsSome session.now.pass) }
     {
         let keys = keys_of(alloc, session)?;
         Ok(Opener {

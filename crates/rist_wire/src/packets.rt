@@ -35,7 +35,8 @@ pub(crate) fn put_media(
     requires flow { flow % 2 ≡ 0 }
     requires payload { length payload.now ≤ MAX_PAYLOAD }
     requires whole { can_restore strip payload.now ≡ true }
-    ensures octets { take result out.new ≡ media_octets width (media_out flow again number stamp strip payload.now) }
+    ensures octets { take result out.new
+        ≡ media_octets width (media_out flow again number stamp strip payload.now) }
     ensures item { item_by MediaKind (take result out.new)
         ≡ Ok (MediaItem (media_value width (media_out flow again number stamp strip payload.now))) }
     ensures within { result ≤ 1548 }

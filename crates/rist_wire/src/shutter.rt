@@ -42,7 +42,8 @@ impl Model for Shutter {
 
     ghost view = { λ s. record { session = s.session; sealer = s.sealer } };
 
-    ghost invariant = { λ s. IsSession s.session × (s.key.key ≡ key_by s.session.pass s.session.bits s.key.nonce) };
+    ghost invariant = { λ s. IsSession s.session
+        × (s.key.key ≡ key_by s.session.pass s.session.bits s.key.nonce) };
 }
 
 // The pair of the next datagram, where there is a sealer.

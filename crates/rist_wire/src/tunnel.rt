@@ -66,7 +66,8 @@ fn datagram_part(port: u16, from: usize, octets: &[u8]) -> Result<Part, WireBad>
 fn text_part(port: u16, gre: &Gre, octets: &[u8]) -> Result<Part, WireBad>
     requires port { port ≤ 65534 }
     requires within { gre.now.rest ≤ length octets.now }
-    ensures message { message_at octets.now result ≡ text_message port gre.now.protocol (drop gre.now.rest octets.now) }
+    ensures message { message_at octets.now result
+        ≡ text_message port gre.now.protocol (drop gre.now.rest octets.now) }
     ensures within { IfOk result (λ part. part.from ≤ length octets.now) }
 {
     if gre.protocol == KEEPALIVE {
@@ -87,7 +88,8 @@ pub(crate) fn tunnel_part(
     requires session { IsSession session.now }
     requires keys { secret_of keys.old ≡ secret_with session.now.pass session.now.bits }
     ensures keys { secret_of keys.new ≡ secret_of keys.old }
-    ensures message { message_at octets.new result ≡ tunnel_message session.now octets.old (gre_reading_of octets.old) }
+    ensures message { message_at octets.new result
+        ≡ tunnel_message session.now octets.old (gre_reading_of octets.old) }
     ensures within { IfOk result (λ part. part.from ≤ length octets.new) }
     ensures octets { octets.new ≡ plain_datagram session.now octets.old (gre_reading_of octets.old) }
 {

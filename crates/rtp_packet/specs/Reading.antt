@@ -5,6 +5,7 @@ use Rattle.std.specs.Borrow.{Bor}
 use Rattle.std.specs.Int.{w16, w32, from_be_bytes, bit_at}
 use Rattle.rtp_packet.specs.declared.bad.RtpBad.{RtpBad}
 use Rattle.rtp_packet.specs.declared.bad.RtpBad.TheVariants.{Short, Version, Sources, Extension, Padding, Long}
+use Rattle.rtp_packet.specs.declared.rtp.TheConstants.{MAX_PAYLOAD}
 use Rattle.rtp_packet.specs.Rtp.{RtpPacket}
 
 -- what a reader is given of a packet
@@ -112,5 +113,5 @@ reading_of octets =
     else (if nat_lt (length octets) (header_len octets) then Err Sources
     else (if is_cut_extension (has_extension octets) (after_sources octets) then Err Extension
     else (if is_bad_padding (has_padding octets) (after_header octets) then Err Padding
-    else (if nat_lt 1500 (length (payload_of octets)) then Err Long
+    else (if nat_lt MAX_PAYLOAD (length (payload_of octets)) then Err Long
     else Ok (value_in octets))))))

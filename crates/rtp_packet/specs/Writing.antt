@@ -3,6 +3,7 @@
 use Rattle.std.specs.Prelude.{ℕ, ◌+◌, ◌*◌, ◌^◌, ◌<◌, List, [], ◌∷◌, ◌++◌, Bool, false, Option}
 use Rattle.std.specs.Int.{w16, w32, to_be_bytes, from_bool}
 use Rattle.rtp_packet.specs.declared.writing.RtpHead.{RtpHead}
+use Rattle.rtp_packet.specs.declared.writing.TheConstants.{PAYLOAD_TYPE_MP2T}
 use Rattle.rtp_packet.specs.Rtp.{RtpPacket}
 
 -- each field fits its bits
@@ -15,7 +16,7 @@ pub record IsHead (head : RtpHead) : Type 0 where
 abbrev pub packet_with : RtpHead → Option (ℕ × List ℕ) → List ℕ → RtpPacket
 packet_with head extension payload = record {
   marker = false;
-  payload_type = 33;
+  payload_type = PAYLOAD_TYPE_MP2T;
   number = head.number;
   stamp = head.stamp;
   ssrc = head.ssrc;
@@ -27,5 +28,5 @@ packet_with head extension payload = record {
 -- the twelve octets of its header
 abbrev pub header_octets : RtpHead → Bool → List ℕ
 header_octets head extended =
-    (128 + 16 * from_bool extended) ∷ 33 ∷
+    (128 + 16 * from_bool extended) ∷ PAYLOAD_TYPE_MP2T ∷
     (to_be_bytes w16 head.number ++ (to_be_bytes w32 head.stamp ++ to_be_bytes w32 head.ssrc))

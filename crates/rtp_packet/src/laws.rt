@@ -4,6 +4,8 @@ ghost use Rattle.rtp_packet.specs.Reading.{RtpValue, value_of, reading_of};
 ghost use Rattle.rtp_packet.specs.Rtp.{RtpPacket, Spells};
 ghost use Rattle.rtp_packet.specs.declared.bad.RtpBad.TheVariants.{Long};
 
+use crate::rtp::MAX_PAYLOAD;
+
 /// Octets spell one packet at most.
 pub fn one_packet_is_spelled()
     ensures { (p q : RtpPacket) (octets : List ℕ) → Spells p octets → Spells q octets → p ≡ q }
@@ -12,11 +14,13 @@ pub fn one_packet_is_spelled()
 /// A packet that is spelled is read, or is refused for the length of its payload alone.
 pub fn what_is_spelled_is_read()
     ensures { (packet : RtpPacket) (octets : List ℕ) → Spells packet octets
-        → reading_of octets ≡ (if nat_lt 1500 (length packet.payload) then Err Long else Ok (value_of packet)) }
+        → reading_of octets ≡ (if nat_lt MAX_PAYLOAD (length packet.payload) then Err Long else Ok (value_of packet)) }
 {}
 
 /// What is read of octets is the value of a packet that they spell.
 pub fn what_is_read_is_spelled()
-    ensures { (octets : List ℕ) (value : RtpValue) → All (λ octet. octet < 256) octets → reading_of octets ≡ Ok value
-        → (packet : RtpPacket) × Spells packet octets × (value ≡ value_of packet) × (length packet.payload ≤ 1500) }
+    ensures { (octets : List ℕ) (value : RtpValue)
+        → All (λ octet. octet < 256) octets → reading_of octets ≡ Ok value
+        → (packet : RtpPacket) × Spells packet octets × (value ≡ value_of packet)
+        × (length packet.payload ≤ MAX_PAYLOAD) }
 {}

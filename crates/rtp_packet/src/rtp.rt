@@ -10,7 +10,8 @@ use std::marker::Model;
 /// The most octets that a payload has (this profile).
 pub const MAX_PAYLOAD: usize = 1500;
 
-const FIXED_LEN: usize = 12;
+/// How many octets a header without sources has (RFC 3550, section 5.1).
+pub(crate) const FIXED_LEN: usize = 12;
 
 const VERSION: u8 = 2;
 
@@ -27,12 +28,19 @@ pub struct Rtp<'a> {
 impl<'a> Model for Rtp<'a> {
     ghost use Rattle.std.specs.Prelude.{◌≤◌, length};
     ghost use Rattle.rtp_packet.specs.Reading.{RtpValue, extension_shown};
+    ghost use Rattle.rtp_packet.specs.declared.rtp.TheConstants.{MAX_PAYLOAD};
 
     ghost Value = { RtpValue };
 
-    ghost view = { λ p. record { number = p.number; stamp = p.stamp; ssrc = p.ssrc; extension = extension_shown p.extension; payload = p.payload.now } };
+    ghost view = { λ p. record {
+      number = p.number;
+      stamp = p.stamp;
+      ssrc = p.ssrc;
+      extension = extension_shown p.extension;
+      payload = p.payload.now;
+    } };
 
-    ghost invariant = { λ p. length p.payload.now ≤ 1500 };
+    ghost invariant = { λ p. length p.payload.now ≤ MAX_PAYLOAD };
 }
 
 // What the first octet says: the version, the flags of padding and extension, and how many sources
@@ -61,8 +69,8 @@ fn flags_of(first: u8) -> Flags
 
 // What follows so many sources. None where they pass the end.
 fn after_sources(octets: &[u8], sources: u8) -> Option<&[u8]>
-    ensures cut { is_none result ≡ nat_lt (length octets.now) (12 + 4 * sources) }
-    ensures rest { IfSome result (λ rest. rest.now ≡ drop (12 + 4 * sources) octets.now) }
+    ensures cut { is_none result ≡ nat_lt (length octets.now) (FIXED_LEN + 4 * sources) }
+    ensures rest { IfSome result (λ rest. rest.now ≡ drop (FIXED_LEN + 4 * sources) octets.now) }
 {
     octets.get(FIXED_LEN + 4 * usize::from(sources)..)
 }
@@ -146,10 +154,11 @@ impl<'a> Rtp<'a> {
         ensures value { result ≡ reading_of octets.now }
 
         // What is read is the value of a packet that the octets spell.
-        ensures found { IfOk result (λ rtp. (packet : RtpPacket) × Spells packet octets.now × (rtp ≡ value_of packet)) }
+        ensures found { IfOk result (λ rtp.
+            (packet : RtpPacket) × Spells packet octets.now × (rtp ≡ value_of packet)) }
 
         // A packet that is spelled is read, if its payload isn't too long.
-        ensures only { (packet : RtpPacket) → Spells packet octets.now → length packet.payload ≤ 1500
+        ensures only { (packet : RtpPacket) → Spells packet octets.now → length packet.payload ≤ MAX_PAYLOAD
             → result ≡ Ok (value_of packet) }
     {
         view_of(octets)
@@ -186,7 +195,7 @@ impl<'a> Rtp<'a> {
     /// The payload without padding.
     pub fn payload(&self) -> &'a [u8]
         ensures value { result.now ≡ self.now.payload }
-        ensures within { length result.now ≤ 1500 }
+        ensures within { length result.now ≤ MAX_PAYLOAD }
     {
         self.payload
     }

@@ -5,6 +5,7 @@ ghost use Rattle.rtp_packet.specs.Reading.{extension_shown, reading_of, value_of
 ghost use Rattle.rtp_packet.specs.Rtp.{AreWords, extension_octets, spelling};
 ghost use Rattle.rtp_packet.specs.Writing.{packet_with, header_octets, IsHead};
 
+use crate::rtp::{FIXED_LEN, MAX_PAYLOAD};
 use octet_fields::put_at;
 
 /// What the header of a packet to be written says.
@@ -21,13 +22,11 @@ pub struct RtpHead {
 /// An MPEG-2 transport stream (RFC 3551, section 6).
 pub const PAYLOAD_TYPE_MP2T: u8 = 33;
 
-const HEADER_LEN: usize = 12;
-
 fn put_header(out: &mut [u8], head: RtpHead, extended: bool)
-    requires room { 12 ≤ length out.old }
+    requires room { FIXED_LEN ≤ length out.old }
     ensures fits { IsHead head }
-    ensures octets { take 12 out.new ≡ header_octets head extended }
-    ensures rest { KeepsFrom 12 out.old out.new }
+    ensures octets { take FIXED_LEN out.new ≡ header_octets head extended }
+    ensures rest { KeepsFrom FIXED_LEN out.old out.new }
 {
     let first = if extended { 0x90 } else { 0x80 };
     let at = put_at(out, 0, &[first, PAYLOAD_TYPE_MP2T]);
@@ -54,15 +53,16 @@ fn put_words(out: &mut [u8], at: usize, profile: u16, words: &[u8]) -> usize
 fn put_extension(out: &mut [u8], extension: Option<(u16, &[u8])>) -> usize
     requires room { 48 ≤ length out.old }
     requires few { ForSome extension (λ e. length e.1.now ≤ 32) }
-    ensures end { result ≡ 12 + length (extension_octets (extension_shown extension.entry)) }
+    ensures end { result ≡ FIXED_LEN + length (extension_octets (extension_shown extension.entry)) }
     ensures within { result ≤ 48 }
     ensures fits { IfSome (extension_shown extension.entry) (λ e. e.0 < 2 ^ 16) }
-    ensures octets { take result out.new ≡ take 12 out.old ++ extension_octets (extension_shown extension.entry) }
+    ensures octets { take result out.new
+        ≡ take FIXED_LEN out.old ++ extension_octets (extension_shown extension.entry) }
     ensures rest { KeepsFrom result out.old out.new }
 {
     match extension {
-        Some((profile, words)) => put_words(out, HEADER_LEN, profile, words),
-        None => HEADER_LEN,
+        Some((profile, words)) => put_words(out, FIXED_LEN, profile, words),
+        None => FIXED_LEN,
     }
 }
 
@@ -75,13 +75,15 @@ pub fn write(
     out: &mut [u8; 2048],
 ) -> usize
     requires extension { ForSome extension (λ e. AreWords 8 e.1.now) }
-    requires payload { length payload.now ≤ 1500 }
-    ensures octets { take result out.new ≡ spelling (packet_with head.now (extension_shown extension.entry) payload.now) None }
+    requires payload { length payload.now ≤ MAX_PAYLOAD }
+    ensures octets { take result out.new
+        ≡ spelling (packet_with head.now (extension_shown extension.entry) payload.now) None }
     ensures rest { drop result out.new ≡ drop result out.old }
     ensures within { result ≤ 1548 }
 
     // What is written is read back as the value that was given.
-    ensures read_back { reading_of (take result out.new) ≡ Ok (value_of (packet_with head.now (extension_shown extension.entry) payload.now)) }
+    ensures read_back { reading_of (take result out.new)
+        ≡ Ok (value_of (packet_with head.now (extension_shown extension.entry) payload.now)) }
 {
     let head = *head;
     put_header(out, head, extension.is_some());

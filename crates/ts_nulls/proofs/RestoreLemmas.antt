@@ -4,7 +4,7 @@ use Rattle.std.specs.Prelude.{◌==◌, if◌then◌else◌, is_ok, replicate, R
 use Rattle.std.specs.Int.{bit_at}
 use Rattle.std.proofs.lemmas.List.{append-nil, length-drop}
 use Rattle.ts_nulls.specs.Packets.{packet_len, null_packet}
-use Rattle.std.proofs.lemmas.Bool.{eq-eqb, ne_eqb, eqb-true}
+use Rattle.std.proofs.lemmas.Bool.{eq-eqb, eqb-true}
 use Rattle.ts_nulls.specs.declared.nulls.NullBad.{NullBad}
 use Rattle.ts_nulls.specs.declared.nulls.NullBad.TheVariants.{Shape as BadShape}
 use Rattle.ts_nulls.specs.Shape.{Shape}
@@ -125,15 +125,6 @@ Puts-end long units places bits at rest octets out g = record {
 pub end-within : (long : Bool) (units len : ℕ) → units ≤ 7 → len ≡ packet_len long * units → len ≤ 1428
 end-within true units len few e = omega (arith, e)
 end-within false units len few e = omega (arith, e)
-
-pub restoring-bad : (units bits size kept : ℕ) (long : Bool) (octets : List ℕ) → size ≡ packet_len long → kept ≡ kept_count (null_flags 7 units bits)
-    → (length octets ≡ size * kept → ⊥) → Err BadShape ≡ restoring_of (record { units = units; long = long; nulls = bits }) octets
-unfolding restoring_of
-restoring-bad units bits size kept long octets s k other =
-    let test : (length octets == packet_len long * kept_count (null_flags 7 units bits)) ≡ false =
-    ne_eqb _ _ (λ e. other (e ∙ (λ i. sym s i * sym k i))) in
-    let made : Result (List ℕ) NullBad = Ok (restored long (null_flags 7 units bits) octets) in
-    λ i. cond (sym test i) made (Err BadShape)
 
 pub restoring-good : (units bits size kept : ℕ) (long : Bool) (octets made : List ℕ) → size ≡ packet_len long → kept ≡ kept_count (null_flags 7 units bits)
     → length octets ≡ size * kept → made ≡ restored long (null_flags 7 units bits) octets → Ok made ≡ restoring_of (record { units = units; long = long; nulls = bits }) octets

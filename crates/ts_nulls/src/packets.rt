@@ -1,6 +1,8 @@
 ghost use Rattle.std.specs.Prelude.{◌≡◌, ◌*◌, ◌/◌, ◌<◌, ◌≤◌, if◌then◌else◌, IfSome, Some, None, length};
 ghost use Rattle.ts_nulls.specs.Packets.{packet_len, are_whole, packets_in, begins_packet, is_null};
 
+use std::simd::prelude::*;
+
 /// How many octets a packet has (ISO/IEC 13818-1, section 2.4.3.2).
 pub(crate) const SHORT_LEN: usize = 188;
 
@@ -9,6 +11,9 @@ pub(crate) const LONG_LEN: usize = 204;
 
 /// The first octet of a packet.
 pub(crate) const SYNC_BYTE: u8 = 0x47;
+
+// The bits of the PID in the first four octets of a packet. In a null packet's all of them are set.
+const PID_BITS: [u8; 4] = [0, 0x1f, 0xff, 0];
 
 /// How many packets the longest payload has (this profile).
 pub(crate) const MAX_PACKETS: u8 = 7;
@@ -63,10 +68,11 @@ pub(crate) fn begins_packet(octets: &[u8]) -> bool
     octets[0] == SYNC_BYTE
 }
 
-/// Whether a packet is null.
+/// Whether a packet is null: its PID, in the lanes of its first four octets.
 pub(crate) fn is_null(octets: &[u8]) -> bool
     requires { SHORT_LEN ≤ length octets.now }
     ensures { result ≡ is_null octets.now }
 {
-    octets[1] & 0x1f == 0x1f && octets[2] == 0xff
+    let pid = u8x4::from_array(PID_BITS);
+    u8x4::from_slice(octets) & pid == pid
 }
