@@ -7,20 +7,27 @@ mod call_list;
 mod clock;
 mod kept;
 mod link;
+mod link_spec;
 mod octets;
 mod peers;
+mod port;
+mod process_clock;
 mod quiet;
 mod script_clock;
 mod script_link;
 #[cfg(test)]
 mod tests;
 mod trace;
+mod udp_link;
 
 pub use clock::Clock;
 pub use kept::Kept;
 pub use link::{Got, Link, MAX_DATAGRAM};
+pub use link_spec::{LinkSpec, Role};
 pub use octets::Octets;
+pub use process_clock::ProcessClock;
 pub use quiet::Quiet;
 pub use script_clock::ScriptClock;
 pub use script_link::{ScriptLink, ScriptRead};
 pub use trace::{Full, Trace};
+pub use udp_link::UdpLink;

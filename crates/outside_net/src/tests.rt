@@ -4,10 +4,10 @@ ghost use Rattle.std.specs.List.{All};
 ghost use Rattle.outside_net.specs.Scripts.{FitsDatagram};
 
 use crate::{
-    Clock, Full, Got, Kept, Link, Octets, Quiet, ScriptClock, ScriptLink, ScriptRead, Trace,
+    Clock, Full, Got, Kept, Link, LinkSpec, Octets, ProcessClock, Quiet, Role, ScriptClock,
+    ScriptLink, ScriptRead, Trace, UdpLink,
 };
-use outside_io::{Channel, Failed, NoMemory};
-use std::alloc::Global;
+use outside_io::{Channel, Failed, Profile};
 use std::test::Fail;
 
 #[test]
@@ -58,5 +58,97 @@ fn a_trace_keeps_up_to_its_limit(rt: HostRuntime) -> Result<(), Fail> {
     let mut quiet = Quiet::new();
     quiet.add(3_u64);
     assert_eq!(rt; Trace::<u64>::room(&quiet), Ok(()));
+    Ok(())
+}
+
+/// A receiving link on a free port of this machine, and a link that sends to it.
+fn pair(rt: &HostRuntime, profile: Profile) -> Result<(UdpLink, UdpLink), Failed> {
+    for step in 0..100_u16 {
+        let spec = LinkSpec {
+            address: [127, 0, 0, 1],
+            port: 24_000 + 2 * step,
+        };
+        if let Ok(receiving) = UdpLink::open(rt, &spec, Role::Receives, profile) {
+            return Ok((receiving, UdpLink::open(rt, &spec, Role::Sends, profile)?));
+        }
+    }
+    Err(Failed)
+}
+
+/// The next answer that isn't Quiet, of a hundred reads.
+fn next(link: &mut UdpLink, block: &mut [u8; 2048]) -> Got {
+    for _ in 0..100 {
+        let got = link.read(block);
+        if got != Got::Quiet {
+            return got;
+        }
+    }
+    Got::Quiet
+}
+
+#[test]
+fn datagrams_go_both_ways_on_their_channels(rt: HostRuntime) -> Result<(), Failed> {
+    let (mut receiving, mut sending) = pair(&rt, Profile::Simple)?;
+    let mut block = [0; 2048];
+    assert_eq!(rt; receiving.write(Channel::Control, b"X"), Ok(false));
+    assert_eq!(rt; sending.write(Channel::Tunnel, b"X"), Ok(false));
+    assert_eq!(rt; sending.write(Channel::Media, b"AB"), Ok(true));
+    assert_eq!(rt;
+        next(&mut receiving, &mut block),
+        Got::Datagram(Channel::Media, 2)
+    );
+    assert_eq!(rt; &block[..2], b"AB".as_slice());
+    assert_eq!(rt; receiving.write(Channel::Control, b"X"), Ok(false));
+    assert_eq!(rt; receiving.write(Channel::Media, b"C"), Ok(true));
+    assert_eq!(rt;
+        next(&mut sending, &mut block),
+        Got::Datagram(Channel::Media, 1)
+    );
+    assert_eq!(rt; sending.write(Channel::Control, b""), Ok(true));
+    assert_eq!(rt;
+        next(&mut receiving, &mut block),
+        Got::Datagram(Channel::Control, 0)
+    );
+    assert_eq!(rt; receiving.write(Channel::Control, b"DEF"), Ok(true));
+    assert_eq!(rt;
+        next(&mut sending, &mut block),
+        Got::Datagram(Channel::Control, 3)
+    );
+    let (mut receiving, mut sending) = pair(&rt, Profile::Main)?;
+    assert_eq!(rt; sending.write(Channel::Tunnel, b"GH"), Ok(true));
+    assert_eq!(rt;
+        next(&mut receiving, &mut block),
+        Got::Datagram(Channel::Tunnel, 2)
+    );
+    Ok(())
+}
+
+#[test]
+fn a_datagram_that_is_too_long_is_dropped(rt: HostRuntime) -> Result<(), Failed> {
+    let (mut receiving, mut sending) = pair(&rt, Profile::Simple)?;
+    let mut block = [0; 2048];
+    assert_eq!(rt; sending.write(Channel::Media, &[1; 2049]), Ok(true));
+    assert_eq!(rt; next(&mut receiving, &mut block), Got::Quiet);
+    assert_eq!(rt; receiving.write(Channel::Media, b"X"), Ok(false));
+    assert_eq!(rt; sending.write(Channel::Media, &[1; 2048]), Ok(true));
+    assert_eq!(rt;
+        next(&mut receiving, &mut block),
+        Got::Datagram(Channel::Media, 2048)
+    );
+    Ok(())
+}
+
+#[test]
+fn a_quiet_read_takes_about_a_millisecond(rt: HostRuntime) -> Result<(), Failed> {
+    let (mut receiving, _sending) = pair(&rt, Profile::Simple)?;
+    let mut clock = ProcessClock::start(&rt)?;
+    let mut block = [0; 2048];
+    let mut least = u64::MAX;
+    for _ in 0..20 {
+        let before = clock.now();
+        assert_eq!(rt; receiving.read(&mut block), Got::Quiet);
+        least = least.min(clock.now().saturating_sub(before));
+    }
+    assert!(rt; (500..=3_000).contains(&least));
     Ok(())
 }

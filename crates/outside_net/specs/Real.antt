@@ -1,0 +1,64 @@
+-- What a contract sees of links over UDP: whose peers are known.
+use Rattle.std.specs.Prelude.{◌≡◌, ℕ, Bool, true, false, Option, None, Some}
+use Rattle.outside_io.specs.declared.channel.Channel.{Channel}
+use Rattle.outside_io.specs.declared.channel.Channel.TheVariants as channels
+use Rattle.outside_io.specs.declared.profile.Profile.{Profile}
+use Rattle.outside_io.specs.declared.profile.Profile.TheVariants.{Simple, Main}
+use Rattle.outside_net.specs.declared.link.Got.{Got}
+use Rattle.outside_net.specs.declared.link.Got.TheVariants as got
+use Rattle.outside_net.specs.declared.link_spec.Role.{Role}
+use Rattle.outside_net.specs.declared.link_spec.Role.TheVariants.{Receives, Sends}
+use Rattle.outside_net.specs.declared.port.Peer.{Peer}
+use Rattle.outside_net.specs.declared.port.Peer.TheVariants.{Unknown, Last, Stated}
+use Rattle.outside_net.specs.declared.port.Port.{Port}
+use Rattle.outside_net.specs.declared.udp_link.UdpLink.{UdpLink}
+use Rattle.outside_net.specs.Links.{KnowsAfter}
+
+abbrev pub is_known : Peer → Bool
+is_known Unknown = false
+is_known (Last address) = true
+is_known (Stated address) = true
+
+-- the peer of a socket, if there is one
+abbrev pub knows_at : Option Port → Bool
+knows_at None = false
+knows_at (Some port) = is_known port.peer
+
+abbrev pub knows_in_link : UdpLink → Channel → Bool
+knows_in_link link channels.Media = knows_at link.media
+knows_in_link link channels.Control = knows_at link.control
+knows_in_link link channels.Tunnel = knows_at link.tunnel
+
+-- the peers that are known at first: those of a sending link's channels
+abbrev pub is_sending : Role → Bool
+is_sending Receives = false
+is_sending Sends = true
+
+abbrev pub stated_in : Role → Profile → Channel → Bool
+stated_in role Simple channels.Media = is_sending role
+stated_in role Simple channels.Control = is_sending role
+stated_in role Simple channels.Tunnel = false
+stated_in role Main channels.Media = false
+stated_in role Main channels.Control = false
+stated_in role Main channels.Tunnel = is_sending role
+
+-- no call of the link has failed or come to an end
+pub record IsUnused (link : UdpLink) : Type 0 where
+  pub faults : link.faults ≡ 0
+  pub ends : link.ends ≡ 0
+
+-- after a look at a socket its peer is known where it gave a datagram, and else as it was
+abbrev pub PeerAfter : Channel → Bool → Bool → Option Got → Type 0
+PeerAfter channel old new None = new ≡ old
+PeerAfter channel old new (Some (got.Datagram c count)) = (c ≡ channel) × (new ≡ true)
+PeerAfter channel old new (Some got.Quiet) = new ≡ old
+PeerAfter channel old new (Some got.End) = new ≡ old
+PeerAfter channel old new (Some got.Failed) = new ≡ old
+
+abbrev pub LooksOn : Channel → Option Port → Option Port → Option Got → Type 0
+LooksOn channel old new result = PeerAfter channel (knows_at old) (knows_at new) result
+
+-- after a look at the sockets: as after a read where one gave something
+abbrev pub KnowsAfterLook : (Channel → Bool) → (Channel → Bool) → Option Got → Type 0
+KnowsAfterLook old new None = (c : Channel) → new c ≡ old c
+KnowsAfterLook old new (Some answer) = KnowsAfter old new answer

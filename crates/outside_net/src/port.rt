@@ -1,0 +1,129 @@
+// One socket of a link, and the peer of its channel.
+use crate::{Got, MAX_DATAGRAM, Role};
+use libc::net::{SO_RCVBUF, SOL_SOCKET, setsockopt};
+use outside_io::{Channel, Failed};
+use std::io::{self, ErrorKind};
+use std::net::{Ipv4Addr, Net, SocketAddr, SocketAddrV4, UdpSocket};
+use std::os::fd::AsRawFd;
+
+/// How many octets a socket is asked to keep until they are read. The system may give less.
+const RECEIVE_BUFFER: i32 = 4_194_304;
+
+/// Whom a channel's datagrams go to.
+#[derive(Drop)]
+pub enum Peer {
+    /// Nobody is known yet.
+    Unknown,
+    /// Whoever sent the last datagram.
+    Last(SocketAddr),
+    /// An address that was stated, whoever sends.
+    Stated(SocketAddr),
+}
+
+/// A socket that never waits, and its peer.
+#[derive(Drop)]
+pub struct Port {
+    socket: UdpSocket,
+    peer: Peer,
+}
+
+impl Port {
+    ghost use Rattle.std.specs.Prelude.{◌≡◌, IfOk, IfSome, true, false};
+    ghost use Rattle.outside_net.specs.Links.{IsWithin, has_come_to_end};
+    ghost use Rattle.outside_net.specs.Real.{is_known, is_sending, PeerAfter};
+
+    /// Bound to the address, or from any port of this machine to it.
+    pub fn open<R: Net>(rt: &R, address: [u8; 4], port: u16, role: Role) -> Result<Port, Failed>
+        ensures peer { IfOk result (λ port. is_known port.peer ≡ is_sending role) }
+    {
+        let [a, b, c, d] = address;
+        let stated = SocketAddr::V4(SocketAddrV4::new(Ipv4Addr::new(a, b, c, d), port));
+        let any = SocketAddr::V4(SocketAddrV4::new(Ipv4Addr::new(0, 0, 0, 0), 0));
+        let (own, peer) = match role {
+            Role::Receives => (stated, Peer::Unknown),
+            Role::Sends => (any, Peer::Stated(stated)),
+        };
+        match quick_socket(rt, own) {
+            Ok(socket) => Ok(Port { socket, peer }),
+            Err(_) => Err(Failed),
+        }
+    }
+
+    pub fn descriptor(&self) -> i32 {
+        self.socket.as_raw_fd()
+    }
+
+    /// The next datagram, if one is there: its sender is the peer, unless one was stated. One of more than 2,048 octets is
+    /// dropped, which answers Quiet, and its sender isn't.
+    pub fn look(&mut self, channel: Channel, buf: &mut [u8; 2048]) -> Option<Got>
+        ensures within { IfSome result IsWithin }
+        ensures going { IfSome result (λ got. has_come_to_end got ≡ false) }
+        ensures peer { PeerAfter channel (is_known self.old.peer) (is_known self.new.peer) result }
+    {
+        let mut block = [0; MAX_DATAGRAM + 1];
+        match self.socket.recv_from(&mut block) {
+            Ok((count, from)) => {
+                if count > MAX_DATAGRAM {
+                    return Some(Got::Quiet);
+                }
+                buf[..count].copy_from_slice(&block[..count]);
+                self.learn(from);
+                Some(Got::Datagram(channel, count))
+            }
+            Err(error) => {
+                if is_no_fault(error.kind()) {
+                    return None;
+                }
+                Some(Got::Failed)
+            }
+        }
+    }
+
+    fn learn(&mut self, from: SocketAddr)
+        ensures value { is_known self.new.peer ≡ true }
+    {
+        match self.peer {
+            Peer::Stated(_) => {}
+            Peer::Unknown | Peer::Last(_) => self.peer = Peer::Last(from),
+        }
+    }
+
+    /// Sends to the peer. A datagram that the peer's machine refuses, or for which the system has no room, is lost.
+    pub fn send(&self, octets: &[u8]) -> Result<bool, Failed>
+        ensures peer { IfOk result (λ went. went ≡ is_known self.now.peer) }
+    {
+        let to = match self.peer {
+            Peer::Unknown => return Ok(false),
+            Peer::Last(to) => to,
+            Peer::Stated(to) => to,
+        };
+        match self.socket.send_to(octets, to) {
+            Ok(_) => Ok(true),
+            Err(error) => {
+                if is_no_fault(error.kind()) {
+                    return Ok(true);
+                }
+                Err(Failed)
+            }
+        }
+    }
+}
+
+/// A socket that never waits and has a large receive buffer, where the system gives one.
+fn quick_socket<R: Net>(rt: &R, own: SocketAddr) -> io::Result<UdpSocket> {
+    let socket = UdpSocket::bind(rt, own)?;
+    socket.set_nonblocking(true)?;
+    let mut value = [0; 16];
+    value[..4].copy_from_slice(&RECEIVE_BUFFER.to_ne_bytes());
+    let _ = unsafe { setsockopt(socket.as_raw_fd(), SOL_SOCKET, SO_RCVBUF, &value, 4) };
+    Ok(socket)
+}
+
+/// Nothing is there, the system has no room, a call was interrupted, or a peer's machine refuses: none of these is a fault
+/// of the link.
+fn is_no_fault(kind: ErrorKind) -> bool {
+    matches!(
+        kind,
+        ErrorKind::WouldBlock | ErrorKind::Interrupted | ErrorKind::ConnectionRefused
+    )
+}

@@ -1,0 +1,37 @@
+// The process clock. What it gives is not told: the trusted edge of the system.
+use crate::Clock;
+use outside_io::Failed;
+use std::time;
+use std::time::Duration;
+
+/// Microseconds since it was made. Where the system's clock can't be read, the last moment again.
+#[derive(Drop)]
+pub struct ProcessClock<'a, R> {
+    rt: &'a R,
+    start: Duration,
+    last: u64,
+}
+
+impl<'a, R: time::Clock> ProcessClock<'a, R> {
+    /// A clock at 0.
+    pub fn start(rt: &'a R) -> Result<ProcessClock<'a, R>, Failed> {
+        match rt.monotonic() {
+            Ok(start) => Ok(ProcessClock { rt, start, last: 0 }),
+            Err(_) => Err(Failed),
+        }
+    }
+}
+
+impl<'a, R: time::Clock> Clock for ProcessClock<'a, R> {
+    ghost use Rattle.std.specs.Prelude.{None};
+
+    ghost moments = { λ _. None };
+
+    fn now(&mut self) -> u64 {
+        if let Ok(now) = self.rt.monotonic() {
+            let passed = now.saturating_sub(self.start);
+            self.last = u64::try_from(passed.as_micros()).unwrap_or(u64::MAX);
+        }
+        self.last
+    }
+}

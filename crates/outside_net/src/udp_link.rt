@@ -1,0 +1,218 @@
+// UDP links. What they give and take is not told: the trusted edge of the system.
+ghost use Rattle.std.specs.Prelude.{◌≡◌, false, IfOk, IfSome};
+ghost use Rattle.outside_net.specs.Links.{IsWithin, has_come_to_end};
+ghost use Rattle.outside_net.specs.Real.{knows_at, LooksOn};
+
+use crate::port::Port;
+use crate::{Got, Link, LinkSpec, Role};
+use libc::net::{POLLIN, poll};
+use libc::types::pollfd;
+use outside_io::{Channel, Failed, Profile};
+use std::net::Net;
+
+/// How long a read waits for a datagram where none is there, in milliseconds.
+const WAIT_MS: i32 = 1;
+
+/// A link over UDP: in the Simple Profile a socket for media and one for control, in the Main Profile one for the tunnel.
+///
+/// A receiving link is bound to its address, and answers on each channel to the last sender on it. A sending link sends to its
+/// address. A read looks at the socket first that gave a datagram least recently; where no socket has one it waits for 1 ms,
+/// unless a datagram was written since the last read.
+#[derive(Drop)]
+pub struct UdpLink {
+    media: Option<Port>,
+    control: Option<Port>,
+    tunnel: Option<Port>,
+    next: Channel,
+    waits: bool,
+    faults: u64,
+    ends: u64,
+}
+
+impl UdpLink {
+    ghost use Rattle.std.specs.Prelude.{◌≡◌, false, IfOk, IfSome};
+    ghost use Rattle.outside_net.specs.Links.{IsWithin, has_come_to_end};
+    ghost use Rattle.outside_io.specs.declared.channel.Channel.{Channel as ChannelValue};
+    ghost use Rattle.outside_net.specs.Real.{knows_in_link, stated_in, IsUnused, KnowsAfterLook};
+
+    /// Opens a link: it is bound to its address, or sends to it. Where an address can't be bound or is none of this
+    /// machine's, it fails. In the Simple Profile control goes on the next port.
+    pub fn open<R: Net>(
+        rt: &R,
+        spec: &LinkSpec,
+        role: Role,
+        profile: Profile,
+    ) -> Result<UdpLink, Failed>
+        ensures peers { IfOk result (λ link. (c : ChannelValue) → knows_in_link link c ≡ stated_in role profile c) }
+        ensures fresh { IfOk result IsUnused }
+    {
+        match profile {
+            Profile::Simple => {
+                let Some(control) = spec.port.checked_add(1) else {
+                    return Err(Failed);
+                };
+                let media = Port::open(rt, spec.address, spec.port, role)?;
+                let control = Port::open(rt, spec.address, control, role)?;
+                Ok(UdpLink {
+                    media: Some(media),
+                    control: Some(control),
+                    tunnel: None,
+                    next: Channel::Media,
+                    waits: true,
+                    faults: 0,
+                    ends: 0,
+                })
+            }
+            Profile::Main => {
+                let tunnel = Port::open(rt, spec.address, spec.port, role)?;
+                Ok(UdpLink {
+                    media: None,
+                    control: None,
+                    tunnel: Some(tunnel),
+                    next: Channel::Tunnel,
+                    waits: true,
+                    faults: 0,
+                    ends: 0,
+                })
+            }
+        }
+    }
+
+    /// Looks at one channel's socket.
+    fn look_at(&mut self, channel: Channel, buf: &mut [u8; 2048]) -> Option<Got>
+        ensures within { IfSome result IsWithin }
+        ensures going { IfSome result (λ got. has_come_to_end got ≡ false) }
+        ensures peer { KnowsAfterLook (knows_in_link self.old) (knows_in_link self.new) result }
+        ensures faults { self.new.faults ≡ self.old.faults }
+        ensures ends { self.new.ends ≡ self.old.ends }
+    {
+        match channel {
+            Channel::Media => look(&mut self.media, channel, buf),
+            Channel::Control => look(&mut self.control, channel, buf),
+            Channel::Tunnel => look(&mut self.tunnel, channel, buf),
+        }
+    }
+
+    /// Looks at the sockets, the one first that gave least recently.
+    fn look_at_all(&mut self, buf: &mut [u8; 2048]) -> Option<Got>
+        ensures within { IfSome result IsWithin }
+        ensures going { IfSome result (λ got. has_come_to_end got ≡ false) }
+        ensures peer { KnowsAfterLook (knows_in_link self.old) (knows_in_link self.new) result }
+        ensures faults { self.new.faults ≡ self.old.faults }
+        ensures ends { self.new.ends ≡ self.old.ends }
+    {
+        let first = self.next;
+        let second = match first {
+            Channel::Media => Channel::Control,
+            Channel::Control => Channel::Media,
+            Channel::Tunnel => Channel::Tunnel,
+        };
+        if let Some(got) = self.look_at(first, buf) {
+            self.next = second;
+            return Some(got);
+        }
+        self.look_at(second, buf)
+    }
+
+    /// Looks at the sockets, and once more after a wait, unless a datagram was written since the last read.
+    fn look_or_wait(&mut self, buf: &mut [u8; 2048]) -> Option<Got>
+        ensures within { IfSome result IsWithin }
+        ensures going { IfSome result (λ got. has_come_to_end got ≡ false) }
+        ensures peer { KnowsAfterLook (knows_in_link self.old) (knows_in_link self.new) result }
+        ensures faults { self.new.faults ≡ self.old.faults }
+        ensures ends { self.new.ends ≡ self.old.ends }
+    {
+        let waits = self.waits;
+        self.waits = true;
+        if let Some(got) = self.look_at_all(buf) {
+            return Some(got);
+        }
+        if !waits {
+            return None;
+        }
+        self.wait();
+        self.look_at_all(buf)
+    }
+
+    /// Waits until a socket has a datagram, or 1 ms has passed.
+    fn wait(&self) {
+        let mut ends = [end_of(&self.media), end_of(&self.control)];
+        if self.tunnel.is_some() {
+            ends[0] = end_of(&self.tunnel);
+        }
+        let _ = poll(&mut ends, WAIT_MS);
+    }
+}
+
+/// A socket for `poll`; -1, which it passes over, where there is none.
+fn end_of(port: &Option<Port>) -> pollfd {
+    pollfd {
+        fd: match port {
+            Some(port) => port.descriptor(),
+            None => -1,
+        },
+        events: POLLIN,
+        revents: 0,
+    }
+}
+
+/// Looks at a socket, if there is one. None where it has nothing.
+fn look(port: &mut Option<Port>, channel: Channel, buf: &mut [u8; 2048]) -> Option<Got>
+    ensures within { IfSome result IsWithin }
+    ensures going { IfSome result (λ got. has_come_to_end got ≡ false) }
+    ensures peer { LooksOn channel port.old port.new result }
+{
+    match port {
+        Some(port) => port.look(channel, buf),
+        None => None,
+    }
+}
+
+/// Sends on a socket, if there is one with a peer.
+fn send(port: &Option<Port>, octets: &[u8]) -> Result<bool, Failed>
+    ensures peer { IfOk result (λ went. went ≡ knows_at port.now) }
+{
+    match port {
+        Some(port) => port.send(octets),
+        None => Ok(false),
+    }
+}
+
+impl Link for UdpLink {
+    ghost use Rattle.std.specs.Prelude.{None};
+    ghost use Rattle.outside_net.specs.Real.{knows_in_link};
+
+    ghost reads = { λ _. None };
+
+    ghost taken = { λ _. None };
+
+    ghost knows = { knows_in_link };
+
+    ghost faults = { λ link. link.faults };
+
+    ghost ends = { λ link. link.ends };
+
+    fn read(&mut self, buf: &mut [u8; 2048]) -> Got {
+        match self.look_or_wait(buf) {
+            None => Got::Quiet,
+            Some(Got::Failed) => {
+                self.faults = self.faults.saturating_add(1);
+                Got::Failed
+            }
+            Some(got) => got,
+        }
+    }
+
+    fn write(&mut self, channel: Channel, octets: &[u8]) -> Result<bool, Failed> {
+        self.waits = false;
+        let sent = match channel {
+            Channel::Media => send(&self.media, octets),
+            Channel::Control => send(&self.control, octets),
+            Channel::Tunnel => send(&self.tunnel, octets),
+        };
+        if sent.is_err() {
+            self.faults = self.faults.saturating_add(1);
+        }
+        sent
+    }
+}
