@@ -151,6 +151,7 @@ fn what_is_written_is_a_capture(rt: HostRuntime) -> Result<(), Fail> {
     assert_eq!(rt; writer.begin(), Ok(()));
     assert_eq!(rt; writer.add(&head, octets), Ok(()));
     assert_eq!(rt; writer.add(&head, octets), Err(WriteFault));
-    assert_eq!(rt; writer.back().octets(), &want[..33]);
+    let sink = writer.back();
+    assert_eq!(rt; sink.octets(), want.get(..33).ok_or("33")?);
     Ok(())
 }
