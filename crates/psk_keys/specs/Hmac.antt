@@ -14,10 +14,11 @@ block_key key = filled_block (if nat_lt 64 (length key) then sha256 key else key
 abbrev pub padded_key : ℕ → List ℕ → List ℕ
 padded_key pad block = map (λ octet. bit_xor octet pad) block
 
--- the octet of the inner pad, and that of the outer
+-- the octet of the inner pad
 abbrev pub inner_pad : ℕ
 inner_pad = 0x36
 
+-- the octet of the outer pad
 abbrev pub outer_pad : ℕ
 outer_pad = 0x5c
 

@@ -37,10 +37,11 @@ extension_shown (Some extension) = Some (extension.0, extension.1.now)
 abbrev pub version_of : List ℕ → ℕ
 version_of octets = slice_index octets 0 / 64
 
--- the flags P and X, in the first octet
+-- the flag P, in the first octet
 abbrev pub has_padding : List ℕ → Bool
 has_padding octets = bit_at (slice_index octets 0) 5 == 1
 
+-- the flag X, in the first octet
 abbrev pub has_extension : List ℕ → Bool
 has_extension octets = bit_at (slice_index octets 0) 4 == 1
 

@@ -21,10 +21,11 @@ back_high = 0 ∷ 236 ∷ 188 ∷ 80 ∷ 81 ∷ 189 ∷ 237 ∷ 1 ∷ 224 ∷ 12
 unfoldable pub untower : ℕ → ℕ
 untower y = bit_xor (slice_index back_low (y % 16)) (slice_index back_high (y / 16))
 
--- the two elements
+-- the higher of the two elements
 abbrev pub high_half : ℕ → ℕ
 high_half y = y / 16
 
+-- the lower
 abbrev pub low_half : ℕ → ℕ
 low_half y = bit_and y 15
 
@@ -36,10 +37,11 @@ both_halves y = bit_xor (high_half y) (low_half y)
 abbrev pub quotient : ℕ → ℕ
 quotient y = read QUOTIENTS (low_half y)
 
--- the inverse of the high half, and that of both, each plus the quotient
+-- the inverse of the high half, plus the quotient
 abbrev pub by_high : ℕ → ℕ
 by_high y = bit_xor (read INVERSES (high_half y)) (quotient y)
 
+-- the inverse of the sum of both, plus the quotient
 abbrev pub by_both : ℕ → ℕ
 by_both y = bit_xor (read INVERSES (both_halves y)) (quotient y)
 
