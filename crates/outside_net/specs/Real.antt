@@ -1,5 +1,5 @@
 -- What a contract sees of links over UDP: whose peers are known.
-use Rattle.std.specs.Prelude.{◌≡◌, ℕ, Bool, true, false, Option, None, Some}
+use Rattle.std.specs.Prelude.{◌≡◌, Bool, true, false, Option, None, Some}
 use Rattle.outside_io.specs.declared.channel.Channel.{Channel}
 use Rattle.outside_io.specs.declared.channel.Channel.TheVariants as channels
 use Rattle.outside_io.specs.declared.profile.Profile.{Profile}
