@@ -3,7 +3,7 @@ use Rattle.std.proofs.Common.{◌≡◌, ℕ, ◌+◌, ◌-◌, ◌≤◌, List,
 use Rattle.std.proofs.lemmas.List.{drop-take, drop-drop}
 use Rattle.std.specs.declared.option.Option.{Option}
 use Rattle.outside_io.specs.Told.{Takes}
-use Rattle.capture_file.specs.Block.{between, behind}
+use Rattle.capture_file.specs.Inside.Block.{between, behind}
 
 -- what stands past the first octets of a block
 between_rest : (octets : List ℕ) (from to n : ℕ) → from + n ≤ to → drop n (between octets from to) ≡ between octets (from + n) to

@@ -10,7 +10,8 @@ use Rattle.capture_file.specs.Capture.{magic}
 use Rattle.capture_file.specs.Tests.{fault_at, fault_of_body, length_said, or_else}
 use Rattle.capture_file.proofs.FormatLemmas.{no_record_cut}
 use Rattle.capture_file.specs.Heads.{head_octets}
-use Rattle.capture_file.specs.Reading.{ReadsHead, ReadsBody, Enters, ReadsRecord, ReadsNext, name_at}
+use Rattle.capture_file.specs.Reading.{ReadsNext, name_at}
+use Rattle.capture_file.specs.Inside.Steps.{ReadsHead, ReadsBody, Enters, ReadsRecord}
 use Rattle.capture_file.specs.declared.head.Head.{Head}
 use Rattle.capture_file.specs.declared.reader.CapKind.TheVariants.{Truncated}
 use Rattle.capture_file.specs.declared.reader.CapBad.{CapBad}

@@ -3,6 +3,7 @@ use Rattle.std.specs.Prelude.{ℕ, List}
 use Rattle.capture_file.specs.Capture.{Record, head_spelling}
 use Rattle.capture_file.specs.declared.head.Head.{Head}
 
+-- the twelve that a head is spelled with
 abbrev pub head_octets : Head → List ℕ
 head_octets head = head_spelling head.link head.channel head.length head.us
 

@@ -1,8 +1,8 @@
 pub mod Capture
 pub mod Tests
 pub mod Heads
-pub mod Block
 pub mod Reader
 pub mod Reading
 pub mod Writer
 pub mod Text
+pub mod Inside

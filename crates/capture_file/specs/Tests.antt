@@ -10,6 +10,7 @@ use Rattle.capture_file.specs.declared.reader.CapKind.TheVariants.{Magic, Trunca
 abbrev pub length_said : List ℕ → ℕ
 length_said head = from_be_bytes w16 (take 2 (drop 2 head))
 
+-- and the time
 abbrev pub time_said : List ℕ → ℕ
 time_said head = from_be_bytes w64 (take 8 (drop 4 head))
 
@@ -23,9 +24,11 @@ fault_of_head at head =
     else (if nat_lt (2 ^ 40) (at + 12 + length_said head) then Some TooLong
     else None))))
 
+-- the octets behind a head are fewer than it says
 abbrev pub fault_of_body : List ℕ → List ℕ → Option CapKind
 fault_of_body head body = if nat_lt (length body) (length_said head) then Some Truncated else None
 
+-- the first of two tests that fails
 abbrev pub or_else : Option CapKind → Option CapKind → Option CapKind
 or_else None next = next
 or_else (Some kind) next = Some kind

@@ -4,7 +4,7 @@ ghost use Rattle.std.specs.Io.{ReadsAtMost};
 ghost use Rattle.outside_io.specs.Causes.{HasCause};
 ghost use Rattle.outside_io.specs.Told.{Takes, IsEmpty};
 ghost use Rattle.capture_file.specs.Reader.{most_ahead};
-ghost use Rattle.capture_file.specs.Block.{BlockState, between, behind};
+ghost use Rattle.capture_file.specs.Inside.Block.{BlockState, between, behind};
 
 use outside_io::{Failed, Source, copy_front};
 use std::marker::Model;

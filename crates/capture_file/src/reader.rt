@@ -4,7 +4,8 @@ ghost use Rattle.capture_file.specs.declared.reader.CapBad.TheVariants.{ReadFaul
 ghost use Rattle.outside_io.specs.Causes.{HasReadCause, fault_by};
 ghost use Rattle.outside_io.specs.Told.{Takes};
 ghost use Rattle.capture_file.specs.Reader.{ReaderState, new_reader, most_ahead};
-ghost use Rattle.capture_file.specs.Reading.{ReadsName, ReadsHead, ReadsBody, Enters, ReadsRecord, ReadsNext, read_fault, offset_at, spent_by};
+ghost use Rattle.capture_file.specs.Reading.{ReadsNext, read_fault, offset_at, spent_by};
+ghost use Rattle.capture_file.specs.Inside.Steps.{ReadsName, ReadsHead, ReadsBody, Enters, ReadsRecord};
 
 use crate::Head;
 use crate::block::Block;

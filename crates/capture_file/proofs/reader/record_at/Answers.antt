@@ -1,6 +1,6 @@
 use Rattle.std.proofs.Common.{◌≡◌, length, take, subst, Err, arith}
 use Rattle.std.proofs.lemmas.List.{length-take-le}
-use Rattle.capture_file.specs.Reading.{ReadsBody}
+use Rattle.capture_file.specs.Inside.Steps.{ReadsBody}
 use Rattle.capture_file.proofs.ReadingLemmas.{body_cut}
 use Rattle.capture_file.proofs.reader.record_at.Goals as goal
 

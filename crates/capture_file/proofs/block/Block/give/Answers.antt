@@ -1,6 +1,6 @@
 use Rattle.std.proofs.Common.{◌≤◌, ◌+◌, ◌-◌, take, drop, arith, subst, length-take}
 use Rattle.outside_io.specs.Told.{Takes}
-use Rattle.capture_file.specs.Block.{between, behind}
+use Rattle.capture_file.specs.Inside.Block.{between, behind}
 use Rattle.capture_file.proofs.BlockLemmas.{takes_front}
 use Rattle.capture_file.proofs.block.Block.give.Goals as goal
 
