@@ -40,7 +40,6 @@ pub fn replay<S: Source, K: Sink>(
         Err(_) => return Err(WalkBad::Memory),
     };
     let mut replayer = Replayer {
-        alloc,
         opener,
         receiver,
         block: [0; 1500],
