@@ -1,11 +1,11 @@
-mod PhaseLemmas
+pub mod PhaseLemmas
 mod PlaceLemmas
 mod RingLemmas
 mod AroundLemmas
 mod SpanLemmas
 mod RingChangeLemmas
 mod HeldLemmas
-mod StateAfterLemmas
+pub mod StateAfterLemmas
 mod WriteLemmas
 mod ReleaseLemmas
 mod ReceiveLemmas

@@ -13,7 +13,7 @@ use Rattle.rist_ends.specs.declared.told.What.{What}
 use Rattle.rist_ends.specs.declared.told.What.TheVariants.{Media, Control, Keepalive, Refused, Tick, End}
 use Rattle.rist_ends.specs.Counts.{AreCountsOf, capped, verdict_count, refused_count, is_of, no_counts, one_more, counts_with}
 use Rattle.rist_ends.specs.Told.{input_of}
-use Rattle.rist_ends.specs.Stepping.{SaysVerdictOn}
+use Rattle.rist_ends.specs.Inside.Stepping.{SaysVerdictOn}
 
 one : (c x : ℕ) → c ≡ capped x → capped (c + 1) ≡ capped (x + 1)
 one c x e = omega (arith, e)

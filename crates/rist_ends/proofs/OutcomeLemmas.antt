@@ -6,7 +6,7 @@ use Rattle.receiver_rules.specs.ReceiverSteps.{ReceiverStep, buffer_history}
 use Rattle.rist_ends.specs.declared.told.What.{What}
 use Rattle.rist_ends.specs.declared.told.What.TheVariants.{Media, Control, Keepalive, Refused, Tick, End}
 use Rattle.rist_ends.specs.Told.{input_of}
-use Rattle.rist_ends.specs.Stepping.{SaysVerdictOn}
+use Rattle.rist_ends.specs.Inside.Stepping.{SaysVerdictOn}
 use Rattle.rist_ends.specs.Outcome.{Answers, IfStepped, outcome_of}
 use Rattle.rist_ends.specs.declared.outcome.Outcome.{Outcome}
 

@@ -1,6 +1,6 @@
 -- A step at the effective time is the step at its own tick.
 use Rattle.std.proofs.Common.{◌≡◌, ◌≢◌, ◌⊎◌, ◌||◌, ℕ, max, Bool, cond, List, refl, ◌∷◌, ◌++◌, sym, ap, subst, ◌∙◌, map, arith, Option, [], append_assoc, unwrap_or}
-use Rattle.std.specs.Prelude.{IsTrue, ◌↔◌, false}
+use Rattle.std.specs.Prelude.{IsTrue, ◌↔◌, false, Result, Ok, Err, OnErr}
 use Rattle.std.specs.List.{filter, concat}
 use Rattle.outside_io.proofs.ToldLemmas.{appends_both}
 use Rattle.receiver_rules.specs.declared.limits.Limits.{Limits}
@@ -141,3 +141,9 @@ end_told told tick what e = step_by told _ (ap (λ (w : What). buffer_event (inp
 -- that of anything else
 pub silent_told : (told : Told) (tick : ℕ) → buffer_event (input_of told.what) ≡ TimeOnly → tick ≡ tick_of told.us → buffer_step (step_of told) ≡ time_step tick
 silent_told told tick event e = step_by told _ event ∙ ap (λ t. time_step t) (sym e)
+
+-- ---- a failure handed on
+
+pub on_err_always : {T E : Type 0} (r : Result T E) (P : Type 0) → P → OnErr r P
+on_err_always (Ok v) P p = tt
+on_err_always (Err e) P p = p

@@ -1,5 +1,5 @@
 pub mod Counts
 pub mod Told
-pub mod Stepping
+pub mod Inside
 pub mod Receiver
 pub mod Outcome

@@ -13,7 +13,6 @@ IfStepped outcomes.Stopped P = Unit {0}
 IfStepped outcomes.WriteFault P = Unit {0}
 IfStepped (outcomes.Verdict v) P = P
 IfStepped outcomes.Nothing P = P
-IfStepped outcomes.Memory P = Unit {0}
 
 -- the verdict is that of the history, on a media packet
 abbrev pub IsVerdictOn : Verdict → Limits → List ReceiverStep → ℕ → Input → Type 0
@@ -39,7 +38,6 @@ Answers outcomes.Stopped limits history step = Unit {0}
 Answers outcomes.WriteFault limits history step = Unit {0}
 Answers (outcomes.Verdict v) limits history step = IsVerdictOn v limits history step.tick step.input
 Answers outcomes.Nothing limits history step = IsSilent step.input
-Answers outcomes.Memory limits history step = Unit {0}
 
 -- the outcome of a step that was made
 abbrev pub outcome_of : Option Verdict → Outcome
@@ -52,4 +50,3 @@ is_write_fault outcomes.Stopped = false
 is_write_fault outcomes.WriteFault = true
 is_write_fault (outcomes.Verdict v) = false
 is_write_fault outcomes.Nothing = false
-is_write_fault outcomes.Memory = false

@@ -1,9 +1,11 @@
 -- What a receiver is told, as a step of its history.
-use Rattle.std.specs.Prelude.{ℕ, ◌<◌}
+use Rattle.std.specs.Prelude.{ℕ, ◌<◌, ◌≤◌, length}
 use Rattle.seq_unwrap.specs.Nearest.{cycle_of}
 use Rattle.receiver_rules.specs.Steps.{Step, tick_of}
 use Rattle.receiver_rules.specs.Steps as buffer
 use Rattle.receiver_rules.specs.Seen.{seen}
+use Rattle.receiver_rules.specs.declared.arrival.Arrival.{Arrival}
+use Rattle.reorder_buffer.specs.declared.ring.TheConstants.{MAX_PAYLOAD}
 use Rattle.receiver_rules.specs.ReceiverSteps.{Input, ReceiverStep}
 use Rattle.receiver_rules.specs.ReceiverSteps as inputs
 use Rattle.reorder_buffer.specs.declared.phase.Phase.{Phase}
@@ -25,9 +27,14 @@ input_of End = inputs.End
 abbrev pub step_of : Told → ReceiverStep
 step_of told = record { link = told.link; tick = tick_of told.us; input = input_of told.what }
 
--- a word is one of its width
+-- a word is one of its width, and a payload has no more octets than a block
+pub record IsFitArrival (arrival : Arrival) : Type 0 where
+  pub word : arrival.word < cycle_of arrival.width
+  pub payload : length arrival.payload.now ≤ MAX_PAYLOAD
+
+-- what is told is of its form
 abbrev pub IsFitWhat : What → Type 0
-IsFitWhat (Media arrival) = arrival.word < cycle_of arrival.width
+IsFitWhat (Media arrival) = IsFitArrival arrival
 IsFitWhat Control = Unit {0}
 IsFitWhat Keepalive = Unit {0}
 IsFitWhat Refused = Unit {0}

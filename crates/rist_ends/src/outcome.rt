@@ -11,6 +11,4 @@ pub enum Outcome {
     Verdict(Verdict),
     /// The step was made, and there is nothing to say of it.
     Nothing,
-    /// Memory was refused. Nothing was done.
-    Memory,
 }

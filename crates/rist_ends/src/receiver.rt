@@ -3,7 +3,7 @@ ghost use Rattle.std.specs.Prelude.{◌≡◌, ◌<◌};
 use crate::counts::Counts;
 use crate::outcome::Outcome;
 use crate::settings::Settings;
-use crate::stepping::{StepBad, step_buffer};
+use crate::stepping::step_buffer;
 use crate::told::{Told, What};
 use outside_io::{NoMemory, Sink};
 use receiver_rules::Verdict;
@@ -31,17 +31,14 @@ impl Model for Receiver {
 }
 
 impl Receiver {
-    ghost use Rattle.std.specs.Prelude.{◌≡◌, ◌≢◌, ◌≤◌, ◌∷◌, [], List, IfOk};
+    ghost use Rattle.std.specs.Prelude.{◌≡◌, ◌≢◌, ◌≤◌, [], IfOk};
     ghost use Rattle.outside_io.specs.Causes.{RoseWhere};
-    ghost use Rattle.receiver_rules.specs.History.{released_bytes};
-    ghost use Rattle.receiver_rules.specs.ReceiverSteps.{ReceiverStep, buffer_history};
-    ghost use Rattle.outside_io.specs.Told.{Writes, WritesPart};
-    ghost use Rattle.reorder_buffer.specs.declared.phase.Phase.TheVariants.{Open, Failed};
-    ghost use Rattle.rist_ends.specs.Receiver.{IsReceiverAfter, limits_of};
-    ghost use Rattle.rist_ends.specs.Told.{IsFit, input_of, step_of, ended_at};
-    ghost use Rattle.rist_ends.specs.Outcome.{IfStepped, IsSilent, Answers, outcome_of, is_write_fault};
+    ghost use Rattle.reorder_buffer.specs.declared.phase.Phase.TheVariants.{Open};
+    ghost use Rattle.rist_ends.specs.Receiver.{IsReceiverAfter, HasFailed, AnswersStep, GoesOn, Plays, PlaysPart, limits_of};
+    ghost use Rattle.rist_ends.specs.Told.{IsFit, step_of, ended_at};
+    ghost use Rattle.rist_ends.specs.Outcome.{IfStepped, outcome_of, is_write_fault};
     ghost use Rattle.rist_ends.specs.Counts.{counts_with};
-    ghost use Rattle.rist_ends.specs.declared.outcome.Outcome.TheVariants.{Stopped, WriteFault, Memory};
+    ghost use Rattle.rist_ends.specs.declared.outcome.Outcome.TheVariants.{Stopped, WriteFault};
 
     /// A receiver that was told nothing yet.
     pub fn with(alloc: Global, settings: &Settings) -> Result<Receiver, NoMemory>
@@ -60,7 +57,7 @@ impl Receiver {
     }
 
     /// Makes one step. First what is due at its moment is written; then comes the event itself.
-    pub fn step<K: Sink>(&mut self, alloc: Global, told: &Told<'_>, sink: &mut K) -> Outcome
+    pub fn step<K: Sink>(&mut self, told: &Told<'_>, sink: &mut K) -> Outcome
         requires fits { IsFit told.now }
 
         // It answers Stopped exactly where it has ended.
@@ -68,35 +65,30 @@ impl Receiver {
         ensures ended { self.old.buffer.phase ≢ Open → result ≡ Stopped }
 
         // A media packet has the verdict of the history, and nothing else has one.
-        ensures verdict { (history : List ReceiverStep) → IsReceiverAfter self.old history → Answers result self.old.buffer.limits history (step_of told.now) }
+        ensures verdict { AnswersStep self.old (step_of told.now) result }
 
         // A step that was made is one more of the history, and the sink has gained what it releases.
-        ensures state { IfStepped result ((history : List ReceiverStep) → IsReceiverAfter self.old history → IsReceiverAfter self.new (step_of told.now ∷ history)) }
-        ensures sink { IfStepped result ((history : List ReceiverStep) → IsReceiverAfter self.old history → Writes (K.contents sink.old) (K.contents sink.new) (released_bytes self.old.buffer.limits (buffer_history history)) (released_bytes self.old.buffer.limits (buffer_history (step_of told.now ∷ history)))) }
+        ensures state { IfStepped result (GoesOn self.old self.new (step_of told.now)) }
+        ensures sink { IfStepped result (Plays self.old (step_of told.now) (K.contents sink.old) (K.contents sink.new)) }
         ensures phase { IfStepped result (self.new.buffer.phase ≡ ended_at told.now) }
         ensures limits { self.new.buffer.limits ≡ self.old.buffer.limits }
 
         // After a failed write it has ended, the step isn't counted, and the sink has gained a front part.
-        ensures failed { result ≡ WriteFault → self.new.buffer.phase ≡ Failed }
+        ensures failed { result ≡ WriteFault → HasFailed self.new.buffer }
         ensures counts { result ≡ WriteFault → self.new.counts ≡ self.old.counts }
-        ensures part { result ≡ WriteFault → (history : List ReceiverStep) → IsReceiverAfter self.old history → WritesPart (K.contents sink.old) (K.contents sink.new) (released_bytes self.old.buffer.limits (buffer_history history)) (released_bytes self.old.buffer.limits (buffer_history (step_of told.now ∷ history))) }
+        ensures part { result ≡ WriteFault → PlaysPart self.old (step_of told.now) (K.contents sink.old) (K.contents sink.new) }
         ensures cause { RoseWhere (is_write_fault result) (K.faults sink.old) (K.faults sink.new) }
         ensures same { result ≡ Stopped → (self.new ≡ self.old) × (sink.new ≡ sink.old) }
-
-        // Where memory is refused nothing changes. Only a media packet takes any.
-        ensures refused { result ≡ Memory → (self.new ≡ self.old) × (sink.new ≡ sink.old) }
-        ensures memory { result ≡ Memory → IsSilent (input_of told.now.what) → ⊥ }
     {
         if self.buffer.ended() {
             return Outcome::Stopped;
         }
-        match step_buffer(alloc, &mut self.buffer, self.time, told, sink) {
+        match step_buffer(&mut self.buffer, self.time, told, sink) {
             Ok(stepped) => {
                 self.time = stepped.at;
                 self.count(&told.what, stepped.verdict)
             }
-            Err(StepBad::WriteFault) => Outcome::WriteFault,
-            Err(StepBad::Memory) => Outcome::Memory,
+            Err(_) => Outcome::WriteFault,
         }
     }
 

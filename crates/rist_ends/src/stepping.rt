@@ -1,32 +1,21 @@
 //! A receiver's steps on its buffer: at each first what is due is written, and then comes the event.
-ghost use Rattle.std.specs.Prelude.{◌≡◌, ◌<◌, ◌^◌, List, Some, None, IfOk, OnOk, IsErrOf};
-ghost use Rattle.seq_unwrap.specs.Nearest.{cycle_of};
+ghost use Rattle.std.specs.Prelude.{◌≡◌, ◌<◌, ◌^◌, List, Some, None, IfOk, OnOk, OnErr};
+ghost use Rattle.outside_io.specs.Causes.{HasCause};
 ghost use Rattle.receiver_rules.specs.Steps.{Step, media_step, time_step, tick_of};
 ghost use Rattle.receiver_rules.specs.History.{verdict};
 ghost use Rattle.receiver_rules.specs.ReceiverSteps.{buffer_step};
 ghost use Rattle.receiver_rules.specs.Seen.{seen};
 ghost use Rattle.reorder_buffer.specs.StateAfter.{IsStateAfter};
 ghost use Rattle.reorder_buffer.specs.OneMore.{StandsAfter, Releases, ReleasesPart};
-ghost use Rattle.reorder_buffer.specs.declared.phase.Phase.TheVariants.{Open, Ended, Failed};
-ghost use Rattle.rist_ends.specs.Told.{IsFit, input_of, step_of, ended_at, end_at};
-ghost use Rattle.rist_ends.specs.Outcome.{IsSilent};
-ghost use Rattle.rist_ends.specs.Stepping.{HasStepCause, IsMoved, SaysVerdict};
-ghost use Rattle.rist_ends.specs.declared.stepping.StepBad.TheVariants.{WriteFault, Memory};
+ghost use Rattle.reorder_buffer.specs.declared.phase.Phase.TheVariants.{Open, Ended};
+ghost use Rattle.rist_ends.specs.Told.{IsFit, IsFitArrival, step_of, ended_at, end_at};
+ghost use Rattle.rist_ends.specs.Inside.Stepping.{IsMoved, SaysVerdict};
+ghost use Rattle.rist_ends.specs.Receiver.{HasFailed};
 
 use crate::told::{Told, What};
 use outside_io::Sink;
 use receiver_rules::{Arrival, Verdict, tick_of};
-use reorder_buffer::{Buffer, ReceiveBad};
-use std::alloc::Global;
-
-/// Why a step was not made.
-#[derive(Clone, Copy, Debug, PartialEq, Eq)]
-pub enum StepBad {
-    /// A write failed, and the buffer has ended.
-    WriteFault,
-    /// Memory was refused, and nothing changed.
-    Memory,
-}
+use reorder_buffer::{Buffer, WriteFault};
 
 /// A step that was made: the effective time then, and the verdict on a media packet.
 #[derive(Clone, Copy)]
@@ -37,12 +26,11 @@ pub struct Stepped {
 
 /// Makes the step of what is told.
 pub fn step_buffer<K: Sink>(
-    alloc: Global,
     buffer: &mut Buffer,
     now: u64,
     told: &Told<'_>,
     sink: &mut K,
-) -> Result<Stepped, StepBad>
+) -> Result<Stepped, WriteFault>
     requires running { buffer.old.phase ≡ Open }
     requires clock { buffer.old.time ≡ now }
     requires tick { now < 2 ^ 61 }
@@ -52,15 +40,13 @@ pub fn step_buffer<K: Sink>(
     ensures state { OnOk result (StandsAfter buffer.old buffer.new (buffer_step (step_of told.now))) }
     ensures sink { OnOk result (Releases buffer.old (buffer_step (step_of told.now)) (K.contents sink.old) (K.contents sink.new)) }
     ensures limits { buffer.new.limits ≡ buffer.old.limits }
-    ensures failed { IsErrOf result WriteFault → buffer.new.phase ≡ Failed }
-    ensures part { IsErrOf result WriteFault → ReleasesPart buffer.old (buffer_step (step_of told.now)) (K.contents sink.old) (K.contents sink.new) }
-    ensures same { IsErrOf result Memory → (buffer.new ≡ buffer.old) × (sink.new ≡ sink.old) }
-    ensures memory { IsErrOf result Memory → IsSilent (input_of told.now.what) → ⊥ }
-    ensures cause { HasStepCause (K.faults sink.old) (K.faults sink.new) result }
+    ensures failed { OnErr result (HasFailed buffer.new) }
+    ensures part { OnErr result (ReleasesPart buffer.old (buffer_step (step_of told.now)) (K.contents sink.old) (K.contents sink.new)) }
+    ensures cause { HasCause (K.faults sink.old) (K.faults sink.new) result }
 {
     let tick = tick_of(told.us);
     match &told.what {
-        What::Media(arrival) => step_media(alloc, buffer, now, tick, arrival, sink),
+        What::Media(arrival) => step_media(buffer, now, tick, arrival, sink),
         What::End => step_end(buffer, now, tick, sink),
         What::Control | What::Keepalive | What::Refused | What::Tick => {
             step_time(buffer, now, tick, sink)
@@ -70,36 +56,28 @@ pub fn step_buffer<K: Sink>(
 
 /// A step with a media packet.
 fn step_media<K: Sink>(
-    alloc: Global,
     buffer: &mut Buffer,
     now: u64,
     tick: u64,
     arrival: &Arrival<'_>,
     sink: &mut K,
-) -> Result<Stepped, StepBad>
+) -> Result<Stepped, WriteFault>
     requires running { buffer.old.phase ≡ Open }
     requires clock { buffer.old.time ≡ now }
     requires tick { (now < 2 ^ 61) × (tick < 2 ^ 61) }
-    requires word { arrival.now.word < cycle_of arrival.now.width }
+    requires fits { IsFitArrival arrival.now }
     ensures moved { IfOk result (λ s. IsMoved buffer.old buffer.new s.at Open) }
     ensures verdict { IfOk result (λ s. (history : List Step) → IsStateAfter buffer.old history → s.verdict ≡ Some (verdict buffer.old.limits history tick (seen arrival.now))) }
     ensures state { OnOk result (StandsAfter buffer.old buffer.new (media_step tick (seen arrival.now))) }
     ensures sink { OnOk result (Releases buffer.old (media_step tick (seen arrival.now)) (K.contents sink.old) (K.contents sink.new)) }
     ensures limits { buffer.new.limits ≡ buffer.old.limits }
-    ensures failed { IsErrOf result WriteFault → buffer.new.phase ≡ Failed }
-    ensures part { IsErrOf result WriteFault → ReleasesPart buffer.old (media_step tick (seen arrival.now)) (K.contents sink.old) (K.contents sink.new) }
-    ensures same { IsErrOf result Memory → (buffer.new ≡ buffer.old) × (sink.new ≡ sink.old) }
-    ensures cause { HasStepCause (K.faults sink.old) (K.faults sink.new) result }
+    ensures failed { OnErr result (HasFailed buffer.new) }
+    ensures part { OnErr result (ReleasesPart buffer.old (media_step tick (seen arrival.now)) (K.contents sink.old) (K.contents sink.new)) }
+    ensures cause { HasCause (K.faults sink.old) (K.faults sink.new) result }
 {
     let at = now.max(tick);
-    match buffer.receive(alloc, at, arrival, sink) {
-        Ok(verdict) => Ok(Stepped {
-            at,
-            verdict: Some(verdict),
-        }),
-        Err(ReceiveBad::WriteFault) => Err(StepBad::WriteFault),
-        Err(ReceiveBad::NoMemory) => Err(StepBad::Memory),
-    }
+    let verdict = Some(buffer.receive(at, arrival, sink)?);
+    Ok(Stepped { at, verdict })
 }
 
 /// A step with which only time passes.
@@ -108,7 +86,7 @@ fn step_time<K: Sink>(
     now: u64,
     tick: u64,
     sink: &mut K,
-) -> Result<Stepped, StepBad>
+) -> Result<Stepped, WriteFault>
     requires running { buffer.old.phase ≡ Open }
     requires clock { buffer.old.time ≡ now }
     requires tick { (now < 2 ^ 61) × (tick < 2 ^ 61) }
@@ -117,16 +95,13 @@ fn step_time<K: Sink>(
     ensures state { OnOk result (StandsAfter buffer.old buffer.new (time_step tick)) }
     ensures sink { OnOk result (Releases buffer.old (time_step tick) (K.contents sink.old) (K.contents sink.new)) }
     ensures limits { buffer.new.limits ≡ buffer.old.limits }
-    ensures failed { IsErrOf result WriteFault → buffer.new.phase ≡ Failed }
-    ensures part { IsErrOf result WriteFault → ReleasesPart buffer.old (time_step tick) (K.contents sink.old) (K.contents sink.new) }
-    ensures some { IsErrOf result Memory → ⊥ }
-    ensures cause { HasStepCause (K.faults sink.old) (K.faults sink.new) result }
+    ensures failed { OnErr result (HasFailed buffer.new) }
+    ensures part { OnErr result (ReleasesPart buffer.old (time_step tick) (K.contents sink.old) (K.contents sink.new)) }
+    ensures cause { HasCause (K.faults sink.old) (K.faults sink.new) result }
 {
     let at = now.max(tick);
-    match buffer.release(at, sink) {
-        Ok(_) => Ok(Stepped { at, verdict: None }),
-        Err(_) => Err(StepBad::WriteFault),
-    }
+    buffer.release(at, sink)?;
+    Ok(Stepped { at, verdict: None })
 }
 
 /// A step that ends the stream: what is due at its moment goes out, and then all that waits.
@@ -135,7 +110,7 @@ fn step_end<K: Sink>(
     now: u64,
     tick: u64,
     sink: &mut K,
-) -> Result<Stepped, StepBad>
+) -> Result<Stepped, WriteFault>
     requires running { buffer.old.phase ≡ Open }
     requires clock { buffer.old.time ≡ now }
     requires tick { (now < 2 ^ 61) × (tick < 2 ^ 61) }
@@ -144,18 +119,12 @@ fn step_end<K: Sink>(
     ensures state { OnOk result (StandsAfter buffer.old buffer.new (end_at tick)) }
     ensures sink { OnOk result (Releases buffer.old (end_at tick) (K.contents sink.old) (K.contents sink.new)) }
     ensures limits { buffer.new.limits ≡ buffer.old.limits }
-    ensures failed { IsErrOf result WriteFault → buffer.new.phase ≡ Failed }
-    ensures part { IsErrOf result WriteFault → ReleasesPart buffer.old (end_at tick) (K.contents sink.old) (K.contents sink.new) }
-    ensures some { IsErrOf result Memory → ⊥ }
-    ensures cause { HasStepCause (K.faults sink.old) (K.faults sink.new) result }
+    ensures failed { OnErr result (HasFailed buffer.new) }
+    ensures part { OnErr result (ReleasesPart buffer.old (end_at tick) (K.contents sink.old) (K.contents sink.new)) }
+    ensures cause { HasCause (K.faults sink.old) (K.faults sink.new) result }
 {
     let at = now.max(tick);
-    match buffer.release(at, sink) {
-        Ok(_) => {}
-        Err(_) => return Err(StepBad::WriteFault),
-    }
-    match buffer.flush(sink) {
-        Ok(_) => Ok(Stepped { at, verdict: None }),
-        Err(_) => Err(StepBad::WriteFault),
-    }
+    buffer.release(at, sink)?;
+    buffer.flush(sink)?;
+    Ok(Stepped { at, verdict: None })
 }

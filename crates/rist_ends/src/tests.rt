@@ -38,11 +38,7 @@ fn play(alloc: Global, steps: &[Told<'_>], sink: Store8) -> Result<Played, Fail>
     let mut outcomes = Vec::new(alloc);
     let mut sink = sink;
     for told in steps {
-        let outcome = receiver.step(alloc, told, &mut sink);
-        if outcome == Outcome::Memory {
-            return Err(Fail::new("out of memory"));
-        }
-        outcomes.push(outcome)?;
+        outcomes.push(receiver.step(told, &mut sink))?;
     }
     Ok(Played {
         outcomes,
@@ -66,6 +62,7 @@ fn answers(
 
 fn media(flow: u32, us: u64, word: u32, payload: &[u8]) -> Told<'_>
     requires word { (10 ≤ word) × (word < 2 ^ 16) }
+    requires payload { length payload.now ≤ 1500 }
     ensures { IsFit result }
 {
     let arrival = Arrival {
@@ -84,6 +81,7 @@ fn media(flow: u32, us: u64, word: u32, payload: &[u8]) -> Told<'_>
 
 fn brings(us: u64, word: u32, payload: &[u8]) -> Told<'_>
     requires word { (10 ≤ word) × (word < 2 ^ 16) }
+    requires payload { length payload.now ≤ 1500 }
     ensures { IsFit result }
 {
     media(0x1020_3040, us, word, payload)

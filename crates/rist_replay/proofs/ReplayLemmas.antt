@@ -71,23 +71,20 @@ on_made outcomes.Stopped P Q made to stopped = stopped refl
 on_made outcomes.WriteFault P Q made to stopped = tt
 on_made (outcomes.Verdict v) P Q made to stopped = to made
 on_made outcomes.Nothing P Q made to stopped = to made
-on_made outcomes.Memory P Q made to stopped = tt
 
 -- where none was made
-pub on_refused : (o : Outcome) (P : Type 0) → (o ≡ outcomes.WriteFault → P) → (o ≡ outcomes.Memory → P) → OnErr (answer_of o) P
-on_refused outcomes.Stopped P fault memory = tt
-on_refused outcomes.WriteFault P fault memory = fault refl
-on_refused (outcomes.Verdict v) P fault memory = tt
-on_refused outcomes.Nothing P fault memory = tt
-on_refused outcomes.Memory P fault memory = memory refl
+pub on_refused : (o : Outcome) (P : Type 0) → (o ≡ outcomes.WriteFault → P) → OnErr (answer_of o) P
+on_refused outcomes.Stopped P fault = tt
+on_refused outcomes.WriteFault P fault = fault refl
+on_refused (outcomes.Verdict v) P fault = tt
+on_refused outcomes.Nothing P fault = tt
 
--- where memory was refused
-pub on_memory : (o : Outcome) (P : Type 0) → (o ≡ outcomes.Memory → P) → IsErrOf (answer_of o) bads.Memory → P
-on_memory outcomes.Stopped P memory is = cc
-on_memory outcomes.WriteFault P memory is = cc
-on_memory (outcomes.Verdict v) P memory is = cc
-on_memory outcomes.Nothing P memory is = cc
-on_memory outcomes.Memory P memory is = memory refl
+-- a step takes no memory
+pub no_memory : (o : Outcome) (P : Type 0) → IsErrOf (answer_of o) bads.Memory → P
+no_memory outcomes.Stopped P is = cc
+no_memory outcomes.WriteFault P is = cc
+no_memory (outcomes.Verdict v) P is = cc
+no_memory outcomes.Nothing P is = cc
 
 -- a step with this record's item is the record's step
 pub pushed : (session : Session) (done : List Record) (r : Record) (step : ReceiverStep) → step ≡ step_of session r → buffer_history (step ∷ receiver_history session done) ≡ history_of session (done ++ r ∷ [])

@@ -1,9 +1,9 @@
 //! A receiver as a visitor of a capture's records.
-ghost use Rattle.std.specs.Prelude.{◌≡◌, ◌<◌};
+ghost use Rattle.std.specs.Prelude.{◌≡◌, ◌≤◌, ◌<◌, length};
 ghost use Rattle.receiver_rules.specs.Seen.{seen};
 ghost use Rattle.seq_unwrap.specs.Nearest.{cycle_of};
 ghost use Rattle.rist_wire.specs.Media.{content_of};
-ghost use Rattle.rist_ends.specs.Told.{IsFitWhat, input_of};
+ghost use Rattle.rist_ends.specs.Told.{IsFitArrival, IsFitWhat, input_of};
 ghost use Rattle.rist_replay.specs.Steps.{arrival_of, input_read};
 ghost use Rattle.rist_replay.specs.Inside.Visiting.{answer_of};
 
@@ -13,13 +13,10 @@ use outside_io::{Failed, Sink};
 use receiver_rules::Arrival;
 use rist_ends::{Outcome, Receiver, Told, What};
 use rist_wire::{Item, Media, Opener, WireBad};
-use std::alloc::Global;
 
 /// Opens a session's datagrams, and steps their items on a receiver.
 #[derive(Drop)]
 pub struct Replayer {
-    /// What each step takes its memory from.
-    pub alloc: Global,
     /// Takes the datagrams of the session.
     pub opener: Opener,
     /// Is told their items.
@@ -31,6 +28,7 @@ pub struct Replayer {
 // The payload with its null packets in their places: a view of the datagram, or of the block where some were deleted.
 fn content_in<'a>(media: &Media<'a>, block: &'a mut [u8; 1500]) -> &'a [u8]
     ensures value { result.now ≡ content_of media.now }
+    ensures within { length result.now ≤ 1500 }
     // The bits of its number fit their width.
     ensures fits { media.now.word < cycle_of media.now.width }
 {
@@ -44,7 +42,7 @@ fn content_in<'a>(media: &Media<'a>, block: &'a mut [u8; 1500]) -> &'a [u8]
 
 fn arrival_in<'a>(media: &Media<'a>, block: &'a mut [u8; 1500]) -> Arrival<'a>
     ensures value { seen result ≡ arrival_of media.now }
-    ensures fits { result.word < cycle_of result.width }
+    ensures fits { IsFitArrival result }
 {
     Arrival {
         flow: media.flow,
@@ -74,7 +72,6 @@ fn answer_of(outcome: Outcome) -> Result<(), VisitBad>
 {
     match outcome {
         Outcome::WriteFault => Err(VisitBad::WriteFault),
-        Outcome::Memory => Err(VisitBad::Memory),
         Outcome::Stopped | Outcome::Verdict(_) | Outcome::Nothing => Ok(()),
     }
 }
@@ -101,7 +98,7 @@ impl Visitor for Replayer {
             us: head.us,
             what: what_of(&item, &mut self.block),
         };
-        answer_of(self.receiver.step(self.alloc, &told, sink))
+        answer_of(self.receiver.step(&told, sink))
     }
 
     fn finish<K: Sink>(&mut self, sink: &mut K) -> Result<(), Failed> {
@@ -110,7 +107,7 @@ impl Visitor for Replayer {
             us: 0,
             what: What::End,
         };
-        match answer_of(self.receiver.step(self.alloc, &told, sink)) {
+        match answer_of(self.receiver.step(&told, sink)) {
             Ok(()) => Ok(()),
             Err(_) => Err(Failed),
         }

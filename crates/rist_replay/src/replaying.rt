@@ -47,7 +47,6 @@ pub fn replay<S: Source, K: Sink>(
         Err(_) => return Err(WalkBad::Memory),
     };
     let mut replayer = Replayer {
-        alloc,
         opener,
         receiver,
         block: [0; 1500],

@@ -21,4 +21,3 @@ answer_of outcomes.Stopped = Ok tt
 answer_of outcomes.WriteFault = Err bads.WriteFault
 answer_of (outcomes.Verdict v) = Ok tt
 answer_of outcomes.Nothing = Ok tt
-answer_of outcomes.Memory = Err bads.Memory

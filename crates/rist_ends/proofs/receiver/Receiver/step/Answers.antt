@@ -10,7 +10,7 @@ use Rattle.reorder_buffer.proofs.PhaseLemmas.{not_failed}
 use Rattle.rist_ends.specs.Receiver.{ReceiverState, IsReceiverAfter}
 use Rattle.rist_ends.specs.Counts.{AreCountsOf}
 use Rattle.rist_ends.specs.Told.{step_of, input_of}
-use Rattle.rist_ends.specs.Stepping.{SaysVerdictOn}
+use Rattle.rist_ends.specs.Inside.Stepping.{SaysVerdictOn}
 use Rattle.rist_ends.specs.Outcome.{Answers}
 use Rattle.rist_ends.proofs.CountLemmas.{counted}
 use Rattle.rist_ends.proofs.OutcomeLemmas.{answers_told, on_stepped}

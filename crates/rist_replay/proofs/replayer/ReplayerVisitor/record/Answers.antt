@@ -12,7 +12,7 @@ use Rattle.rist_replay.specs.Steps.{step_of, input_read, receiver_history, histo
 use Rattle.rist_replay.specs.Inside.Visiting.{HasReplayed}
 use Rattle.rist_replay.specs.Replay.{released_so_far}
 use Rattle.rist_ends.specs.Receiver.{IsReceiverAfter}
-use Rattle.rist_replay.proofs.ReplayLemmas.{on_made, on_refused, on_memory, pushed, wrote_nothing}
+use Rattle.rist_replay.proofs.ReplayLemmas.{on_made, on_refused, no_memory, pushed}
 use Rattle.rist_replay.proofs.replayer.ReplayerVisitor.record.Goals as goal
 
 pub returns-clause-sink : goal.returns-clause-sink
@@ -40,12 +40,7 @@ returns-clause-part g c =
     let P : Type 0 = (done : List Record) → HasReplayed session c.args.self.now.receiver done → WritesPart (g.K.Sink.contents c.args.sink.now) (g.K.Sink.contents c.step.new.sink) (released_so_far session limits done) (released_so_far session limits (done ++ r ∷ [])) in
     subst (λ o. OnErr o P) (sym c.answer_of.ensures.value)
     (on_refused c.step.result P
-    (λ fault done has. subst (λ h. WritesPart (g.K.Sink.contents c.args.sink.now) (g.K.Sink.contents c.step.new.sink) (released_bytes limits (history_of session done)) (released_bytes limits h)) (pushed session done r step is) (c.step.ensures.part fault (receiver_history session done) has.state))
-    (λ memory done has. subst (λ k. WritesPart (g.K.Sink.contents c.args.sink.now) (g.K.Sink.contents k) (released_bytes limits (history_of session done)) (released_bytes limits (history_of session (done ++ r ∷ [])))) (sym (c.step.ensures.refused memory).1)
-    (wrote_nothing limits session done r (g.K.Sink.contents c.args.sink.now))))
+    (λ fault done has. subst (λ h. WritesPart (g.K.Sink.contents c.args.sink.now) (g.K.Sink.contents c.step.new.sink) (released_bytes limits (history_of session done)) (released_bytes limits h)) (pushed session done r step is) (c.step.ensures.part fault (receiver_history session done) has.state)))
 
 pub returns-clause-none : goal.returns-clause-none
-returns-clause-none g c is =
-    on_memory c.step.result (g.K.Sink.contents c.step.new.sink ≡ g.K.Sink.contents c.args.sink.now)
-    (λ memory. ap g.K.Sink.contents (c.step.ensures.refused memory).1)
-    (sym c.answer_of.ensures.value ∙ is)
+returns-clause-none g c is = no_memory c.step.result (g.K.Sink.contents c.step.new.sink ≡ g.K.Sink.contents c.args.sink.now) (sym c.answer_of.ensures.value ∙ is)

@@ -1,6 +1,5 @@
--- What one step does to the buffer, and why it may fail.
-use Rattle.std.specs.Prelude.{◌≡◌, ◌<◌, ◌^◌, ℕ, List, Option, None, Some, Bool, true, false, Result, Ok, Err}
-use Rattle.outside_io.specs.Causes.{RoseWhere}
+-- What one step does to the buffer.
+use Rattle.std.specs.Prelude.{◌≡◌, ◌<◌, ◌^◌, ℕ, List, Option, None, Some}
 use Rattle.receiver_rules.specs.declared.limits.Limits.{Limits}
 use Rattle.receiver_rules.specs.declared.verdict.Verdict.{Verdict}
 use Rattle.receiver_rules.specs.Steps.{Step}
@@ -9,18 +8,6 @@ use Rattle.receiver_rules.specs.ReceiverSteps.{Input, Media, Control, Keepalive,
 use Rattle.reorder_buffer.specs.State.{State}
 use Rattle.reorder_buffer.specs.declared.phase.Phase.{Phase}
 use Rattle.reorder_buffer.specs.declared.phase.Phase.TheVariants.{Open}
-use Rattle.rist_ends.specs.declared.stepping.StepBad.{StepBad}
-use Rattle.rist_ends.specs.declared.stepping.StepBad.TheVariants.{WriteFault, Memory}
-
--- a write failed
-abbrev pub is_write_fault : {T : Type 0} → Result T StepBad → Bool
-is_write_fault (Ok x) = false
-is_write_fault (Err WriteFault) = true
-is_write_fault (Err Memory) = false
-
--- the count rose exactly where a write failed
-abbrev pub HasStepCause : {T : Type 0} → ℕ → ℕ → Result T StepBad → Type 0
-HasStepCause before now result = RoseWhere (is_write_fault result) before now
 
 -- the buffer is in this phase, and where it goes on it stands at this effective time
 pub record IsMoved (old new : State) (at : ℕ) (then : Phase) : Type 0 where
