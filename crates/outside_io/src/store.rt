@@ -29,7 +29,8 @@ impl Model for Store8 {
 impl Store8 {
     /// Takes its room when it is made. The calls that are to fail are listed by their places, from 0.
     pub fn with(alloc: Global, room: usize, failing: &[u64]) -> Result<Store8, NoMemory>
-        ensures value { IfOk result (λ sink. sink ≡ record { contents = []; room = room; calls = no_calls failing.now }) }
+        ensures value { IfOk result (λ sink. sink
+            ≡ record { contents = []; room = room; calls = no_calls failing.now }) }
     {
         Ok(Store8 {
             octets: Vec::with_capacity(alloc, room)?,
@@ -76,11 +77,15 @@ impl Sink for Store8 {
         ensures same { self.new.room ≡ self.old.room }
         // A call that is to fail takes nothing, and any other the front part that has room.
         ensures failed { FailsNext self.old.calls → self.new.contents ≡ self.old.contents }
-        ensures front { (FailsNext self.old.calls → ⊥) → self.new.contents ≡ self.old.contents ++ take (self.old.room - length self.old.contents) piece.now }
+        ensures front { (FailsNext self.old.calls → ⊥)
+            → self.new.contents ≡ self.old.contents
+            ++ take (self.old.room - length self.old.contents) piece.now }
         ensures calls { CountsCall self.old.calls self.new.calls result }
         // It fails exactly where the call is to fail or the piece has no room.
-        ensures refused { OnErr result (FailsNext self.old.calls ⊎ (self.old.room < length self.old.contents + length piece.now)) }
-        ensures complete { OnOk result ((FailsNext self.old.calls → ⊥) × (length self.old.contents + length piece.now ≤ self.old.room)) }
+        ensures refused { OnErr result (FailsNext self.old.calls
+            ⊎ (self.old.room < length self.old.contents + length piece.now)) }
+        ensures complete { OnOk result ((FailsNext self.old.calls → ⊥)
+            × (length self.old.contents + length piece.now ≤ self.old.room)) }
     {
         if self.calls.next_fails() {
             self.calls.count_fault();

@@ -109,7 +109,8 @@ impl ScriptLink {
 
     /// The channel and the octets of a datagram that was taken, by its place from 0.
     pub fn taken(&self, place: usize) -> Option<(Channel, &[u8])>
-        ensures value { option_map (λ d. record { channel = d.0; octets = d.1.now }) result ≡ slice_get self.now.taken place }
+        ensures value { option_map (λ d. record { channel = d.0; octets = d.1.now }) result
+            ≡ slice_get self.now.taken place }
     {
         match self.taken.get(place) {
             Some(taken) => Some((taken.channel, &taken.block[..taken.length])),

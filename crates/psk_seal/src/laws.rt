@@ -13,5 +13,6 @@ pub fn pairs_differ()
 
 /// Sixteen words give one list of nonces.
 pub fn one_list_of_nonces()
-    ensures { (words xs ys : List ℕ) → GiveNonces words xs NONCE_COUNT → GiveNonces words ys NONCE_COUNT → xs ≡ ys }
+    ensures { (words xs ys : List ℕ) → GiveNonces words xs NONCE_COUNT → GiveNonces words ys NONCE_COUNT
+        → xs ≡ ys }
 {}

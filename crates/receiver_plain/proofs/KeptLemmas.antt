@@ -5,7 +5,7 @@ use Rattle.std.specs.List.{list_any, insert, position_or_len}
 use Rattle.receiver_rules.specs.declared.limits.Limits.{Limits}
 use Rattle.receiver_rules.specs.declared.anchor.Anchor.{Anchor}
 use Rattle.receiver_plain.specs.declared.kept.Kept.{Kept}
-use Rattle.receiver_rules.specs.declared.place.Place.{Place}
+use Rattle.receiver_rules.specs.declared.place.Position.{Position}
 use Rattle.receiver_rules.specs.Steps.{Arrival}
 use Rattle.receiver_rules.specs.Packets.{Packet, Moment, is_due_by, distance, is_played_out, is_behind_playout, is_duplicate, is_beyond_capacity, insert_by_number, verdict_of, first_verdict, tests_of, placed_packet, highest_of}
 use Rattle.receiver_rules.specs.Seen.{packet_at, IsPlaceOf}
@@ -28,14 +28,14 @@ pub span_plain : (limits : Limits) (m : Moment) (n : ℕ) (ks : List Kept) → l
 span_plain limits m n ks = sym (any_kept (λ k. not (is_played_out (kept_packets ks) m k) && nat_le limits.capacity (distance k.number n)) ks)
 
 -- the verdict by number and deadline is that on the arrival
-pub judged_plain : (limits : Limits) (anchor : Anchor) (ks : List Packet) (t : ℕ) (arrival : Arrival) (place : Place) → IsPlaceOf place (placed_packet limits anchor (highest_of ks) arrival)
+pub judged_plain : (limits : Limits) (anchor : Anchor) (ks : List Packet) (t : ℕ) (arrival : Arrival) (place : Position) → IsPlaceOf place (placed_packet limits anchor (highest_of ks) arrival)
     → first_verdict (tests_of limits anchor ks t arrival.flow (at_deadline place.number place.deadline)) ≡ verdict_of limits anchor ks t arrival
 judged_plain limits anchor ks t arrival place is =
     ap (λ n. first_verdict (tests_of limits anchor ks t arrival.flow (at_deadline n place.deadline))) is.number
     ∙ ap (λ d. first_verdict (tests_of limits anchor ks t arrival.flow (at_deadline (placed_packet limits anchor (highest_of ks) arrival).number d))) is.deadline
 
 -- a packet stands at its place
-pub packet_plain : (place : Place) (p : Packet) → IsPlaceOf place p → packet_at place p.payload ≡ p
+pub packet_plain : (place : Position) (p : Packet) → IsPlaceOf place p → packet_at place p.payload ≡ p
 packet_plain place p is =
     λ i. record { number = is.number i; timestamp = is.timestamp i; deadline = is.deadline i; payload = p.payload }
 

@@ -8,14 +8,14 @@ ghost use Rattle.receiver_rules.specs.Bounds.{AreInRange};
 ghost use Rattle.receiver_plain.specs.Told.{payload_of};
 ghost use Rattle.receiver_plain.specs.Inside.Kept.{kept_packet, kept_packets, at_number, at_deadline};
 
-use receiver_rules::place::Place;
+use receiver_rules::place::Position;
 use receiver_rules::{Anchor, Arrival, Limits, Verdict};
 use std::alloc::{AllocError, Global};
 
 /// A packet that was kept.
 #[derive(Clone, Copy)]
 pub struct Kept<'a> {
-    pub place: Place,
+    pub place: Position,
     pub payload: &'a [u8],
 }
 
@@ -25,7 +25,7 @@ pub fn judge_arrival(
     kept: &[Kept<'_>],
     t: u64,
     arrival: &Arrival<'_>,
-    place: &Place,
+    place: &Position,
 ) -> Verdict
     requires limits { AreInRange limits.now }
     requires moment { t < 2 ^ 61 }
@@ -42,7 +42,7 @@ fn judge(
     kept: &[Kept<'_>],
     t: u64,
     flow: u32,
-    place: &Place,
+    place: &Position,
 ) -> Verdict
     requires limits { AreInRange limits.now }
     requires moment { t < 2 ^ 61 }

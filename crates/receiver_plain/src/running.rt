@@ -14,7 +14,7 @@ ghost use Rattle.receiver_plain.specs.Inside.Run.{kept_with, ordered_with, IsSma
 
 use crate::kept::{Kept, insert_in_order, judge_arrival};
 use crate::steps::{Event, Step};
-use receiver_rules::place::{Place, highest_after, new_anchor, place_of};
+use receiver_rules::place::{Position, highest_after, new_anchor, place_of};
 use receiver_rules::{Anchor, Arrival, Highest, Limits, Verdict};
 use std::alloc::{AllocError, Global};
 
@@ -108,7 +108,7 @@ fn first_of(first: Option<Anchor>, time: u64, arrival: &Arrival<'_>) -> Anchor
 fn settle<'a>(
     run: &mut Run<'a>,
     verdict: Verdict,
-    place: Place,
+    place: Position,
     payload: &'a [u8],
 ) -> Result<(), AllocError>
     requires known { run.old.highest ≡ highest_of (kept_packets run.old.kept.items) }
@@ -126,7 +126,7 @@ fn settle<'a>(
 }
 
 /// Puts a packet before those that were kept, and at its place among those in order.
-fn keep<'a>(run: &mut Run<'a>, place: Place, payload: &'a [u8]) -> Result<(), AllocError>
+fn keep<'a>(run: &mut Run<'a>, place: Position, payload: &'a [u8]) -> Result<(), AllocError>
     ensures { OnOk result (IsKeptAfter (packet_at place payload.now) run.old run.new) }
 {
     let packet = Kept { place, payload };

@@ -4,7 +4,7 @@ use Rattle.receiver_rules.specs.Steps.{Arrival}
 use Rattle.receiver_rules.specs.Packets.{Packet, higher, Moment, At, Ever}
 use Rattle.receiver_rules.specs.declared.anchor.Highest.{Highest}
 use Rattle.receiver_rules.specs.declared.arrival.Arrival.{Arrival as Offered}
-use Rattle.receiver_rules.specs.declared.place.Place.{Place}
+use Rattle.receiver_rules.specs.declared.place.Position.{Position}
 
 -- an arrival as the rules see it
 abbrev pub seen : Offered → Arrival
@@ -16,11 +16,11 @@ moment_of None = Ever
 moment_of (Some t) = At t
 
 -- the packet at a place
-abbrev pub packet_at : Place → List ℕ → Packet
+abbrev pub packet_at : Position → List ℕ → Packet
 packet_at place payload = record { number = place.number; timestamp = place.timestamp; deadline = place.deadline; payload = payload }
 
 -- the place of a packet
-pub record IsPlaceOf (place : Place) (p : Packet) : Type 0 where
+pub record IsPlaceOf (place : Position) (p : Packet) : Type 0 where
   pub number : place.number ≡ p.number
   pub timestamp : place.timestamp ≡ p.timestamp
   pub deadline : place.deadline ≡ p.deadline

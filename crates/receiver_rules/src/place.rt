@@ -13,7 +13,7 @@ use seq_unwrap::{Width, nearest};
 
 /// Where an arrival belongs in its flow.
 #[derive(Clone, Copy)]
-pub struct Place {
+pub struct Position {
     /// The extended sequence number.
     pub number: u64,
     /// The extended RTP timestamp, in ticks.
@@ -22,7 +22,7 @@ pub struct Place {
     pub deadline: i64,
 }
 
-impl Place {
+impl Position {
     ghost use Rattle.std.specs.Prelude.{◌≡◌, ◌^◌, ◌<◌};
     ghost use Rattle.std.specs.Option.{ForSome};
     ghost use Rattle.receiver_rules.specs.Packets.{is_due_by};
@@ -70,7 +70,7 @@ pub fn place_of(
     anchor: &Anchor,
     highest: Option<Highest>,
     arrival: &Arrival<'_>,
-) -> Place
+) -> Position
     requires limits { AreInRange limits.now }
     requires anchor { anchor.now.time < 2 ^ 61 }
     requires start { anchor.now.timestamp < 2 ^ 41 }
@@ -81,7 +81,7 @@ pub fn place_of(
     let number = extended_number(highest, arrival);
     let timestamp = extended_timestamp(highest, arrival);
     let deadline = deadline(limits, anchor, timestamp);
-    Place {
+    Position {
         number,
         timestamp,
         deadline,

@@ -8,7 +8,7 @@ use Rattle.receiver_rules.specs.declared.limits.Limits.{Limits}
 use Rattle.receiver_rules.specs.Steps.{Arrival, Step, effective_time, media_step, time_step}
 use Rattle.receiver_rules.specs.Packets.{Packet, At, is_kept, verdict_of, placed_packet}
 use Rattle.receiver_rules.specs.Seen.{packet_at, IsPlaceOf}
-use Rattle.receiver_rules.specs.declared.place.Place.{Place}
+use Rattle.receiver_rules.specs.declared.place.Position.{Position}
 use Rattle.receiver_rules.specs.declared.anchor.Anchor.{Anchor}
 use Rattle.receiver_rules.specs.History.{new_anchor, anchor_of, accepted_packets, verdict, released_bytes}
 use Rattle.receiver_rules.proofs.HistoryLemmas.{played_out_arrival}

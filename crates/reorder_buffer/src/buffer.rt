@@ -4,7 +4,7 @@ use crate::phase::{Phase, WriteFault};
 use crate::release::put_below;
 use crate::ring::{MAX_PAYLOAD, Ring};
 use outside_io::{NoMemory, Sink};
-use receiver_rules::place::{Place, highest_after, new_anchor, place_of};
+use receiver_rules::place::{Position, highest_after, new_anchor, place_of};
 use receiver_rules::{Anchor, Arrival, Highest, Limits, Verdict};
 use std::alloc::Global;
 use std::marker::Model;
@@ -256,7 +256,7 @@ impl Buffer {
     }
 
     /// An arrival's place in the flow.
-    fn place(&self, anchor: &Anchor, arrival: &Arrival<'_>) -> Place
+    fn place(&self, anchor: &Anchor, arrival: &Arrival<'_>) -> Position
         requires anchor { anchor.now.time < 2 ^ 61 }
         requires start { anchor.now.timestamp < 2 ^ 41 }
         requires word { arrival.now.word < cycle_of arrival.now.width }
@@ -267,7 +267,7 @@ impl Buffer {
     }
 
     /// The first test that fits.
-    fn verdict(&self, anchor: &Anchor, at: u64, flow: u32, place: &Place) -> Verdict
+    fn verdict(&self, anchor: &Anchor, at: u64, flow: u32, place: &Position) -> Verdict
         requires { at < 2 ^ 61 }
         ensures { result ≡ verdict_here self.now anchor.now at flow place.now.number place.now.deadline }
     {
@@ -291,7 +291,7 @@ impl Buffer {
     }
 
     /// Puts a packet among those that wait.
-    fn hold(&mut self, place: &Place, payload: &[u8])
+    fn hold(&mut self, place: &Position, payload: &[u8])
         requires fits { IsAdmissible self.old (packet_at place.now payload.now) }
         requires payload { length payload.now ≤ MAX_PAYLOAD }
         ensures { self.new ≡ holding self.old (packet_at place.now payload.now) }
@@ -314,11 +314,13 @@ impl Buffer {
         requires { ForSome until (λ t. t < 2 ^ 61) }
         ensures ok { OnOk result (self.new ≡ raised self.old (floor_then self.old (moment_of until))) }
         ensures sink { OnOk result (Appends (K.contents sink.old) (K.contents sink.new) (octets_below (floor_then self.old (moment_of until)) self.old.held)) }
-        ensures count { IfOk result (λ n. n ≡ length (filter (is_below (floor_then self.old (moment_of until))) self.old.held)) }
+        ensures count { IfOk result (λ n. n
+            ≡ length (filter (is_below (floor_then self.old (moment_of until))) self.old.held)) }
         ensures err { OnErr result (self.new ≡ failed self.old) }
         ensures limits { self.new.limits ≡ self.old.limits }
         ensures part { OnErr result (AppendsPart (K.contents sink.old) (K.contents sink.new) (octets_below (floor_then self.old (moment_of until)) self.old.held)) }
-        ensures complete { octets_below (floor_then self.old (moment_of until)) self.old.held ≡ [] → IsOk result }
+        ensures complete { octets_below (floor_then self.old (moment_of until)) self.old.held ≡ []
+            → IsOk result }
         ensures cause { HasCause (K.faults sink.old) (K.faults sink.new) result }
     {
         let floor = self.floor.max(self.ring.floor_by(until));

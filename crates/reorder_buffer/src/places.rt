@@ -13,7 +13,8 @@ use deadline_index::{DeadlineIndex, NEVER};
 pub fn floor_at(places: &[Option<Held>], index: &DeadlineIndex, low: u64, at: u64) -> u64
     requires around { IsAround low places.now index.now }
     requires tick { at < 2 ^ 61 }
-    ensures { (blocks : List (List ℕ)) → length blocks ≡ length places.now → result ≡ playout_floor (packets_in places.now blocks) (At at) }
+    ensures { (blocks : List (List ℕ)) → length blocks ≡ length places.now
+        → result ≡ playout_floor (packets_in places.now blocks) (At at) }
 {
     let start = (low % places.len() as u64) as usize;
     let last = match index.last_by(start, at) {
@@ -29,7 +30,8 @@ pub fn floor_at(places: &[Option<Held>], index: &DeadlineIndex, low: u64, at: u6
 /// The lowest number, where none is below this one.
 pub fn lowest_from(places: &[Option<Held>], index: &DeadlineIndex, low: u64) -> Option<u64>
     requires { IsAround low places.now index.now }
-    ensures { (blocks : List (List ℕ)) → length blocks ≡ length places.now → IsRising 0 (packets_in places.now blocks) → result ≡ first_number (packets_in places.now blocks) }
+    ensures { (blocks : List (List ℕ)) → length blocks ≡ length places.now
+        → IsRising 0 (packets_in places.now blocks) → result ≡ first_number (packets_in places.now blocks) }
 {
     let start = (low % places.len() as u64) as usize;
     let first = match index.first_by(start, NEVER - 1) {

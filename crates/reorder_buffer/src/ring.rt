@@ -9,7 +9,7 @@ ghost use Rattle.reorder_buffer.specs.Inside.Ring.{first_number, after_first, fi
 
 use crate::places::{floor_at, lowest_from};
 use deadline_index::{DeadlineIndex, NEVER};
-use receiver_rules::place::Place;
+use receiver_rules::place::Position;
 use std::alloc::{AllocError, Global};
 use std::marker::Model;
 
@@ -144,14 +144,15 @@ impl Ring {
     }
 
     /// Puts a packet at its place, which is free.
-    pub fn put(&mut self, place: &Place, payload: &[u8])
+    pub fn put(&mut self, place: &Position, payload: &[u8])
         requires number { place.now.number < 2 ^ 62 }
         requires positive { int_lt place.now.deadline (pos 0) ≡ false }
         requires soon { int_lt place.now.deadline (pos (2 ^ 62)) ≡ true }
         requires payload { length payload.now ≤ MAX_PAYLOAD }
         requires new { list_any (λ p. p.number == place.now.number) self.old.packets ≡ false }
         requires near { list_any (λ p. nat_le self.old.capacity (distance p.number place.now.number)) self.old.packets ≡ false }
-        ensures packets { self.new.packets ≡ insert_by_number (packet_at place.now payload.now) self.old.packets }
+        ensures packets { self.new.packets
+            ≡ insert_by_number (packet_at place.now payload.now) self.old.packets }
         ensures capacity { self.new.capacity ≡ self.old.capacity }
     {
         let free = self.place_of(place.number);

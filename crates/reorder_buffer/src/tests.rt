@@ -6,8 +6,8 @@ ghost use Rattle.receiver_plain.specs.Told.{IsFit};
 
 use crate::{Arrival, Buffer, MAX_PAYLOAD, Phase, Verdict, WriteFault};
 use outside_io::Store8;
-use receiver_rules::Limits;
 use receiver_plain::{Event, Step, released, verdicts};
+use receiver_rules::Limits;
 use seq_unwrap::Width;
 use std::alloc::{AllocError, Global};
 use std::test::Fail;

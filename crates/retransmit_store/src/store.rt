@@ -58,7 +58,8 @@ impl Store {
         requires next { IsNext self.old.packets sent.number }
         ensures value { self.new ≡ record { size = self.old.size; packets = take self.old.size (record { sent = sent; mark = None } ∷ self.old.packets) } }
         ensures next { IsNext self.new.packets (sent.number + 1) }
-        ensures history { (history : List Sending) → IsStoreAfter self.old history → IsStoreAfter self.new (First sent ∷ history) }
+        ensures history { (history : List Sending) → IsStoreAfter self.old history
+            → IsStoreAfter self.new (First sent ∷ history) }
     {
         self.packets.push_front(Stored { sent, mark: None });
     }
@@ -67,7 +68,8 @@ impl Store {
     pub fn find(&self, width: Width, word: u32) -> Option<u64>
         requires { word < cycle_of width }
         ensures value { result ≡ option_map (λ p. p.number) (packet_for (packets_in self.now) width word) }
-        ensures history { (history : List Sending) → IsStoreAfter self.now history → result ≡ option_map (λ p. p.number) (packet_for (stored_packets self.now.size history) width word) }
+        ensures history { (history : List Sending) → IsStoreAfter self.now history
+            → result ≡ option_map (λ p. p.number) (packet_for (stored_packets self.now.size history) width word) }
     {
         self.number_for(width, word)
     }
@@ -75,7 +77,8 @@ impl Store {
     /// The packet with a number, and `None` exactly where it isn't stored.
     pub fn copy(&self, number: u64) -> Option<&Sent>
         ensures value { option_copied result ≡ packet_with (packets_in self.now) number }
-        ensures history { (history : List Sending) → IsStoreAfter self.now history → option_copied result ≡ packet_with (stored_packets self.now.size history) number }
+        ensures history { (history : List Sending) → IsStoreAfter self.now history
+            → option_copied result ≡ packet_with (stored_packets self.now.size history) number }
     {
         self.sent_under(number)
     }
@@ -85,7 +88,8 @@ impl Store {
         requires stored { IsSome (packet_with (packets_in self.old) number) }
         ensures value { self.new ≡ record { size = self.old.size; packets = with_mark number at self.old.packets } }
         ensures next { (n : ℕ) → IsNext self.old.packets n → IsNext self.new.packets n }
-        ensures history { (history : List Sending) → IsStoreAfter self.old history → IsStoreAfter self.new (Again number at ∷ history) }
+        ensures history { (history : List Sending) → IsStoreAfter self.old history
+            → IsStoreAfter self.new (Again number at ∷ history) }
     {
         self.put_mark(number, at);
     }
@@ -93,7 +97,8 @@ impl Store {
     /// The tick at which a packet was last sent again, and `None` exactly where it isn't stored or never was.
     pub fn marked(&self, number: u64) -> Option<u64>
         ensures value { result ≡ mark_in (stored_with self.now.packets number) }
-        ensures history { (history : List Sending) → IsStoreAfter self.now history → result ≡ stored_mark history (packet_with (stored_packets self.now.size history) number) }
+        ensures history { (history : List Sending) → IsStoreAfter self.now history
+            → result ≡ stored_mark history (packet_with (stored_packets self.now.size history) number) }
     {
         self.mark_of(number)
     }

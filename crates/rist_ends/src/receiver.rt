@@ -76,7 +76,8 @@ impl Receiver {
         // After a failed write it has ended, the step isn't counted, and the sink has gained a front part.
         ensures failed { result ≡ WriteFault → HasFailed self.new.buffer }
         ensures counts { result ≡ WriteFault → self.new.counts ≡ self.old.counts }
-        ensures part { result ≡ WriteFault → PlaysPart self.old (step_of told.now) (K.contents sink.old) (K.contents sink.new) }
+        ensures part { result ≡ WriteFault
+            → PlaysPart self.old (step_of told.now) (K.contents sink.old) (K.contents sink.new) }
         ensures cause { RoseWhere (is_write_fault result) (K.faults sink.old) (K.faults sink.new) }
         ensures same { result ≡ Stopped → (self.new ≡ self.old) × (sink.new ≡ sink.old) }
     {

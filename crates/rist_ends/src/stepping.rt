@@ -36,7 +36,8 @@ pub fn step_buffer<K: Sink>(
     requires tick { now < 2 ^ 61 }
     requires fits { IsFit told.now }
     ensures moved { IfOk result (λ s. IsMoved buffer.old buffer.new s.at (ended_at told.now)) }
-    ensures verdict { IfOk result (λ s. (history : List Step) → IsStateAfter buffer.old history → SaysVerdict s.verdict buffer.old.limits history (step_of told.now)) }
+    ensures verdict { IfOk result (λ s. (history : List Step) → IsStateAfter buffer.old history
+        → SaysVerdict s.verdict buffer.old.limits history (step_of told.now)) }
     ensures state { OnOk result (StandsAfter buffer.old buffer.new (buffer_step (step_of told.now))) }
     ensures sink { OnOk result (Releases buffer.old (buffer_step (step_of told.now)) (K.contents sink.old) (K.contents sink.new)) }
     ensures limits { buffer.new.limits ≡ buffer.old.limits }
@@ -67,7 +68,8 @@ fn step_media<K: Sink>(
     requires tick { (now < 2 ^ 61) × (tick < 2 ^ 61) }
     requires fits { IsFitArrival arrival.now }
     ensures moved { IfOk result (λ s. IsMoved buffer.old buffer.new s.at Open) }
-    ensures verdict { IfOk result (λ s. (history : List Step) → IsStateAfter buffer.old history → s.verdict ≡ Some (verdict buffer.old.limits history tick (seen arrival.now))) }
+    ensures verdict { IfOk result (λ s. (history : List Step) → IsStateAfter buffer.old history
+        → s.verdict ≡ Some (verdict buffer.old.limits history tick (seen arrival.now))) }
     ensures state { OnOk result (StandsAfter buffer.old buffer.new (media_step tick (seen arrival.now))) }
     ensures sink { OnOk result (Releases buffer.old (media_step tick (seen arrival.now)) (K.contents sink.old) (K.contents sink.new)) }
     ensures limits { buffer.new.limits ≡ buffer.old.limits }

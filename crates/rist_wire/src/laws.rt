@@ -47,7 +47,8 @@ pub fn media_has_few_octets_of_headers()
 /// No counter block of the cipher is used twice under one nonce, by any two datagrams of one sealer: a datagram's text
 /// has at most 2,048 octets, so 128 blocks.
 pub fn no_counter_block_is_used_twice()
-    ensures { (nonces : List ℕ) (p q j k : ℕ) → AreNonces nonces → p < MAX_PAIRS → q < MAX_PAIRS → j < 128 → k < 128
+    ensures { (nonces : List ℕ) (p q j k : ℕ) → AreNonces nonces → p < MAX_PAIRS → q < MAX_PAIRS → j < 128
+        → k < 128
         → (pair_at nonces p).nonce ≡ (pair_at nonces q).nonce
         → counter_block (first_counter_block (pair_at nonces p).sequence) j
         ≡ counter_block (first_counter_block (pair_at nonces q).sequence) k → (p ≡ q) × (j ≡ k) }

@@ -10,11 +10,15 @@ ghost use Rattle.sender_rules.specs.Stored.{stored_packets, packet_for};
 
 /// Each place below the sum of the weights has exactly one link, and it is the one that `link_at` computes.
 pub fn one_link_has_each_place()
-    ensures { (weights : List ℕ) (place link : ℕ) → place < sum weights → (HasPlace weights place link ↔ (link ≡ link_at weights place)) }
+    ensures { (weights : List ℕ) (place link : ℕ) → place < sum weights
+        → (HasPlace weights place link ↔ (link ≡ link_at weights place)) }
 {}
 
 /// Where sent numbers follow one another, a word finds a stored packet exactly where its number ends in the word: no
 /// other stored packet's number does.
 pub fn a_word_finds_one_packet()
-    ensures { (history : List Sending) (size : ℕ) (width : Width) (place : ℕ) (packet : Packet) → AreNumbered (sent_packets history) → size ≤ MAX_STORED → slice_get (stored_packets size history) place ≡ Some packet → packet_for (stored_packets size history) width (packet.number % cycle_of width) ≡ Some packet }
+    ensures { (history : List Sending) (size : ℕ) (width : Width) (place : ℕ) (packet : Packet)
+        → AreNumbered (sent_packets history) → size ≤ MAX_STORED
+        → slice_get (stored_packets size history) place ≡ Some packet
+        → packet_for (stored_packets size history) width (packet.number % cycle_of width) ≡ Some packet }
 {}

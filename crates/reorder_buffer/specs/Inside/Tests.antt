@@ -1,26 +1,30 @@
 -- The verdict as the buffer's own state shows it.
-use Rattle.std.specs.Prelude.{◌≡◌, ◌<◌, ◌≤◌, true, false, ℕ, ℤ, pos, int_le, int_lt, ◌+◌, ◌*◌, ◌^◌, not, nat_le, nat_lt, ◌==◌, if◌then◌else◌, unwrap_or}
+use Rattle.std.specs.Prelude.{◌≡◌, ◌<◌, ◌≤◌, true, false, ℕ, ℤ, pos, int_le, int_lt, ◌+◌, ◌*◌, ◌^◌, not, nat_le, nat_lt, ◌==◌, unwrap_or}
 use Rattle.std.specs.List.{list_any}
 use Rattle.receiver_rules.specs.declared.verdict.Verdict.{Verdict}
-use Rattle.receiver_rules.specs.declared.verdict.Verdict.TheVariants.{Kept, Stranger, Exhausted, Late, Behind, Early, Twice, Span}
 use Rattle.receiver_rules.specs.declared.anchor.Anchor.{Anchor}
 use Rattle.receiver_rules.specs.Steps.{Arrival}
 use Rattle.receiver_rules.specs.History.{new_anchor}
-use Rattle.receiver_rules.specs.Packets.{Packet, distance, placed_packet}
+use Rattle.receiver_rules.specs.Packets.{Packet, Tests, first_verdict, distance, placed_packet}
 use Rattle.receiver_rules.specs.Bounds.{IsMid}
 use Rattle.reorder_buffer.specs.State.{State}
 
--- the verdict on an arrival of this flow, number and deadline: the first test that fits decides
+-- the tests on an arrival of this flow, number and deadline, by what the state keeps
+abbrev pub tests_here : State → Anchor → ℕ → ℕ → ℕ → ℤ → Tests
+tests_here b anchor t flow number deadline =
+    record {
+      stranger = not (flow == anchor.flow);
+      exhausted = nat_le (2 ^ 62) number;
+      late = int_le deadline (pos t);
+      behind = nat_lt number b.floor;
+      early = int_lt (pos (t + 2 * b.limits.playout_delay)) deadline;
+      twice = list_any (λ p. p.number == number) b.held;
+      span = list_any (λ p. nat_le b.limits.capacity (distance p.number number)) b.held;
+    }
+
+-- the verdict on it
 abbrev pub verdict_here : State → Anchor → ℕ → ℕ → ℕ → ℤ → Verdict
-verdict_here b anchor t flow number deadline =
-    if not (flow == anchor.flow) then Stranger
-    else if nat_le (2 ^ 62) number then Exhausted
-    else if int_le deadline (pos t) then Late
-    else if nat_lt number b.floor then Behind
-    else if int_lt (pos (t + 2 * b.limits.playout_delay)) deadline then Early
-    else if list_any (λ p. p.number == number) b.held then Twice
-    else if list_any (λ p. nat_le b.limits.capacity (distance p.number number)) b.held then Span
-    else Kept
+verdict_here b anchor t flow number deadline = first_verdict (tests_here b anchor t flow number deadline)
 
 -- what deadlines count from at an arrival, which may be the first
 abbrev pub anchor_at : State → ℕ → Arrival → Anchor
