@@ -1,16 +1,16 @@
 -- What a search among the places finds.
-use Rattle.std.proofs.Common.{◌≡◌, ℕ, zero, suc, ◌+◌, ◌-◌, ◌^◌, ◌<◌, ◌≤◌, ◌%◌, ℤ, pos, Bool, true, false, cond, ◌||◌, List, [], ◌∷◌, Option, Some, None, length, map, refl, sym, ◌∙◌, ap, subst, arith, inl, inr}
-use Rattle.std.specs.Prelude.{nat_lt, nat_le, ◌==◌, int_le, slice_index, slice_index_or, IfSome, IfNone}
+use Rattle.std.proofs.Common.{◌≡◌, ℕ, zero, suc, ◌+◌, ◌-◌, ◌^◌, ◌<◌, ◌≤◌, ◌%◌, pos, Bool, true, false, ◌||◌, List, [], ◌∷◌, Option, Some, None, length, map, refl, sym, ◌∙◌, ap, subst, arith, inl, inr}
+use Rattle.std.specs.Prelude.{nat_lt, ◌==◌, slice_index, IfSome, IfNone}
 use Rattle.std.specs.Option.{option_map}
-use Rattle.std.proofs.lemmas.Bool.{cases_lt, eqb-false, or_parts, ltb-false}
+use Rattle.std.proofs.lemmas.Bool.{cases_lt, or_parts, ltb-false}
 use Rattle.std.proofs.lemmas.Bool.Decides.{nat_tests}
 use Rattle.std.proofs.lemmas.Int.{ints}
 use Rattle.std.proofs.lemmas.List.{get_or-map, get_or_past, length-map}
 use Rattle.std.specs.List.{list_any}
 use Rattle.deadline_index.specs.Places.{IsFirstBy, IsLastBy, IsNoneFrom, IsNoneBelow}
-use Rattle.receiver_rules.specs.Packets.{Packet, At, is_due_by, playout_floor, insert_by_number, IsRising}
+use Rattle.receiver_rules.specs.Packets.{Packet, At, is_due_by, playout_floor, IsRising}
 use Rattle.receiver_rules.proofs.PacketLemmas.{any-insert}
-use Rattle.reorder_buffer.specs.Inside.Ring.{packet_of, packets_in, tick_of, first_number, IsPlaced}
+use Rattle.reorder_buffer.specs.Inside.Ring.{packet_of, packets_in, tick_of, first_number}
 use Rattle.reorder_buffer.specs.Inside.Around.{IsAround, floor_of}
 use Rattle.reorder_buffer.specs.declared.ring.Held.{Held}
 use Rattle.reorder_buffer.proofs.PlaceLemmas.{stands_from, stands_wrapped}

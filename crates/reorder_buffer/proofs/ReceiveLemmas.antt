@@ -1,24 +1,18 @@
 -- What is due goes out and then an arrival is judged: as one step of the history.
-use Rattle.std.proofs.Common.{◌≡◌, ◌≢◌, ℕ, ℤ, ◌≤◌, max, Bool, true, false, cond, List, ◌∷◌, Option, unwrap_or, refl, ◌∙◌, ap, map, arith}
-use Rattle.std.specs.Prelude.{Result, Err, IsErrOf}
+use Rattle.std.proofs.Common.{◌≡◌, ℕ, ◌≤◌, max, Bool, true, false, cond, List, ◌∷◌, Option, unwrap_or, refl, ◌∙◌, ap, map, arith}
 use Rattle.std.specs.List.{concat}
 use Rattle.outside_io.specs.Told.{Appends, AppendsPart, Writes, WritesPart}
-use Rattle.receiver_rules.specs.declared.verdict.Verdict.{Verdict}
 use Rattle.receiver_rules.specs.declared.limits.Limits.{Limits}
 use Rattle.receiver_rules.specs.Steps.{Arrival, Step, effective_time, media_step, time_step}
-use Rattle.receiver_rules.specs.Packets.{Packet, At, is_kept, verdict_of, placed_packet}
-use Rattle.receiver_rules.specs.Seen.{packet_at, IsPlaceOf}
-use Rattle.receiver_rules.specs.declared.place.Position.{Position}
-use Rattle.receiver_rules.specs.declared.anchor.Anchor.{Anchor}
+use Rattle.receiver_rules.specs.Packets.{Packet, At, is_kept, verdict_of}
 use Rattle.receiver_rules.specs.History.{new_anchor, anchor_of, accepted_packets, verdict, released_bytes}
 use Rattle.receiver_rules.proofs.HistoryLemmas.{played_out_arrival}
 use Rattle.reorder_buffer.specs.State.{State}
 use Rattle.reorder_buffer.specs.StateAfter.{Shows, IsStateAfter}
-use Rattle.reorder_buffer.specs.Inside.Tests.{judged, verdict_here, anchor_at, placed_at}
+use Rattle.reorder_buffer.specs.Inside.Tests.{judged, anchor_at, placed_at}
 use Rattle.reorder_buffer.specs.Inside.Changes.{holding, moved, taken, raised}
 use Rattle.reorder_buffer.specs.Inside.Release.{floor_then, octets_below}
-use Rattle.reorder_buffer.specs.declared.phase.Phase.{Phase}
-use Rattle.reorder_buffer.specs.declared.phase.Phase.TheVariants.{Open, Failed}
+use Rattle.reorder_buffer.specs.declared.phase.Phase.TheVariants.{Open}
 use Rattle.reorder_buffer.proofs.StateAfterLemmas.{Arrives, verdict_after_steps, state_after_arrival, shows_arrival, still_open}
 use Rattle.reorder_buffer.proofs.ReleaseLemmas.{timed, pass_follows, shows_pass, written_then, part_then}
 use Rattle.reorder_buffer.proofs.PhaseLemmas.{not_failed}

@@ -1,5 +1,5 @@
 -- A floor that rises: the state stays sound, and shows the history with one more step.
-use Rattle.std.proofs.Common.{◌≡◌, ◌≢◌, ℕ, ◌+◌, ◌^◌, ◌≤◌, max, Bool, true, false, cond, not, List, [], ◌∷◌, ◌++◌, Option, length, refl, sym, ◌∙◌, ap, subst, map, arith, append_assoc, length-append}
+use Rattle.std.proofs.Common.{◌≡◌, ℕ, ◌+◌, ◌^◌, ◌≤◌, max, Bool, true, false, cond, not, List, [], ◌∷◌, ◌++◌, Option, length, refl, sym, ◌∙◌, ap, subst, map, arith, append_assoc, length-append}
 use Rattle.std.proofs.lemmas.List.{nil_from_length}
 use Rattle.std.specs.Prelude.{nat_lt}
 use Rattle.std.proofs.lemmas.Bool.{ltb-false}
@@ -16,8 +16,7 @@ use Rattle.reorder_buffer.specs.Inside.Changes.{raised}
 use Rattle.reorder_buffer.specs.Inside.Sound.{IsSound}
 use Rattle.reorder_buffer.specs.Inside.Span.{AllBelow, IsWithin}
 use Rattle.reorder_buffer.specs.Inside.Release.{octets_below, floor_then}
-use Rattle.reorder_buffer.specs.declared.phase.Phase.{Phase}
-use Rattle.reorder_buffer.specs.declared.phase.Phase.TheVariants.{Open, Ended, Failed}
+use Rattle.reorder_buffer.specs.declared.phase.Phase.TheVariants.{Open, Ended}
 use Rattle.reorder_buffer.proofs.StateAfterLemmas.{still_open}
 use Rattle.reorder_buffer.proofs.PhaseLemmas.{not_failed}
 

@@ -1,9 +1,9 @@
 -- A packet is put into a ring, and the first is taken out.
-use Rattle.std.proofs.Common.{◌≡◌, ◌≢◌, ℕ, zero, suc, ◌+◌, ◌-◌, ◌^◌, ◌<◌, ◌≤◌, ◌%◌, ℤ, pos, min, max, Bool, true, false, cond, ◌||◌, List, [], ◌∷◌, Option, Some, None, length, map, take, replicate, refl, sym, ◌∙◌, ap, subst, arith, inl, inr}
+use Rattle.std.proofs.Common.{◌≡◌, ◌≢◌, ℕ, zero, suc, ◌+◌, ◌-◌, ◌^◌, ◌<◌, ◌≤◌, ◌%◌, ℤ, pos, max, Bool, true, false, cond, List, [], ◌∷◌, Option, Some, None, length, map, take, replicate, refl, sym, ◌∙◌, ap, subst, arith, inl, inr}
 use Rattle.std.specs.Prelude.{nat_lt, nat_le, ◌==◌, int_lt, slice_index_or, slice_set}
 use Rattle.std.specs.Option.{ForSome}
 use lib.IntN.{negsuc, nat_abs}
-use Rattle.std.proofs.lemmas.Bool.{cases_eq, cases_lt, ltb-false, ltb-true, leb-false, or_parts}
+use Rattle.std.proofs.lemmas.Bool.{cases_eq, cases_lt, leb-false}
 use Rattle.std.proofs.lemmas.Bool.Decides.{nat_tests}
 use Rattle.std.proofs.lemmas.List.{length-set, set-set, set-get_or, get_or-set_same, get_or-set_other, map-set, get_or_read, length-replicate}
 use Rattle.std.proofs.lemmas.Nat.{mod_below}
@@ -12,8 +12,8 @@ use Rattle.std.specs.List.{list_any}
 use Rattle.receiver_rules.specs.Packets.{Packet, distance, insert_by_number, IsRising}
 use Rattle.receiver_rules.specs.Seen.{packet_at}
 use Rattle.receiver_rules.proofs.PacketLemmas.{any-insert, rising-insert, rising_lower}
-use Rattle.reorder_buffer.specs.Inside.Span.{AllBelow, IsWithin}
-use Rattle.reorder_buffer.specs.Inside.Ring.{packet_of, packets_in, tick_of, first_number, last_number, ends_of, ends_and, ends_from, after_first, IsPlaced, IsRing}
+use Rattle.reorder_buffer.specs.Inside.Span.{IsWithin}
+use Rattle.reorder_buffer.specs.Inside.Ring.{packet_of, packets_in, tick_of, first_number, last_number, ends_of, ends_and, ends_from, IsPlaced, IsRing}
 use Rattle.reorder_buffer.specs.Inside.Around.{IsAround}
 use Rattle.reorder_buffer.specs.declared.ring.Held.{Held}
 use Rattle.reorder_buffer.specs.declared.ring.Ends.{Ends}

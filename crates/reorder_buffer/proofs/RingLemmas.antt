@@ -1,13 +1,11 @@
 -- The packets of places.
-use Rattle.std.proofs.Common.{◌≡◌, ℕ, zero, suc, ◌+◌, ◌-◌, ◌^◌, ◌<◌, ◌≤◌, ◌%◌, ℤ, pos, max, Bool, true, false, cond, ◌||◌, List, [], ◌∷◌, Option, Some, None, length, map, take, refl, sym, ◌∙◌, ap, subst, arith, inl, inr}
-use Rattle.std.specs.Prelude.{nat_lt, nat_le, ◌==◌, slice_index_or, slice_set}
-use Rattle.std.proofs.lemmas.Bool.{ltb-true, ltb-false, leb-false, lt-ltb, eqb-false, eq-eqb, or_parts}
-use Rattle.std.proofs.lemmas.Bool.Decides.{nat_tests}
-use Rattle.std.proofs.lemmas.List.{length-set, set-set, set-get_or, get_or-set_same, get_or-set_other}
+use Rattle.std.proofs.Common.{◌≡◌, ℕ, zero, suc, ◌+◌, ◌<◌, ◌≤◌, pos, max, Bool, true, false, cond, ◌||◌, List, [], ◌∷◌, Option, Some, None, length, refl, sym, ◌∙◌, ap, subst, arith}
+use Rattle.std.specs.Prelude.{◌==◌, slice_index_or, slice_set}
+use Rattle.std.proofs.lemmas.Bool.{or_parts}
 use Rattle.std.specs.List.{list_any}
-use Rattle.receiver_rules.specs.Packets.{Packet, Moment, is_due_by, insert_by_number, playout_floor, IsRising}
+use Rattle.receiver_rules.specs.Packets.{Packet, Moment, is_due_by, insert_by_number, playout_floor}
 use Rattle.receiver_rules.proofs.PacketLemmas.{any-insert, floor-insert}
-use Rattle.reorder_buffer.specs.Inside.Ring.{packet_of, packets_in, tick_of, IsPlaced}
+use Rattle.reorder_buffer.specs.Inside.Ring.{packet_of, packets_in}
 use Rattle.reorder_buffer.specs.declared.ring.Held.{Held}
 
 -- the place holds this number

@@ -1,12 +1,12 @@
 -- Numbers within a span: one more, and the first and the last of them.
-use Rattle.std.proofs.Common.{◌≡◌, ℕ, ◌+◌, ◌<◌, ◌≤◌, min, max, Bool, true, false, cond, ◌||◌, List, [], ◌∷◌, Option, Some, None, refl, sym, ◌∙◌, ap, arith}
+use Rattle.std.proofs.Common.{◌≡◌, ℕ, ◌+◌, ◌<◌, ◌≤◌, min, max, true, false, cond, ◌||◌, List, [], ◌∷◌, Option, Some, None, refl, sym, ◌∙◌, ap, arith}
 use Rattle.std.specs.Prelude.{nat_lt, nat_le, ◌==◌}
 use Rattle.std.proofs.lemmas.Bool.{ltb-true, ltb-false, leb-false, or_parts}
 use Rattle.std.proofs.lemmas.Bool.Decides.{nat_tests}
 use Rattle.std.specs.List.{list_any}
 use Rattle.receiver_rules.specs.Packets.{Packet, Ever, distance, insert_by_number, playout_floor, IsRising}
 use Rattle.reorder_buffer.specs.Inside.Span.{AllBelow, IsWithin}
-use Rattle.reorder_buffer.specs.Inside.Ring.{first_number, last_number, ends_of, ends_and, after_first}
+use Rattle.reorder_buffer.specs.Inside.Ring.{first_number, last_number, ends_of, ends_and}
 use Rattle.reorder_buffer.specs.declared.ring.Ends.{Ends}
 
 pub below-insert : (bound : ℕ) (p : Packet) (ps : List Packet) → p.number < bound → AllBelow bound ps → AllBelow bound (insert_by_number p ps)

@@ -1,5 +1,5 @@
 -- What a state shows of its history, before and after an arrival.
-use Rattle.std.proofs.Common.{◌≡◌, ◌||◌, ◌≢◌, ℕ, ◌+◌, ◌*◌, ◌^◌, ◌<◌, ◌≤◌, max, pos, Bool, true, false, cond, ◌&&◌, List, [], ◌∷◌, Option, Some, None, unwrap_or, refl, sym, ◌∙◌, ap, subst, arith}
+use Rattle.std.proofs.Common.{◌≡◌, ◌||◌, ℕ, ◌+◌, ◌*◌, ◌^◌, ◌<◌, ◌≤◌, max, pos, Bool, true, false, cond, ◌&&◌, List, [], ◌∷◌, Option, Some, None, unwrap_or, refl, sym, ◌∙◌, ap, subst, arith}
 use Rattle.std.specs.Prelude.{nat_lt, nat_le, ◌==◌, int_le, int_lt, IsSome, IsNone, ◌-ℤ◌}
 use Rattle.std.proofs.lemmas.Bool.{ltb-false}
 use Rattle.std.specs.List.{filter, list_any}
@@ -17,8 +17,7 @@ use Rattle.reorder_buffer.specs.State.{State}
 use Rattle.reorder_buffer.specs.StateAfter.{Shows, IsStateAfter}
 use Rattle.reorder_buffer.specs.Inside.Tests.{verdict_here, anchor_at, placed_at, judged}
 use Rattle.reorder_buffer.specs.Inside.Changes.{holding, moved, taken}
-use Rattle.reorder_buffer.specs.declared.phase.Phase.{Phase}
-use Rattle.reorder_buffer.specs.declared.phase.Phase.TheVariants.{Open, Ended, Failed}
+use Rattle.reorder_buffer.specs.declared.phase.Phase.TheVariants.{Open, Ended}
 use Rattle.reorder_buffer.proofs.PhaseLemmas.{not_failed}
 
 open_phase : (b : Bool) → cond b Ended Open ≡ Open → b ≡ false

@@ -1,5 +1,5 @@
 -- How places and blocks show the packets that wait.
-use Rattle.std.specs.Prelude.{◌≡◌, ℕ, zero, ◌+◌, ◌-◌, ◌^◌, ◌<◌, ◌≤◌, ◌%◌, ℤ, pos, List, [], ◌∷◌, length, map, take, min, max, nat_lt, Bool, false, slice_index_or, Option, None, Some}
+use Rattle.std.specs.Prelude.{◌≡◌, ℕ, ◌-◌, ◌^◌, ◌<◌, ◌≤◌, ◌%◌, pos, List, [], ◌∷◌, length, map, take, min, max, nat_lt, Bool, false, slice_index_or, Option, None, Some}
 use Rattle.receiver_rules.specs.Packets.{Packet, insert_by_number, IsRising}
 use Rattle.reorder_buffer.specs.Inside.Span.{IsWithin}
 use Rattle.reorder_buffer.specs.declared.ring.Held.{Held}

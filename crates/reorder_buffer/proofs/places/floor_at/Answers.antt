@@ -1,5 +1,5 @@
 -- Due places before the start hold the higher numbers.
-use Rattle.std.proofs.Common.{◌≡◌, ℕ, ◌<◌, ◌%◌, length, rules, subst, sym, ◌∙◌}
+use Rattle.std.proofs.Common.{◌%◌, length, rules, subst, sym, ◌∙◌}
 use Rattle.deadline_index.specs.Places.{IsLastBy, IsNoneBelow}
 use Rattle.reorder_buffer.proofs.AroundLemmas.{floor_wrapped, floor_straight, floor_none, same_some, of_some, of_none}
 use Rattle.reorder_buffer.proofs.places.floor_at.Goals.{in-Some, in-None}

@@ -1,5 +1,5 @@
 -- Numbers are far below the top.
-use Rattle.std.proofs.Common.{◌≡◌, ℕ, ◌+◌, ◌<◌, ◌^◌, Some, None, arith, rules, sym, ◌∙◌}
+use Rattle.std.proofs.Common.{◌≡◌, Some, None, arith, rules}
 use Rattle.std.specs.Prelude.{slice_index_or}
 use Rattle.reorder_buffer.proofs.places.floor_over.Goals as goal
 

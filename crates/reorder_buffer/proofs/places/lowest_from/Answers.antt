@@ -1,5 +1,5 @@
 -- Places from the start on hold the lower numbers.
-use Rattle.std.proofs.Common.{◌≡◌, ℕ, ◌^◌, ◌-◌, ◌%◌, length, rules, subst, sym, ◌∙◌}
+use Rattle.std.proofs.Common.{◌^◌, ◌-◌, ◌%◌, length, rules, subst, sym, ◌∙◌}
 use Rattle.deadline_index.specs.Places.{IsFirstBy, IsNoneFrom}
 use Rattle.reorder_buffer.proofs.AroundLemmas.{lowest_straight, lowest_wrapped, lowest_none, same_some, of_some, of_none}
 use Rattle.reorder_buffer.proofs.places.lowest_from.Goals.{in-Some, in-None}

@@ -1,8 +1,7 @@
 -- Each turn writes the first packet below the floor, and the loop ends where there is none.
-use Rattle.std.proofs.Common.{◌≡◌, ◌+◌, true, false, arith, ap, sym, ◌∙◌, subst}
+use Rattle.std.proofs.Common.{◌+◌, arith, sym, ◌∙◌, subst}
 use Rattle.outside_io.specs.Told.{Appends, AppendsPart}
-use Rattle.reorder_buffer.specs.Inside.Ring.{starts_below}
-use Rattle.reorder_buffer.proofs.WriteLemmas.{Writes, first_more, first_nothing, first_part, first_fits, first_fewer, first_end, on_err_always}
+use Rattle.reorder_buffer.proofs.WriteLemmas.{Writes, first_more, first_nothing, first_part, first_fits, first_end, on_err_always}
 use Rattle.reorder_buffer.proofs.release.put_below.Goals as goal
 
 pub returns-in_err-put-clause-err : goal.returns-in_err-put-clause-err

@@ -1,6 +1,5 @@
 -- The packet is received at the effective time, as at its own tick.
 use Rattle.std.proofs.Common.{ap, ◌∙◌, Some}
-use Rattle.std.specs.Prelude.{Err}
 use Rattle.receiver_rules.specs.Steps.{Media}
 use Rattle.receiver_rules.specs.Seen.{seen}
 use Rattle.rist_ends.proofs.SteppingLemmas.{state_told, writes_told, part_told, verdict_told}

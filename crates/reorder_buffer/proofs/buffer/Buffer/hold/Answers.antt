@@ -1,7 +1,6 @@
 -- A packet that may wait leaves a sound state.
-use Rattle.std.proofs.Common.{◌∙◌, sym, subst, ap}
+use Rattle.std.proofs.Common.{◌∙◌, subst}
 use Rattle.receiver_rules.specs.Seen.{packet_at}
-use Rattle.reorder_buffer.specs.State.{State}
 use Rattle.reorder_buffer.specs.Inside.Sound.{IsSound}
 use Rattle.reorder_buffer.proofs.HeldLemmas.{sound_after, after_hold}
 use Rattle.reorder_buffer.proofs.buffer.Buffer.hold.Goals as goal

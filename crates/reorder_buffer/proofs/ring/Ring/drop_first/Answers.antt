@@ -1,5 +1,5 @@
 -- The place of the lowest number is free.
-use Rattle.std.proofs.Common.{◌≡◌, ℕ, ◌%◌, ◌<◌, ◌-◌, ◌^◌, Some, None, length, ap, sym, ◌∙◌, subst, arith}
+use Rattle.std.proofs.Common.{◌≡◌, ◌%◌, ◌<◌, ◌-◌, None, length, ap, sym, ◌∙◌, subst}
 use Rattle.std.specs.Prelude.{slice_set}
 use Rattle.reorder_buffer.specs.Inside.Ring.{Waiting, packets_in, after_first, first_number, IsRing, ends_from}
 use Rattle.receiver_rules.specs.Packets.{IsRising}

@@ -1,11 +1,11 @@
 -- The front of the block of the lowest number's place.
-use Rattle.std.proofs.Common.{◌≡◌, ℕ, ◌%◌, ◌<◌, Some, None, length, take, List, [], ap, sym, ◌∙◌, subst, arith}
+use Rattle.std.proofs.Common.{◌≡◌, ◌%◌, ◌<◌, Some, None, take, [], ap, sym, ◌∙◌, subst, arith}
 use Rattle.std.specs.Prelude.{slice_index_or}
 use Rattle.std.proofs.lemmas.List.{get_or_read}
-use Rattle.reorder_buffer.specs.Inside.Ring.{Waiting, first_payload, packets_in}
+use Rattle.reorder_buffer.specs.Inside.Ring.{Waiting, first_payload}
 use Rattle.reorder_buffer.specs.declared.ring.Held.{Held}
 use Rattle.reorder_buffer.proofs.RingLemmas.{place_at}
-use Rattle.reorder_buffer.proofs.RingChangeLemmas.{IsTaken, ring_taken, read_place, some_held, not_there}
+use Rattle.reorder_buffer.proofs.RingChangeLemmas.{ring_taken, read_place, some_held, not_there}
 use Rattle.reorder_buffer.proofs.ring.Ring.first_payload.Goals as goal
 
 pub shared_ref_as_front-result : goal.shared_ref_as_front-result

@@ -1,5 +1,5 @@
 -- The highest number of those that are due.
-use Rattle.std.proofs.Common.{◌≡◌, ℕ, ◌^◌, ◌+◌, ◌<◌, arith, ap, sym, ◌∙◌, subst}
+use Rattle.std.proofs.Common.{arith, ap, sym, ◌∙◌, subst}
 use Rattle.receiver_rules.specs.Packets.{Ever, playout_floor}
 use Rattle.receiver_rules.specs.Seen.{moment_of}
 use Rattle.reorder_buffer.specs.Inside.Ring.{Waiting, packets_in}

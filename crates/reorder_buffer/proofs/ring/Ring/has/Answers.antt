@@ -1,5 +1,5 @@
 -- A number stands at its own place alone.
-use Rattle.std.proofs.Common.{◌≡◌, ℕ, ◌%◌, ◌<◌, Some, None, length, ap, sym, ◌∙◌, subst}
+use Rattle.std.proofs.Common.{◌≡◌, ◌%◌, ◌<◌, Some, None, length, ap, sym, ◌∙◌, subst}
 use Rattle.std.specs.Prelude.{◌==◌}
 use Rattle.std.specs.List.{list_any}
 use Rattle.reorder_buffer.specs.Inside.Ring.{Waiting}

@@ -1,5 +1,5 @@
 -- The lowest and the highest decide.
-use Rattle.std.proofs.Common.{◌≡◌, ℕ, ◌||◌, length, ap, sym, ◌∙◌}
+use Rattle.std.proofs.Common.{◌≡◌, ◌||◌, length, ap, sym, ◌∙◌}
 use Rattle.std.specs.Prelude.{nat_le, false}
 use Rattle.std.specs.List.{list_any}
 use Rattle.receiver_rules.specs.Packets.{distance}

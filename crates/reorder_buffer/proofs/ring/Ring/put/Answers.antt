@@ -1,7 +1,7 @@
 -- The packet stands at its own place, which was free.
-use Rattle.std.proofs.Common.{◌≡◌, ℕ, ◌+◌, ◌<◌, ◌%◌, ◌^◌, pos, List, Some, length, ap, sym, ◌∙◌, subst, arith, rules, FitsSigned, w64}
-use Rattle.std.proofs.lemmas.Int.{ints, to_z-of_z}
-use Rattle.std.specs.Prelude.{◌==◌, nat_le, int_lt, true, false, slice_set}
+use Rattle.std.proofs.Common.{◌≡◌, ℕ, ◌+◌, ◌%◌, ◌^◌, pos, Some, length, ap, sym, ◌∙◌, subst, arith, rules, FitsSigned, w64}
+use Rattle.std.proofs.lemmas.Int.{to_z-of_z}
+use Rattle.std.specs.Prelude.{◌==◌, nat_le, int_lt, true, slice_set}
 use Rattle.std.specs.List.{list_any}
 use Rattle.receiver_rules.specs.Packets.{distance, insert_by_number}
 use Rattle.receiver_rules.specs.Seen.{packet_at}

@@ -1,5 +1,5 @@
 -- Nothing waits at first.
-use Rattle.std.proofs.Common.{◌≡◌, ℕ, ◌^◌, ◌-◌, None, length, replicate, rules}
+use Rattle.std.proofs.Common.{◌≡◌, None, length, replicate, rules}
 use Rattle.reorder_buffer.proofs.RingChangeLemmas.{ring_none}
 use Rattle.reorder_buffer.proofs.ring.Ring.with_places.Goals as goal
 
