@@ -1,2 +1,2 @@
-mod TreeLemmas
+mod LevelLemmas
 mod SearchLemmas

@@ -1,1 +1,2 @@
-pub mod Tree
+-- What only the bodies need.
+pub mod Levels

@@ -1,32 +1,35 @@
 ghost use Rattle.std.specs.Prelude.{◌≡◌, ◌<◌, length, replicate, slice_set, IfOk, IfSome, IfNone};
 ghost use Rattle.deadline_index.specs.Places.{IsFirstBy, IsLastBy, IsNoneFrom, IsNoneBelow};
 
-use crate::tree::{first_by, last_by, mend};
+use crate::levels::{first_by, last_by, mend};
 use std::alloc::{AllocError, Global};
 use std::marker::Model;
 
 /// The tick of a place that never falls due.
 pub const NEVER: u64 = u64::MAX;
 
-/// A fixed number of places, each with the tick at which it falls due. A change of one place and each search look at as
-/// many places as the number of places has binary digits, and a search where nothing is due looks at one.
+/// How many levels of least ticks stand above the places.
+const LEVELS: usize = 3;
+
+/// A fixed number of places, each with the tick at which it falls due. A change of one place and each search look at sixteen
+/// entries a level, on as many levels as the number of places has hexadecimal digits, up to four.
 #[derive(Drop)]
 pub struct DeadlineIndex {
-    ticks: Vec<u64>,
-    /// For each part of a tree over the places the least tick in it, at the part's middle place.
-    least: Vec<u64>,
+    places: usize,
+    /// The tick of each place, and behind them the levels of least ticks.
+    all: Vec<u64>,
 }
 
 impl Model for DeadlineIndex {
-    ghost use Rattle.std.specs.Prelude.{List, ℕ};
+    ghost use Rattle.std.specs.Prelude.{List, ℕ, take};
 
     ghost Value = { List ℕ };
 
-    ghost view = { λ index. index.ticks.items };
+    ghost view = { λ index. take index.places index.all.items };
 
-    ghost use Rattle.deadline_index.specs.Inside.Tree.{IsTree};
+    ghost use Rattle.deadline_index.specs.Inside.Levels.{AreLevels};
 
-    ghost invariant = { λ index. IsTree index.least.items index.ticks.items };
+    ghost invariant = { λ index. AreLevels 3 0 index.places index.all.items };
 }
 
 impl DeadlineIndex {
@@ -34,11 +37,13 @@ impl DeadlineIndex {
     pub fn with_places(alloc: Global, places: usize) -> Result<DeadlineIndex, AllocError>
         ensures value { IfOk result (λ index. index ≡ replicate places NEVER) }
     {
-        let mut ticks = Vec::with_capacity(alloc, places)?;
-        ticks.resize(places, NEVER)?;
-        let mut least = Vec::with_capacity(alloc, places)?;
-        least.resize(places, NEVER)?;
-        Ok(DeadlineIndex { ticks, least })
+        // Room for the places and for three levels above them, each a sixteenth of the one below and an entry more.
+        let Some(total) = places.checked_add(places / 8 + 8) else {
+            return Err(AllocError);
+        };
+        let mut all = Vec::with_capacity(alloc, total)?;
+        all.resize(total, NEVER)?;
+        Ok(DeadlineIndex { places, all })
     }
 
     /// Gives a place another tick, or `NEVER`.
@@ -46,8 +51,8 @@ impl DeadlineIndex {
         requires { place < length self.old }
         ensures value { self.new ≡ slice_set self.old place tick }
     {
-        self.ticks[place] = tick;
-        mend(&mut self.least, &self.ticks, place);
+        self.all[place] = tick;
+        mend(&mut self.all, LEVELS, 0, self.places, place);
     }
 
     /// The first place from `start` on that is due by the tick.
@@ -55,7 +60,7 @@ impl DeadlineIndex {
         ensures some { IfSome result (λ place. IsFirstBy self.now start tick place) }
         ensures none { IfNone result (IsNoneFrom self.now start tick) }
     {
-        first_by(&self.least, &self.ticks, start, tick)
+        first_by(&self.all, LEVELS, 0, self.places, start, tick)
     }
 
     /// The last place below `end` that is due by the tick.
@@ -63,6 +68,13 @@ impl DeadlineIndex {
         ensures some { IfSome result (λ place. IsLastBy self.now end tick place) }
         ensures none { IfNone result (IsNoneBelow self.now end tick) }
     {
-        last_by(&self.least, &self.ticks, end, tick)
+        last_by(
+            &self.all,
+            LEVELS,
+            0,
+            self.places,
+            end.min(self.places),
+            tick,
+        )
     }
 }

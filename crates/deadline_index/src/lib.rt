@@ -3,8 +3,8 @@
 #![tactic(auto)]
 
 pub mod index;
+mod levels;
 #[cfg(test)]
 mod tests;
-mod tree;
 
 pub use index::{DeadlineIndex, NEVER};

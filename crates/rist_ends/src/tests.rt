@@ -1,5 +1,5 @@
 //! Worked runs on a receiver, its counts, and how it stops.
-ghost use Rattle.std.specs.Prelude.{◌<◌, ◌≤◌, ◌^◌};
+ghost use Rattle.std.specs.Prelude.{◌<◌, ◌≤◌, ◌^◌, length};
 ghost use Rattle.std.specs.List.{All};
 ghost use Rattle.rist_ends.specs.Told.{IsFit};
 

@@ -1,0 +1,135 @@
+-- Levels, and a change of one entry.
+use Rattle.std.proofs.Common.{◌≡◌, ◌≢◌, ℕ, zero, suc, ◌+◌, ◌-◌, ◌*◌, ◌/◌, ◌<◌, ◌≤◌, List, [], ◌∷◌, length, take, replicate, min, inl, inr, refl, sym, ap, ◌∙◌, subst, arith}
+use Rattle.std.proofs.lemmas.List.{length-set, length-take, length-replicate, get_or-set_same, get_or-set_other, get_or-take, get_or-replicate, ext_get_or}
+use Rattle.std.proofs.lemmas.Bool.{cases_eq}
+use Rattle.std.specs.Prelude.{slice_index, slice_set as set}
+use Rattle.deadline_index.specs.Inside.Levels.{group_count, IsCover, IsCoverBut, AreLevels, AreLevelsBut, IsNoneIn, IsLeastIn}
+
+-- all of a level lies in the list
+pub inside : (n at len : ℕ) (xs : List ℕ) → AreLevels n at len xs → at + len ≤ length xs
+unfolding AreLevels
+inside zero at len xs a = a
+inside (suc n) at len xs a = let deeper = inside n (at + len) (group_count len) xs a.1 in omega arith
+
+-- the lowest of the levels, and those above it
+pub parted : (n at len : ℕ) (xs : List ℕ) → 0 < n → AreLevels n at len xs → IsCover at len xs × AreLevels (n - 1) (at + len) (group_count len) xs
+unfolding AreLevels
+parted zero at len xs some a = absurd (omega arith)
+parted (suc n) at len xs some a = (a.0, subst (λ m. AreLevels m (at + len) (group_count len) xs) (omega arith) a.1)
+
+pub parted_but : (n at len entry : ℕ) (xs : List ℕ) → 0 < n → AreLevelsBut n at len entry xs → IsCoverBut at len entry xs × AreLevels (n - 1) (at + len) (group_count len) xs
+unfolding AreLevelsBut
+parted_but zero at len entry xs some a = absurd (omega arith)
+parted_but (suc n) at len entry xs some a = (a.0, subst (λ m. AreLevels m (at + len) (group_count len) xs) (omega arith) a.1)
+
+pub inside_but : (n at len entry : ℕ) (xs : List ℕ) → AreLevelsBut n at len entry xs → at + len ≤ length xs
+unfolding AreLevelsBut
+inside_but zero at len entry xs a = a
+inside_but (suc n) at len entry xs a = let deeper = inside n (at + len) (group_count len) xs a.1 in omega arith
+
+pub whole : (n at len : ℕ) (xs : List ℕ) → 0 < n → IsCover at len xs → AreLevels (n - 1) (at + len) (group_count len) xs → AreLevels n at len xs
+unfolding AreLevels
+whole zero at len xs some c a = absurd (omega arith)
+whole (suc n) at len xs some c a = (c, subst (λ m. AreLevels m (at + len) (group_count len) xs) (omega arith) a)
+
+pub top : (n at len : ℕ) (xs : List ℕ) → n ≡ 0 → at + len ≤ length xs → AreLevels n at len xs
+unfolding AreLevels
+top zero at len xs none a = a
+top (suc n) at len xs none a = absurd (omega arith)
+
+-- another entry is as it was
+pub elsewhere : (xs : List ℕ) (i j v : ℕ) → i ≢ j → slice_index (set xs i v) j ≡ slice_index xs j
+elsewhere xs i j v other = get_or-set_other xs i j v 0 (λ e. other (sym e))
+
+-- a change before a level keeps it and those above it
+pub kept : (n at len : ℕ) (xs : List ℕ) (i v : ℕ) → i < at → AreLevels n at len xs → AreLevels n at len (set xs i v)
+unfolding AreLevels
+kept zero at len xs i v low a = omega (arith, a, length-set xs i v)
+kept (suc n) at len xs i v low a = (
+  record {
+    least = λ k inside.
+        let old = a.0.least k inside in
+        omega (arith, elsewhere xs i (at + len + k / 16) v (λ e. absurd (omega arith)), elsewhere xs i (at + k) v (λ e. absurd (omega arith)));
+  },
+  kept n (at + len) (group_count len) xs i v (omega arith) a.1,
+)
+
+-- after a change of an entry all stands but for its group
+pub changed : (n at len : ℕ) (xs : List ℕ) (entry v : ℕ) → entry < len → AreLevels n at len xs → AreLevelsBut n at len entry (set xs (at + entry) v)
+unfolding AreLevels AreLevelsBut
+changed zero at len xs entry v inside a = omega (arith, a, length-set xs (at + entry) v)
+changed (suc n) at len xs entry v inside a = (
+  record {
+    least = λ k there other.
+        let old = a.0.least k there in
+        omega (arith, elsewhere xs (at + entry) (at + len + k / 16) v (λ e. absurd (omega arith)), elsewhere xs (at + entry) (at + k) v (λ e. other (omega arith)));
+  },
+  kept n (at + len) (group_count len) xs (at + entry) v (omega arith) a.1,
+)
+
+-- with the least of its group a level stands whole
+pub covered : (at len entry end least : ℕ) (xs : List ℕ) → IsCoverBut at len entry xs → end ≡ min (16 * (entry / 16) + 16) len → IsLeastIn xs at (16 * (entry / 16)) end least → slice_index xs (at + len + entry / 16) ≡ least → IsCover at len xs
+covered at len entry end least xs but bound low e =
+    record {
+      least = λ k inside.
+          elim (cases_eq (k / 16) (entry / 16)) [
+            | inl same ↦ let l = low k (omega (arith, same)) (omega (arith, same, bound, inside)) in
+                let here : slice_index xs (at + len + k / 16) ≡ least = ap (λ n. slice_index xs (at + len + n)) same ∙ e in
+                omega (arith, here, l)
+            | inr other ↦ but.least k inside other
+          ];
+    }
+
+-- likewise where the least is written and what stands above is mended
+pub recovered : (at len entry end least : ℕ) (xs ys : List ℕ) → entry < len → at + len + group_count len ≤ length xs → IsCoverBut at len entry xs → end ≡ min (16 * (entry / 16) + 16) len → IsLeastIn xs at (16 * (entry / 16)) end least
+    → ((i : ℕ) → i < at + len + group_count len → slice_index ys i ≡ slice_index (set xs (at + len + entry / 16) least) i) → IsCover at len ys
+recovered at len entry end least xs ys there room but bound low same =
+    record {
+      least = λ k inside.
+          let below : slice_index ys (at + k) ≡ slice_index xs (at + k) = same (at + k) (omega arith) ∙ elsewhere xs (at + len + entry / 16) (at + k) least (λ e. absurd (omega arith)) in
+          elim (cases_eq (k / 16) (entry / 16)) [
+            | inl e ↦
+                let l = low k (omega (arith, e)) (omega (arith, e, bound, inside)) in
+                let written : slice_index (set xs (at + len + entry / 16) least) (at + len + entry / 16) ≡ least = get_or-set_same xs (at + len + entry / 16) least 0 (omega arith) in
+                let here : slice_index ys (at + len + k / 16) ≡ least = ap (λ n. slice_index ys (at + len + n)) e ∙ same (at + len + entry / 16) (omega arith) ∙ written in
+                omega (arith, here, below, l)
+            | inr other ↦
+                let old = but.least k inside other in
+                let above : slice_index ys (at + len + k / 16) ≡ slice_index xs (at + len + k / 16) = same (at + len + k / 16) (omega arith) ∙ elsewhere xs (at + len + entry / 16) (at + len + k / 16) least (λ e. other (omega arith)) in
+                omega (arith, above, below, old)
+          ];
+    }
+
+-- ---- the places at the front
+
+take-set_below : (n place tick : ℕ) (ticks : List ℕ) → place < n → take n (set ticks place tick) ≡ set (take n ticks) place tick
+take-set_below zero place tick ticks h = absurd (omega arith)
+take-set_below (suc n) place tick [] h = refl
+take-set_below (suc n) zero tick (x ∷ ticks) h = refl
+take-set_below (suc n) (suc place) tick (x ∷ ticks) h = ap (λ xs. x ∷ xs) (take-set_below n place tick ticks (omega arith))
+
+-- where the places are as after a change of one, the list is
+pub front_set : (places place tick : ℕ) (xs ys : List ℕ) → place < places → places ≤ length xs → length ys ≡ length xs → ((i : ℕ) → i < 0 + places → slice_index ys i ≡ slice_index (set xs place tick) i) → take places ys ≡ set (take places xs) place tick
+front_set places place tick xs ys low room long same =
+    ext_get_or 0 (take places ys) (take places (set xs place tick)) (omega (arith, length-take places ys, length-take places (set xs place tick), length-set xs place tick))
+    (λ i inside.
+    let below : i < places = omega (arith, inside, length-take places ys) in
+    get_or-take places ys i 0 below ∙ same i (omega arith) ∙ sym (get_or-take places (set xs place tick) i 0 below))
+    ∙ take-set_below places place tick xs low
+
+-- ---- no place falls due
+
+never_cover : (at len total never : ℕ) → at + len + group_count len ≤ total → IsCover at len (replicate total never)
+never_cover at len total never room =
+    record { least = λ k inside. omega (arith, get_or-replicate total (at + len + k / 16) never 0 (omega arith), get_or-replicate total (at + k) never 0 (omega arith)) }
+
+pub never_levels : (places total never : ℕ) → total ≡ places + (places / 8 + 8) → AreLevels 3 0 places (replicate total never)
+never_levels places total never e =
+    let first : ℕ = group_count places in
+    let second : ℕ = group_count first in
+    let third : ℕ = group_count second in
+    let xs : List ℕ = replicate total never in
+    whole 3 0 places xs (omega arith) (never_cover 0 places total never (omega arith))
+    (whole 2 (0 + places) first xs (omega arith) (never_cover (0 + places) first total never (omega arith))
+    (whole 1 (0 + places + first) second xs (omega arith) (never_cover (0 + places + first) second total never (omega arith))
+    (top 0 (0 + places + first + second) third xs refl (omega (arith, length-replicate total never)))))

@@ -1,0 +1,10 @@
+-- none was due so far
+use Rattle.std.proofs.Common.{◌-◌, ◌≤◌}
+use Rattle.deadline_index.specs.Inside.Levels.{IsNoneIn}
+use Rattle.deadline_index.proofs.levels.first_in.Given as goal
+
+abbrev pub invariant-loop-next : goal.invariant-loop-next
+invariant-loop-next l = (l.start ≤ l.next) × IsNoneIn l.all l.at l.start l.next l.tick
+
+abbrev pub decreases-loop-next : goal.decreases-loop-next
+decreases-loop-next l = l.end - l.next

@@ -1,0 +1,172 @@
+//! Levels of least ticks over the places, one behind another in one list: each entry is the least of sixteen in the level
+//! before it.
+ghost use Rattle.std.specs.Prelude.{◌≡◌, ◌+◌, ◌*◌, ◌/◌, ◌<◌, ◌≤◌, ℕ, min, length, slice_index, IfSome, IfNone};
+ghost use Rattle.deadline_index.specs.Inside.Levels.{group_count, AreLevels, AreLevelsBut, IsNoneIn, IsLastIn, IsFirstIn, IsLeastIn};
+
+use crate::index::NEVER;
+
+/// How many entries a group has.
+const GROUP: usize = 16;
+
+/// How many groups a level has room for above so many entries.
+fn group_count(len: usize) -> usize
+    ensures { result ≡ group_count len }
+{
+    len / GROUP + 1
+}
+
+/// Where the group of an entry ends, or the level.
+fn group_end(entry: usize, len: usize) -> usize
+    requires { entry < len }
+    ensures { result ≡ min (16 * (entry / 16) + 16) len }
+{
+    let group = entry / GROUP;
+    if group < len / GROUP {
+        GROUP * group + GROUP
+    } else {
+        len
+    }
+}
+
+/// The last entry between two that is at most the tick.
+fn last_in(all: &[u64], at: usize, from: usize, end: usize, tick: u64) -> Option<usize>
+    requires within { at + end ≤ length all.now }
+    ensures some { IfSome result (IsLastIn all.now at from end tick) }
+    ensures none { IfNone result (IsNoneIn all.now at from end tick) }
+{
+    let mut rest = end;
+    while from < rest {
+        rest -= 1;
+        if all[at + rest] <= tick {
+            return Some(rest);
+        }
+    }
+    None
+}
+
+/// The first entry between two that is at most the tick.
+fn first_in(all: &[u64], at: usize, start: usize, end: usize, tick: u64) -> Option<usize>
+    requires within { at + end ≤ length all.now }
+    ensures some { IfSome result (IsFirstIn all.now at start end tick) }
+    ensures none { IfNone result (IsNoneIn all.now at start end tick) }
+{
+    let mut next = start;
+    while next < end {
+        if all[at + next] <= tick {
+            return Some(next);
+        }
+        next += 1;
+    }
+    None
+}
+
+/// The least entry between two.
+fn least_in(all: &[u64], at: usize, from: usize, end: usize) -> u64
+    requires within { at + end ≤ length all.now }
+    ensures { IsLeastIn all.now at from end result }
+{
+    let mut least = NEVER;
+    let mut next = from;
+    while next < end {
+        least = least.min(all[at + next]);
+        next += 1;
+    }
+    least
+}
+
+/// The last entry before `end` of a level that is at most the tick.
+pub fn last_by(
+    all: &[u64],
+    levels: usize,
+    at: usize,
+    len: usize,
+    end: usize,
+    tick: u64,
+) -> Option<usize>
+    requires levels { AreLevels levels at len all.now }
+    requires end { end ≤ len }
+    ensures some { IfSome result (IsLastIn all.now at 0 end tick) }
+    ensures none { IfNone result (IsNoneIn all.now at 0 end tick) }
+{
+    let mut rest = end;
+    while 0 < rest {
+        let from = (rest - 1) / GROUP * GROUP;
+        if let Some(entry) = last_in(all, at, from, rest, tick) {
+            return Some(entry);
+        }
+        if levels == 0 {
+            rest = from;
+        } else {
+            match last_by(
+                all,
+                levels - 1,
+                at + len,
+                group_count(len),
+                from / GROUP,
+                tick,
+            ) {
+                Some(group) => rest = GROUP * group + GROUP,
+                None => return None,
+            }
+        }
+    }
+    None
+}
+
+/// The first entry from `start` on of a level that is at most the tick.
+pub fn first_by(
+    all: &[u64],
+    levels: usize,
+    at: usize,
+    len: usize,
+    start: usize,
+    tick: u64,
+) -> Option<usize>
+    requires levels { AreLevels levels at len all.now }
+    ensures some { IfSome result (IsFirstIn all.now at start len tick) }
+    ensures none { IfNone result (IsNoneIn all.now at start len tick) }
+{
+    let mut next = start;
+    while next < len {
+        let end = group_end(next, len);
+        if let Some(entry) = first_in(all, at, next, end, tick) {
+            return Some(entry);
+        }
+        if levels == 0 || end == len {
+            next = end;
+        } else {
+            match first_by(
+                all,
+                levels - 1,
+                at + len,
+                group_count(len),
+                end / GROUP,
+                tick,
+            ) {
+                Some(group) => next = GROUP * group,
+                None => return None,
+            }
+        }
+    }
+    None
+}
+
+/// Mends the levels after an entry has changed.
+pub fn mend(all: &mut [u64], levels: usize, at: usize, len: usize, entry: usize)
+    requires entry { entry < len }
+    requires before { AreLevelsBut levels at len entry all.old }
+    ensures levels { AreLevels levels at len all.new }
+    ensures same { (i : ℕ) → i < at + len → slice_index all.new i ≡ slice_index all.old i }
+{
+    if levels == 0 {
+        return;
+    }
+    let group = entry / GROUP;
+    let least = least_in(all, at, GROUP * group, group_end(entry, len));
+    let above = at + len;
+    if all[above + group] == least {
+        return;
+    }
+    all[above + group] = least;
+    mend(all, levels - 1, above, group_count(len), group);
+}
