@@ -37,7 +37,7 @@ pub struct Ends {
 }
 
 /// Packets that wait, whose numbers lie less than the number of places apart. Putting one in, taking the first out and finding
-/// what is due look at as many places as the number of places has binary digits; all else looks at one.
+/// what is due look at sixteen entries for each hexadecimal digit of the number of places; all else looks at one.
 #[derive(Drop)]
 pub struct Ring {
     places: Vec<Option<Held>>,
