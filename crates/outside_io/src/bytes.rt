@@ -59,7 +59,8 @@ impl Source for Bytes {
 
     fn read(&mut self, buf: &mut [u8]) -> Result<usize, Failed>
         ensures within { ReadsAtMost result buf.new }
-        ensures ok { IfOk result (λ count. Takes (Some self.old.remaining) (Some self.new.remaining) (take count buf.new)) }
+        ensures ok { IfOk result (λ count.
+            Takes (Some self.old.remaining) (Some self.new.remaining) (take count buf.new)) }
         ensures end { IfOk result (λ count. count ≡ 0 → 0 < length buf.new
             → IsEmpty (Some self.new.remaining)) }
         ensures err { OnErr result (Some self.new.remaining ≡ Some self.old.remaining) }

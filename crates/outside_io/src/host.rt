@@ -64,14 +64,16 @@ pub trait Host {
 
     /// Hands out the source of this name.
     fn source(&mut self, name: &str) -> Result<Self::Input, HostBad>
-        ensures ok { IsTrue tells → IfOk result (λ object. HandsOutSource (shelf self.old) (shelf self.new) name.now object) }
+        ensures ok { IsTrue tells
+            → IfOk result (λ object. HandsOutSource (shelf self.old) (shelf self.new) name.now object) }
         ensures err { IsTrue tells → OnErr result (Stays (shelf self.old).sources (shelf self.new).sources) }
         ensures same { IsTrue tells → ChangesSources (shelf self.old) (shelf self.new) }
         ensures cause { HasHostCause (faults self.old) (faults self.new) result };
 
     /// Hands out the sink of this name. Where it tells, it is empty.
     fn sink(&mut self, name: &str) -> Result<Self::Output, HostBad>
-        ensures ok { IsTrue tells → IfOk result (λ object. HandsOutSink (shelf self.old) (shelf self.new) name.now object) }
+        ensures ok { IsTrue tells
+            → IfOk result (λ object. HandsOutSink (shelf self.old) (shelf self.new) name.now object) }
         ensures fresh { IfOk result (λ object. IsEmpty (Self.Output.contents object)) }
         ensures err { IsTrue tells → OnErr result (Stays (shelf self.old).sinks (shelf self.new).sinks) }
         ensures same { IsTrue tells → ChangesSinks (shelf self.old) (shelf self.new) }

@@ -96,12 +96,14 @@ impl Host for MemHost {
     ghost faults = { λ host. host.calls.faults };
 
     fn source(&mut self, name: &str) -> Result<MemSource, HostBad>
-        ensures ok { IsTrue true → IfOk result (λ object. HandsOutSource (mem_shelf self.old) (mem_shelf self.new) name.now object) }
+        ensures ok { IsTrue true
+            → IfOk result (λ object. HandsOutSource (mem_shelf self.old) (mem_shelf self.new) name.now object) }
         ensures err { IsTrue true → OnErr result (Stays (mem_shelf self.old).sources (mem_shelf self.new).sources) }
         ensures same { IsTrue true → ChangesSources (mem_shelf self.old) (mem_shelf self.new) }
         ensures cause { HasHostCause (mem_calls self.old).faults (mem_calls self.new).faults result }
         // It fails exactly where the call is to fail or nothing stands under the name to be handed out.
-        ensures refused { IfErr result (λ bad. IsRefused bad (mem_calls self.old) (IsAway ((mem_shelf self.old).sources name.now))) }
+        ensures refused { IfErr result (λ bad.
+            IsRefused bad (mem_calls self.old) (IsAway ((mem_shelf self.old).sources name.now))) }
         ensures complete { OnOk result (FailsNext (mem_calls self.old) → ⊥) }
         ensures calls { CountsCall (mem_calls self.old) (mem_calls self.new) result }
     {
@@ -119,13 +121,15 @@ impl Host for MemHost {
     }
 
     fn sink(&mut self, name: &str) -> Result<Store8, HostBad>
-        ensures ok { IsTrue true → IfOk result (λ object. HandsOutSink (mem_shelf self.old) (mem_shelf self.new) name.now object) }
+        ensures ok { IsTrue true
+            → IfOk result (λ object. HandsOutSink (mem_shelf self.old) (mem_shelf self.new) name.now object) }
         ensures fresh { IfOk result (λ object. IsEmpty (Some object.contents)) }
         ensures err { IsTrue true → OnErr result (Stays (mem_shelf self.old).sinks (mem_shelf self.new).sinks) }
         ensures same { IsTrue true → ChangesSinks (mem_shelf self.old) (mem_shelf self.new) }
         ensures cause { HasHostCause (mem_calls self.old).faults (mem_calls self.new).faults result }
         // It fails exactly where the call is to fail or no empty sink stands under the name to be handed out.
-        ensures refused { IfErr result (λ bad. IsRefused bad (mem_calls self.old) (HasNoEmptySink ((mem_shelf self.old).sinks name.now))) }
+        ensures refused { IfErr result (λ bad.
+            IsRefused bad (mem_calls self.old) (HasNoEmptySink ((mem_shelf self.old).sinks name.now))) }
         ensures complete { OnOk result (FailsNext (mem_calls self.old) → ⊥) }
         ensures calls { CountsCall (mem_calls self.old) (mem_calls self.new) result }
     {
@@ -143,7 +147,8 @@ impl Host for MemHost {
     }
 
     fn entropy(&mut self) -> Result<Words, HostBad>
-        ensures ok { IsTrue true → IfOk result (λ object. HandsOutNext (mem_shelf self.old) (mem_shelf self.new) object) }
+        ensures ok { IsTrue true
+            → IfOk result (λ object. HandsOutNext (mem_shelf self.old) (mem_shelf self.new) object) }
         ensures next { IsTrue true → OnOk result ((mem_shelf self.new).next_entropy
             ≡ (mem_shelf self.old).next_entropy + 1) }
         ensures within { IsTrue true → OnOk result ((mem_shelf self.old).next_entropy < 256) }
@@ -153,7 +158,8 @@ impl Host for MemHost {
         ensures same { IsTrue true → ChangesDrawing (mem_shelf self.old) (mem_shelf self.new) }
         ensures cause { HasHostCause (mem_calls self.old).faults (mem_calls self.new).faults result }
         // It fails exactly where the call is to fail or 256 were handed out, or nothing stands at the place.
-        ensures refused { IfErr result (λ bad. IsRefused bad (mem_calls self.old) (HasNoNextEntropy (mem_shelf self.old))) }
+        ensures refused { IfErr result (λ bad.
+            IsRefused bad (mem_calls self.old) (HasNoNextEntropy (mem_shelf self.old))) }
         ensures complete { OnOk result (FailsNext (mem_calls self.old) → ⊥) }
         ensures calls { CountsCall (mem_calls self.old) (mem_calls self.new) result }
     {
@@ -174,7 +180,8 @@ impl Host for MemHost {
     }
 
     fn back_source(&mut self, name: &str, object: MemSource)
-        ensures state { IsTrue true → TakesBack (mem_shelf self.old).sources (mem_shelf self.new).sources name.now object }
+        ensures state { IsTrue true
+            → TakesBack (mem_shelf self.old).sources (mem_shelf self.new).sources name.now object }
         ensures same { IsTrue true → ChangesSources (mem_shelf self.old) (mem_shelf self.new) }
         ensures cause { (mem_calls self.new).faults ≡ (mem_calls self.old).faults }
         // It counts as no call.
@@ -194,7 +201,8 @@ impl Host for MemHost {
     }
 
     fn back_entropy(&mut self, place: u8, object: Words)
-        ensures state { IsTrue true → TakesBack (mem_shelf self.old).entropies (mem_shelf self.new).entropies place object }
+        ensures state { IsTrue true
+            → TakesBack (mem_shelf self.old).entropies (mem_shelf self.new).entropies place object }
         ensures same { IsTrue true → ChangesEntropies (mem_shelf self.old) (mem_shelf self.new) }
         ensures cause { (mem_calls self.new).faults ≡ (mem_calls self.old).faults }
         // It counts as no call.

@@ -23,7 +23,8 @@ impl Source for MemSource {
 
     fn read(&mut self, buf: &mut [u8]) -> Result<usize, Failed>
         ensures within { ReadsAtMost result buf.new }
-        ensures ok { IfOk result (λ count. Takes (mem_remaining self.old) (mem_remaining self.new) (take count buf.new)) }
+        ensures ok { IfOk result (λ count.
+            Takes (mem_remaining self.old) (mem_remaining self.new) (take count buf.new)) }
         ensures end { IfOk result (λ count. count ≡ 0 → 0 < length buf.new
             → IsEmpty (mem_remaining self.new)) }
         ensures err { OnErr result (mem_remaining self.new ≡ mem_remaining self.old) }

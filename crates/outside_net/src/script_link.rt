@@ -92,7 +92,8 @@ impl ScriptLink {
         failing_writes: &[u64],
     ) -> Result<ScriptLink, NoMemory>
         requires { All FitsDatagram reads.items }
-        ensures value { IfOk result (λ link. IsNewLink reads.items peer room failing_reads.now failing_writes.now link) }
+        ensures value { IfOk result (λ link.
+            IsNewLink reads.items peer room failing_reads.now failing_writes.now link) }
     {
         Ok(ScriptLink {
             script: reads,

@@ -29,7 +29,8 @@ pub fn judge_arrival(
 ) -> Verdict
     requires limits { AreInRange limits.now }
     requires moment { t < 2 ^ 61 }
-    requires place { IsPlaceOf place.now (placed_packet limits.now anchor.now (highest_of (kept_packets kept.now)) (seen arrival.now)) }
+    requires place { IsPlaceOf place.now
+        (placed_packet limits.now anchor.now (highest_of (kept_packets kept.now)) (seen arrival.now)) }
     ensures { result ≡ verdict_of limits.now anchor.now (kept_packets kept.now) t (seen arrival.now) }
 {
     judge(limits, anchor, kept, t, arrival.flow, place)
@@ -46,7 +47,8 @@ fn judge(
 ) -> Verdict
     requires limits { AreInRange limits.now }
     requires moment { t < 2 ^ 61 }
-    ensures { result ≡ first_verdict (tests_of limits.now anchor.now (kept_packets kept.now) t flow (at_deadline place.now.number place.now.deadline)) }
+    ensures { result ≡ first_verdict (tests_of limits.now anchor.now (kept_packets kept.now) t flow
+        (at_deadline place.now.number place.now.deadline)) }
 {
     if flow != anchor.flow {
         Verdict::Stranger
@@ -98,7 +100,8 @@ fn is_out(kept: &[Kept<'_>], until: Option<u64>, number: u64) -> bool
 
 fn is_any_due(kept: &[Kept<'_>], until: Option<u64>, number: u64) -> bool
     requires { ForSome until (λ t. t < 2 ^ 61) }
-    ensures { result ≡ list_any (λ k. nat_le number k.place.number && is_due_by (moment_of until) k.place.deadline) kept.now }
+    ensures { result ≡ list_any
+        (λ k. nat_le number k.place.number && is_due_by (moment_of until) k.place.deadline) kept.now }
 {
     kept.iter()
         .any(|k| number <= k.place.number && k.place.is_due_by(until))
@@ -113,7 +116,8 @@ fn is_behind(kept: &[Kept<'_>], until: Option<u64>, number: u64) -> bool
 
 fn is_any_ahead(kept: &[Kept<'_>], until: Option<u64>, number: u64) -> bool
     requires { ForSome until (λ t. t < 2 ^ 61) }
-    ensures { result ≡ list_any (λ k. is_played_out (kept_packets kept.now) (moment_of until) (at_number k.place.number) && nat_le number k.place.number) kept.now }
+    ensures { result ≡ list_any (λ k. is_played_out (kept_packets kept.now) (moment_of until)
+        (at_number k.place.number) && nat_le number k.place.number) kept.now }
 {
     kept.iter().any(|k| is_out(kept, until, k.place.number) && number <= k.place.number)
 }
@@ -139,7 +143,8 @@ fn is_outside_span(limits: &Limits, kept: &[Kept<'_>], until: Option<u64>, numbe
 
 fn is_any_far(kept: &[Kept<'_>], capacity: u64, until: Option<u64>, number: u64) -> bool
     requires { ForSome until (λ t. t < 2 ^ 61) }
-    ensures { result ≡ list_any (λ k. not (is_played_out (kept_packets kept.now) (moment_of until) (at_number k.place.number)) && nat_le capacity (distance k.place.number number)) kept.now }
+    ensures { result ≡ list_any (λ k. not (is_played_out (kept_packets kept.now) (moment_of until)
+        (at_number k.place.number)) && nat_le capacity (distance k.place.number number)) kept.now }
 {
     kept.iter().any(|k| !is_out(kept, until, k.place.number)
         && k.place.number.abs_diff(number) >= capacity)

@@ -113,12 +113,14 @@ impl Buffer {
 
         ensures verdict { IfOk result (Judges self.old at (seen arrival.now)) }
         ensures state { OnOk result (StandsAfter self.old self.new (media_step at (seen arrival.now))) }
-        ensures sink { OnOk result (Releases self.old (media_step at (seen arrival.now)) (K.contents sink.old) (K.contents sink.new)) }
+        ensures sink { OnOk result
+            (Releases self.old (media_step at (seen arrival.now)) (K.contents sink.old) (K.contents sink.new)) }
         ensures time { OnOk result ((self.new.time ≡ at) × (self.new.phase ≡ Phase.Open)) }
         ensures limits { self.new.limits ≡ self.old.limits }
 
         ensures err { OnErr result (self.new ≡ failed self.old) }
-        ensures part { OnErr result (ReleasesPart self.old (media_step at (seen arrival.now)) (K.contents sink.old) (K.contents sink.new)) }
+        ensures part { OnErr result
+            (ReleasesPart self.old (media_step at (seen arrival.now)) (K.contents sink.old) (K.contents sink.new)) }
         ensures cause { HasCause (K.faults sink.old) (K.faults sink.new) result }
     {
         self.let_out(Some(at), sink)?;
@@ -260,7 +262,8 @@ impl Buffer {
         requires anchor { anchor.now.time < 2 ^ 61 }
         requires start { anchor.now.timestamp < 2 ^ 41 }
         requires word { arrival.now.word < cycle_of arrival.now.width }
-        ensures place { IsPlaceOf result (placed_packet self.now.limits anchor.now self.now.highest (seen arrival.now)) }
+        ensures place { IsPlaceOf result
+            (placed_packet self.now.limits anchor.now self.now.highest (seen arrival.now)) }
         ensures limits { AreInRange self.now.limits }
     {
         place_of(&self.limits, anchor, self.highest, arrival)
@@ -313,12 +316,14 @@ impl Buffer {
     fn let_out<K: Sink>(&mut self, until: Option<u64>, sink: &mut K) -> Result<u32, WriteFault>
         requires { ForSome until (λ t. t < 2 ^ 61) }
         ensures ok { OnOk result (self.new ≡ raised self.old (floor_then self.old (moment_of until))) }
-        ensures sink { OnOk result (Appends (K.contents sink.old) (K.contents sink.new) (octets_below (floor_then self.old (moment_of until)) self.old.held)) }
+        ensures sink { OnOk result (Appends (K.contents sink.old) (K.contents sink.new)
+            (octets_below (floor_then self.old (moment_of until)) self.old.held)) }
         ensures count { IfOk result (λ n. n
             ≡ length (filter (is_below (floor_then self.old (moment_of until))) self.old.held)) }
         ensures err { OnErr result (self.new ≡ failed self.old) }
         ensures limits { self.new.limits ≡ self.old.limits }
-        ensures part { OnErr result (AppendsPart (K.contents sink.old) (K.contents sink.new) (octets_below (floor_then self.old (moment_of until)) self.old.held)) }
+        ensures part { OnErr result (AppendsPart (K.contents sink.old) (K.contents sink.new)
+            (octets_below (floor_then self.old (moment_of until)) self.old.held)) }
         ensures complete { octets_below (floor_then self.old (moment_of until)) self.old.held ≡ []
             → IsOk result }
         ensures cause { HasCause (K.faults sink.old) (K.faults sink.new) result }

@@ -16,9 +16,11 @@ pub fn put_below<K: Sink>(ring: &mut Ring, floor: u64, sink: &mut K) -> Result<u
     requires few { length ring.old.packets < 2 ^ 32 }
     ensures rest { OnOk result (ring.new.packets ≡ filter (is_from floor) ring.old.packets) }
     ensures capacity { ring.new.capacity ≡ ring.old.capacity }
-    ensures ok { OnOk result (Appends (K.contents sink.old) (K.contents sink.new) (octets_below floor ring.old.packets)) }
+    ensures ok { OnOk result
+        (Appends (K.contents sink.old) (K.contents sink.new) (octets_below floor ring.old.packets)) }
     ensures count { IfOk result (λ n. n ≡ length (filter (is_below floor) ring.old.packets)) }
-    ensures err { OnErr result (AppendsPart (K.contents sink.old) (K.contents sink.new) (octets_below floor ring.old.packets)) }
+    ensures err { OnErr result
+        (AppendsPart (K.contents sink.old) (K.contents sink.new) (octets_below floor ring.old.packets)) }
     ensures complete { octets_below floor ring.old.packets ≡ [] → IsOk result }
     ensures cause { HasCause (K.faults sink.old) (K.faults sink.new) result }
 {

@@ -150,7 +150,8 @@ impl Ring {
         requires soon { int_lt place.now.deadline (pos (2 ^ 62)) ≡ true }
         requires payload { length payload.now ≤ MAX_PAYLOAD }
         requires new { list_any (λ p. p.number == place.now.number) self.old.packets ≡ false }
-        requires near { list_any (λ p. nat_le self.old.capacity (distance p.number place.now.number)) self.old.packets ≡ false }
+        requires near { list_any
+            (λ p. nat_le self.old.capacity (distance p.number place.now.number)) self.old.packets ≡ false }
         ensures packets { self.new.packets
             ≡ insert_by_number (packet_at place.now payload.now) self.old.packets }
         ensures capacity { self.new.capacity ≡ self.old.capacity }

@@ -56,7 +56,11 @@ impl Store {
     /// Stores a packet whose number is one above the newest. Where there is no room, the oldest goes.
     pub fn put(&mut self, sent: Sent)
         requires next { IsNext self.old.packets sent.number }
-        ensures value { self.new ≡ record { size = self.old.size; packets = take self.old.size (record { sent = sent; mark = None } ∷ self.old.packets) } }
+        ensures value { self.new ≡ record {
+          size = self.old.size;
+          packets = take self.old.size
+              (record { sent = sent; mark = None } ∷ self.old.packets);
+        } }
         ensures next { IsNext self.new.packets (sent.number + 1) }
         ensures history { (history : List Sending) → IsStoreAfter self.old history
             → IsStoreAfter self.new (First sent ∷ history) }

@@ -69,7 +69,8 @@ impl Receiver {
 
         // A step that was made is one more of the history, and the sink has gained what it releases.
         ensures state { IfStepped result (GoesOn self.old self.new (step_of told.now)) }
-        ensures sink { IfStepped result (Plays self.old (step_of told.now) (K.contents sink.old) (K.contents sink.new)) }
+        ensures sink { IfStepped result
+            (Plays self.old (step_of told.now) (K.contents sink.old) (K.contents sink.new)) }
         ensures phase { IfStepped result (self.new.buffer.phase ≡ ended_at told.now) }
         ensures limits { self.new.buffer.limits ≡ self.old.buffer.limits }
 

@@ -39,10 +39,12 @@ pub fn step_buffer<K: Sink>(
     ensures verdict { IfOk result (λ s. (history : List Step) → IsStateAfter buffer.old history
         → SaysVerdict s.verdict buffer.old.limits history (step_of told.now)) }
     ensures state { OnOk result (StandsAfter buffer.old buffer.new (buffer_step (step_of told.now))) }
-    ensures sink { OnOk result (Releases buffer.old (buffer_step (step_of told.now)) (K.contents sink.old) (K.contents sink.new)) }
+    ensures sink { OnOk result
+        (Releases buffer.old (buffer_step (step_of told.now)) (K.contents sink.old) (K.contents sink.new)) }
     ensures limits { buffer.new.limits ≡ buffer.old.limits }
     ensures failed { OnErr result (HasFailed buffer.new) }
-    ensures part { OnErr result (ReleasesPart buffer.old (buffer_step (step_of told.now)) (K.contents sink.old) (K.contents sink.new)) }
+    ensures part { OnErr result
+        (ReleasesPart buffer.old (buffer_step (step_of told.now)) (K.contents sink.old) (K.contents sink.new)) }
     ensures cause { HasCause (K.faults sink.old) (K.faults sink.new) result }
 {
     let tick = tick_of(told.us);
@@ -71,10 +73,12 @@ fn step_media<K: Sink>(
     ensures verdict { IfOk result (λ s. (history : List Step) → IsStateAfter buffer.old history
         → s.verdict ≡ Some (verdict buffer.old.limits history tick (seen arrival.now))) }
     ensures state { OnOk result (StandsAfter buffer.old buffer.new (media_step tick (seen arrival.now))) }
-    ensures sink { OnOk result (Releases buffer.old (media_step tick (seen arrival.now)) (K.contents sink.old) (K.contents sink.new)) }
+    ensures sink { OnOk result
+        (Releases buffer.old (media_step tick (seen arrival.now)) (K.contents sink.old) (K.contents sink.new)) }
     ensures limits { buffer.new.limits ≡ buffer.old.limits }
     ensures failed { OnErr result (HasFailed buffer.new) }
-    ensures part { OnErr result (ReleasesPart buffer.old (media_step tick (seen arrival.now)) (K.contents sink.old) (K.contents sink.new)) }
+    ensures part { OnErr result
+        (ReleasesPart buffer.old (media_step tick (seen arrival.now)) (K.contents sink.old) (K.contents sink.new)) }
     ensures cause { HasCause (K.faults sink.old) (K.faults sink.new) result }
 {
     let at = now.max(tick);
