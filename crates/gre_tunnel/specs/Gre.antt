@@ -8,6 +8,7 @@ use Rattle.std.specs.Int.{w16, w32, to_be_bytes, from_bool}
 abbrev pub keepalive_protocol : ℕ
 keepalive_protocol = 0x88B5
 
+-- and that of a datagram behind its ports
 abbrev pub datagram_protocol : ℕ
 datagram_protocol = 0x88B6
 

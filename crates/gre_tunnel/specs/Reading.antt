@@ -23,6 +23,7 @@ is_set octets k = bit_at (flags_of octets) k == 1
 abbrev pub has_key : List ℕ → Bool
 has_key octets = is_set octets 13
 
+-- and a sequence number
 abbrev pub has_sequence : List ℕ → Bool
 has_sequence octets = is_set octets 12
 

@@ -3,6 +3,7 @@ use Rattle.std.specs.Prelude.{ℕ, List, codes}
 use Rattle.gre_tunnel.specs.declared.gre.GreBad.{GreBad}
 use Rattle.gre_tunnel.specs.declared.gre.GreBad.TheVariants.{Short, Version, Checksum, Reserved, KeyedNoSequence, Protocol}
 
+-- the text of each refusal
 abbrev pub text_of : GreBad → List ℕ
 text_of Short = codes "gre short"
 text_of Version = codes "gre version"

@@ -13,6 +13,7 @@ use Rattle.outside_io.specs.declared.store.Store8.{Store8}
 use Rattle.outside_io.specs.declared.words.Words.{Words}
 use Rattle.outside_io.specs.declared.mem_host.MemHost.{MemHost}
 
+-- what stands under the names and at the places of a host in memory
 abbrev pub mem_shelf : MemHost → Shelf MemSource Store8 Words
 mem_shelf host = record {
   sources = place_of host.sources.items;
@@ -21,6 +22,7 @@ mem_shelf host = record {
   next_entropy = host.next_entropy;
 }
 
+-- its calls
 abbrev pub mem_calls : MemHost → Calls
 mem_calls host = host.calls
 

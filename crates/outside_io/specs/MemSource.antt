@@ -5,10 +5,12 @@ use Rattle.outside_io.specs.Memory.{ReadsToCut}
 use Rattle.outside_io.specs.declared.mem_source.MemSource.{MemSource}
 use Rattle.outside_io.specs.declared.mem_source.MemSource.TheVariants.{Whole, Cut}
 
+-- the octets that a source in memory has still to give, cut or not
 abbrev pub mem_remaining : MemSource → Option (List ℕ)
 mem_remaining (Whole s) = Some s.remaining
 mem_remaining (Cut s) = Some s.remaining
 
+-- its calls
 abbrev pub source_calls : MemSource → Calls
 source_calls (Whole s) = s.calls
 source_calls (Cut s) = s.calls

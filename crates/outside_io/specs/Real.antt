@@ -16,10 +16,12 @@ pub record RealHostState : Type 0 where
 abbrev pub silent : Option (List ℕ)
 silent = None
 
+-- how many calls of a source failed, a file or a stream
 abbrev pub source_faults : {F I : Type 0} → RealSource F I → ℕ
 source_faults (sources.File s) = s.faults
 source_faults (sources.Stream s) = s.faults
 
+-- likewise of a sink
 abbrev pub sink_faults : {F O : Type 0} → RealSink F O → ℕ
 sink_faults (sinks.File s) = s.faults
 sink_faults (sinks.Stream s) = s.faults
@@ -54,6 +56,7 @@ abbrev pub IsSourceNamed : {F I : Type 0} → List ℕ → RealSource F I → Ty
 IsSourceNamed name (sources.File s) = name ≢ codes "-"
 IsSourceNamed name (sources.Stream s) = name ≡ codes "-"
 
+-- likewise of sinks
 abbrev pub IsSinkNamed : {F O : Type 0} → List ℕ → RealSink F O → Type 0
 IsSinkNamed name (sinks.File s) = name ≢ codes "-"
 IsSinkNamed name (sinks.Stream s) = name ≡ codes "-"

@@ -66,6 +66,7 @@ Stays {N} old new = (n : N) → new n ≡ old n
 abbrev pub nowhere : {I O E : Type 0} → Shelf I O E
 nowhere = record { sources = λ _. Absent; sinks = λ _. Absent; entropies = λ _. Absent; next_entropy = 0 }
 
+-- the call of a host failed, and it was not for want of memory
 abbrev pub has_host_failed : {T : Type 0} → Result T HostBad → Bool
 has_host_failed (Ok x) = false
 has_host_failed (Err Failed) = true

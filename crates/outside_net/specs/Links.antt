@@ -41,12 +41,14 @@ gives_datagram Failed = false
 abbrev pub IsOver : Answer → Option (ℕ → Answer) → Type 0
 IsOver answer told = answer ≡ End → (s : ℕ → Answer) → told ≡ Some s → (k : ℕ) → gives_datagram (s k) ≡ false
 
+-- the read failed
 abbrev pub has_read_failed : Got → Bool
 has_read_failed (got.Datagram channel count) = false
 has_read_failed got.Quiet = false
 has_read_failed got.End = false
 has_read_failed got.Failed = true
 
+-- no datagram will come any more
 abbrev pub has_come_to_end : Got → Bool
 has_come_to_end (got.Datagram channel count) = false
 has_come_to_end got.Quiet = false

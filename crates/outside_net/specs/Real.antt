@@ -14,6 +14,7 @@ use Rattle.outside_net.specs.declared.port.Port.{Port}
 use Rattle.outside_net.specs.declared.udp_link.UdpLink.{UdpLink}
 use Rattle.outside_net.specs.Links.{KnowsAfter}
 
+-- an address stands for the peer
 abbrev pub is_known : Peer → Bool
 is_known Unknown = false
 is_known (Last address) = true
@@ -24,6 +25,7 @@ abbrev pub knows_at : Option Port → Bool
 knows_at None = false
 knows_at (Some port) = is_known port.peer
 
+-- the peer of a link's channel is known
 abbrev pub knows_in_link : UdpLink → Channel → Bool
 knows_in_link link channels.Media = knows_at link.media
 knows_in_link link channels.Control = knows_at link.control
@@ -34,6 +36,7 @@ abbrev pub is_sending : Role → Bool
 is_sending Receives = false
 is_sending Sends = true
 
+-- a link states the peers of its profile's channels where it sends, and none where it receives
 abbrev pub stated_in : Role → Profile → Channel → Bool
 stated_in role Simple channels.Media = is_sending role
 stated_in role Simple channels.Control = is_sending role
@@ -55,6 +58,7 @@ PeerAfter channel old new (Some got.Quiet) = new ≡ old
 PeerAfter channel old new (Some got.End) = new ≡ old
 PeerAfter channel old new (Some got.Failed) = new ≡ old
 
+-- what a look at a socket leaves of its peer
 abbrev pub LooksOn : Channel → Option Port → Option Port → Option Got → Type 0
 LooksOn channel old new result = PeerAfter channel (knows_at old) (knows_at new) result
 

@@ -34,6 +34,7 @@ abbrev pub answer_in : ScriptRead → Answer
 answer_in (reads.Datagram channel octets) = Gave (record { channel = channel; octets = octets })
 answer_in reads.Quiet = Quiet
 
+-- the answer to the next read: an end where the script has none left
 abbrev pub first_answer : List ScriptRead → Answer
 first_answer [] = End
 first_answer (read ∷ script) = answer_in read

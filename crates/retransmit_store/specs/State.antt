@@ -14,6 +14,7 @@ pub record StoreState : Type 0 where
 abbrev pub packets_of : List Stored → List Packet
 packets_of stored = map (λ p. p.sent) stored
 
+-- the packets of a store, the newest first
 abbrev pub packets_in : StoreState → List Packet
 packets_in state = packets_of state.packets
 

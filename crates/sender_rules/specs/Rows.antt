@@ -17,6 +17,7 @@ sends first count = map (λ number. First (packet number)) (range_with_len first
 abbrev pub short : List ℕ → List AskedNumber
 short words = map (λ word. record { width = W16; word = word }) words
 
+-- likewise of 32 bits
 abbrev pub long : List ℕ → List AskedNumber
 long words = map (λ word. record { width = W32; word = word }) words
 
