@@ -2,10 +2,5 @@ pub mod Causes
 pub mod Told
 pub mod Calls
 pub mod Memory
-pub mod Shelf
-pub mod Slots
-pub mod ByPlace
 pub mod MemSource
-pub mod MemHost
 pub mod Real
-pub mod Text

@@ -8,10 +8,6 @@ use Rattle.outside_io.specs.declared.real.RealSource.TheVariants as sources
 use Rattle.outside_io.specs.declared.real.RealSink.{RealSink}
 use Rattle.outside_io.specs.declared.real.RealSink.TheVariants as sinks
 
--- what a contract sees of the system's host: how many of its calls failed
-pub record RealHostState : Type 0 where
-  pub faults : ℕ
-
 -- what is given or taken is not told
 abbrev pub silent : Option (List ℕ)
 silent = None

@@ -6,9 +6,9 @@ use crate::NoMemory;
 use std::alloc::Global;
 use std::marker::Model;
 
-// Counts the calls and the faults, and says which calls are to fail.
+/// Counts the calls and the faults, and says which calls are to fail.
 #[derive(Drop)]
-pub(crate) struct FailingCalls {
+pub struct FailingCalls {
     failing: Vec<u64>,
     made: u64,
     faults: u64,
@@ -21,14 +21,14 @@ impl Model for FailingCalls {
 }
 
 impl FailingCalls {
-    // The calls that are to fail are listed by their places, from 0.
-    pub(crate) fn with(alloc: Global, failing: &[u64]) -> Result<FailingCalls, NoMemory>
+    /// The calls that are to fail are listed by their places, from 0.
+    pub fn with(alloc: Global, failing: &[u64]) -> Result<FailingCalls, NoMemory>
         ensures value { IfOk result (λ calls. calls ≡ no_calls failing.now) }
     {
         Ok(FailingCalls::of(Vec::from_slice(alloc, failing)?))
     }
 
-    pub(crate) fn of(failing: Vec<u64>) -> FailingCalls
+    pub fn of(failing: Vec<u64>) -> FailingCalls
         ensures value { result ≡ no_calls failing.items }
     {
         FailingCalls {
@@ -38,8 +38,8 @@ impl FailingCalls {
         }
     }
 
-    // Counts a call, and says whether it is to fail.
-    pub(crate) fn next_fails(&mut self) -> bool
+    /// Counts a call, and says whether it is to fail.
+    pub fn next_fails(&mut self) -> bool
         ensures value { IsTrue result ↔ FailsNext self.old }
         ensures state { self.new ≡ record self.old { made = next_count self.old.made } }
     {
@@ -48,8 +48,8 @@ impl FailingCalls {
         self.failing.contains(&call)
     }
 
-    // Counts a fault.
-    pub(crate) fn count_fault(&mut self)
+    /// Counts a fault.
+    pub fn count_fault(&mut self)
         ensures state { self.new ≡ record self.old { faults = next_count self.old.faults } }
         ensures later { self.old.faults ≤ self.new.faults }
     {

@@ -3,16 +3,13 @@ ghost use Rattle.std.specs.Prelude.{◌≡◌, ◌≤◌, ◌<◌, length, take,
 ghost use Rattle.outside_io.specs.Real.{silent, source_faults, sink_faults, ReadsBehind, WritesBehind, WritesFront, WritesFrontBehind, IsSourceNamed, IsSinkNamed};
 ghost use Rattle.std.specs.Io.{ReadsAtMost};
 ghost use Rattle.std.specs.Io.KnownBytes.{ReadConsumes, Appends as WriterAppends};
-ghost use Rattle.outside_io.specs.Causes.{HasCause, Rose};
-ghost use Rattle.outside_io.specs.Shelf.{nowhere};
+ghost use Rattle.outside_io.specs.Causes.{HasCause};
 ghost use Rattle.outside_io.specs.Told.{Appends, AppendsPart, Takes, IsEmpty};
 
 use crate::file_identity::FileIdentity;
-use crate::{Failed, Host, HostBad, RealEntropy, Sink, Source};
+use crate::{Failed, Sink, Source};
 use std::fs::{self, Files, OpenFile};
 use std::io::{self, Input, Print, Printer, Read, Write};
-use std::marker::Model;
-use std::random::RandomSource;
 
 /// Any reader, with a count of its faults.
 #[derive(Drop)]
@@ -167,8 +164,8 @@ fn file_read<F: OpenFile, I>(source: &RealSource<F, I>) -> io::Result<Option<Fil
     }
 }
 
-/// A source, and the regular file that it reads, if it is one.
-fn open_known_source<R: Files + Input>(
+/// A source, standard input under the name `-`, and the regular file that it reads, if it is one.
+pub fn open_known_source<R: Files + Input>(
     rt: &R,
     name: &str,
 ) -> io::Result<(RealSource<R::File, R::Reader>, Option<FileIdentity>)> {
@@ -178,7 +175,7 @@ fn open_known_source<R: Files + Input>(
 }
 
 /// Whether a name is that of this regular file.
-fn is_named<R: Files>(rt: &R, name: &str, file: Option<FileIdentity>) -> bool {
+pub fn is_named<R: Files>(rt: &R, name: &str, file: Option<FileIdentity>) -> bool {
     match (fs::metadata(rt, name), file) {
         (Ok(metadata), Some(file)) => FileIdentity::of(&metadata) == Some(file),
         _ => false,
@@ -186,7 +183,7 @@ fn is_named<R: Files>(rt: &R, name: &str, file: Option<FileIdentity>) -> bool {
 }
 
 /// Standard output under the name `-`, and else a new file of this name.
-fn create_sink<'a, R: Files + Print>(
+pub fn create_sink<'a, R: Files + Print>(
     rt: &'a R,
     name: &str,
 ) -> io::Result<RealSink<R::File, Printer<'a, R>>>
@@ -203,92 +200,4 @@ fn create_sink<'a, R: Files + Print>(
         Ok(inner) => Ok(RealSink::File(Writing { inner, faults: 0 })),
         Err(error) => Err(error),
     }
-}
-
-/// The system's files, its standard streams under the name `-`, and its random source. A file that is read as the source
-/// isn't opened as the sink: that would empty it.
-#[derive(Drop)]
-pub struct RealHost<'a, R> {
-    rt: &'a R,
-    faults: u64,
-    read: Option<FileIdentity>,
-}
-
-impl<'a, R> Model for RealHost<'a, R> {
-    ghost use Rattle.outside_io.specs.Real.{RealHostState};
-
-    ghost Value = { RealHostState };
-
-    ghost view = { λ host. record { faults = host.faults } };
-}
-
-impl<'a, R> RealHost<'a, R> {
-    /// A host of which no call has failed.
-    pub fn new(rt: &'a R) -> RealHost<'a, R>
-        ensures value { result.faults ≡ 0 }
-    {
-        RealHost {
-            rt,
-            faults: 0,
-            read: None,
-        }
-    }
-
-    /// One more call failed.
-    fn refuse(&mut self) -> HostBad
-        ensures value { result ≡ HostBad.Failed }
-        ensures cause { Rose self.old.faults self.new.faults }
-    {
-        self.faults = self.faults.saturating_add(1);
-        HostBad::Failed
-    }
-}
-
-impl<'a, R: Files + Input + Print + RandomSource> Host for RealHost<'a, R> {
-    type Input = RealSource<R::File, R::Reader>;
-
-    type Output = RealSink<R::File, Printer<'a, R>>;
-
-    type Random = RealEntropy<'a, R>;
-
-    ghost tells = { false };
-
-    ghost shelf = { λ _. nowhere };
-
-    ghost faults = { λ host. host.faults };
-
-    fn source(&mut self, name: &str) -> Result<Self::Input, HostBad> {
-        match open_known_source(self.rt, name) {
-            Ok((source, file)) => {
-                self.read = file;
-                Ok(source)
-            }
-            Err(_) => Err(self.refuse()),
-        }
-    }
-
-    fn sink(&mut self, name: &str) -> Result<Self::Output, HostBad> {
-        if name != "-" && is_named(self.rt, name, self.read) {
-            return Err(self.refuse());
-        }
-        match create_sink(self.rt, name) {
-            Ok(sink) => Ok(sink),
-            Err(_) => Err(self.refuse()),
-        }
-    }
-
-    fn entropy(&mut self) -> Result<Self::Random, HostBad> {
-        Ok(RealEntropy {
-            rt: self.rt,
-            faults: 0,
-        })
-    }
-
-    fn back_source(&mut self, _name: &str, _object: Self::Input) {
-        self.read = None;
-    }
-
-    fn back_sink(&mut self, _name: &str, _object: Self::Output) {}
-
-    fn back_entropy(&mut self, _place: u8, _object: Self::Random) {}
 }

@@ -7,8 +7,19 @@ use std::random::RandomSource;
 /// The system's random source, with a count of its faults.
 #[derive(Drop)]
 pub struct RealEntropy<'a, R> {
-    pub(crate) rt: &'a R,
-    pub(crate) faults: u64,
+    rt: &'a R,
+    faults: u64,
+}
+
+impl<'a, R> RealEntropy<'a, R> {
+    ghost use Rattle.std.specs.Prelude.{◌≡◌};
+
+    /// A source of which no call has failed.
+    pub fn new(rt: &'a R) -> RealEntropy<'a, R>
+        ensures fresh { result.faults ≡ 0 }
+    {
+        RealEntropy { rt, faults: 0 }
+    }
 }
 
 impl<'a, R: RandomSource> Entropy for RealEntropy<'a, R> {

@@ -22,6 +22,17 @@ impl<'a, R: time::Clock> ProcessClock<'a, R> {
     }
 }
 
+impl<'a, R> ProcessClock<'a, R> {
+    /// Another clock that was made when this one was.
+    pub fn with_same_start(&self) -> ProcessClock<'a, R> {
+        ProcessClock {
+            rt: self.rt,
+            start: self.start,
+            last: self.last,
+        }
+    }
+}
+
 impl<'a, R: time::Clock> Clock for ProcessClock<'a, R> {
     ghost use Rattle.std.specs.Prelude.{None};
 

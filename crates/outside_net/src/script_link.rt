@@ -75,7 +75,7 @@ impl Model for ScriptLink {
 }
 
 impl ScriptLink {
-    ghost use Rattle.std.specs.Prelude.{◌≡◌, [], ℕ, IfOk, option_map, slice_get};
+    ghost use Rattle.std.specs.Prelude.{◌≡◌, ◌↔◌, [], ℕ, IfOk, IsTrue, option_map, slice_get};
     ghost use Rattle.std.specs.List.{All};
     ghost use Rattle.outside_io.specs.declared.channel.Channel.{Channel as ChannelValue};
     ghost use Rattle.outside_net.specs.Scripts.{ScriptState, FitsDatagram, knows_in, IsNewLink};
@@ -106,6 +106,13 @@ impl ScriptLink {
             faults: 0,
             ends: 0,
         })
+    }
+
+    /// Whether it took no datagram.
+    pub fn is_unwritten(&self) -> bool
+        ensures value { IsTrue result ↔ (self.now.taken ≡ []) }
+    {
+        self.taken.is_empty()
     }
 
     /// The channel and the octets of a datagram that was taken, by its place from 0.

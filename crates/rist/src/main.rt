@@ -5,7 +5,7 @@ ghost use Rattle.std.specs.Prelude.{◌≡◌};
 ghost use Rattle.std.specs.Process.{exit_status};
 ghost use Rattle.rist_top.specs.ExitCodes.{exit_code_of};
 
-use outside_io::RealHost;
+use outside_host::RealHost;
 use rist_top::{Status, USAGE, run};
 use std::env;
 use std::process::ExitCode;

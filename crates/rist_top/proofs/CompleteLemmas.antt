@@ -3,8 +3,8 @@ use Rattle.std.proofs.Common.{◌≡◌, ◌⊎◌, ℕ, ◌≤◌, ◌^◌, Lis
 use mathlib.Core.Logic.{inl, inr}
 use Rattle.std.specs.Prelude.{Result, Ok, Err}
 use Rattle.outside_io.specs.Told.{Passage, Takes}
-use Rattle.outside_io.specs.Shelf.{Shelf}
-use Rattle.outside_io.specs.declared.host.Place.TheVariants.{Here}
+use Rattle.outside_host.specs.Shelf.{Shelf}
+use Rattle.outside_host.specs.declared.host.Place.TheVariants.{Here}
 use Rattle.capture_file.specs.Capture.{Record}
 use Rattle.capture_file.specs.Reader.{most_ahead}
 use Rattle.capture_walk.proofs.CompleteLemmas.{walk_completes}
@@ -65,7 +65,7 @@ work_ends IsKnown (Pack c) b p status input told read write words memory (inl fa
 work_ends IsKnown (Pack c) b p status input told read write words memory (inr work) =
     pack_ends (packed_record (session_with c.session c.nulls c.wide) (nonces_of work.0) (pack_settings c)) b p status work.3.0 input told work.3.1 read write work.3.2
 
-ran_done : {I O E : Type 0} (tells : Tells I O E) (old new : Shelf I O E) (c : CommandLine) (status : Status)
+ran_done : {I O E L C : Type 0} (tells : Tells I O E) (old new : Shelf I O E L C) (c : CommandLine) (status : Status)
     (source : I) (b : List ℕ) → old.sources (source_name c) ≡ Here source → tells.remaining source ≡ Some b → IsWholeInput c b → NoneFailed tells old new c
     → (status ≡ statuses.Memory → ⊥) → Ran tells old new c status → status ≡ statuses.Done
 ran_done tells old new c status source b here told input none memory ran =
@@ -80,7 +80,7 @@ done_or_memory status (inl memory) done = inr memory
 done_or_memory status (inr other) done = inl (done other)
 
 -- a run in which nothing failed is done, or memory was refused
-pub ran_completes : {I O E : Type 0} (tells : Tells I O E) (old new : Shelf I O E) (c : CommandLine) (status : Status)
+pub ran_completes : {I O E L C : Type 0} (tells : Tells I O E) (old new : Shelf I O E L C) (c : CommandLine) (status : Status)
     → (status ≡ statuses.OpenFault → ⊥) → ((status ≡ statuses.OpenFault → ⊥) → (status ≡ statuses.Memory → ⊥) → Ran tells old new c status)
     → Completes tells old new c status
 ran_completes tells old new c status opened ran source b here told input none =

@@ -3,8 +3,8 @@ use Rattle.std.proofs.Common.{◌≡◌, ℕ, ◌≤◌, List, [], ◌∷◌, �
 use Rattle.std.specs.Prelude.{Result, Ok, Err}
 use Rattle.std.specs.List.{concat}
 use Rattle.outside_io.specs.Told.{Passage, Appends}
-use Rattle.outside_io.specs.Shelf.{Shelf}
-use Rattle.outside_io.specs.declared.host.Place.TheVariants.{Back}
+use Rattle.outside_host.specs.Shelf.{Shelf}
+use Rattle.outside_host.specs.declared.host.Place.TheVariants.{Back}
 use Rattle.capture_file.specs.Capture.{Record, IsCapture, IsFront, magic}
 use Rattle.capture_file.proofs.FormatLemmas.{one_reading, no_record_in_nothing}
 use Rattle.capture_file.specs.Reader.{most_ahead}
@@ -71,7 +71,7 @@ done_reached c first old new b rs p run some told work capture is steady honest 
     let same : here.0 ≡ rs = one_capture b here.0 rs here.1 capture in
     subst (Appends old new) (ap (replayed (session_read c.session) (replay_limits c)) same ∙ released c rs p run some is steady honest) here.2
 
-pub ran_reached : {I O E : Type 0} (tells : Tells I O E) (old new : Shelf I O E) (c : ReplayCommand) (status : Status)
+pub ran_reached : {I O E L C : Type 0} (tells : Tells I O E) (old new : Shelf I O E L C) (c : ReplayCommand) (status : Status)
     → 1 ≤ c.delay → status ≡ statuses.Done → Ran tells old new (Replay c) status → WritesReached tells old new c
 ran_reached tells old new c status some done ran source sink filled b rs p run here_source here_sink back_sink told is_capture is steady honest =
     let r = subst (λ s. Ran tells old new (Replay c) s) done ran in

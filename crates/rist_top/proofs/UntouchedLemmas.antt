@@ -3,7 +3,7 @@ use Rattle.std.proofs.Common.{◌≡◌, ◌⊎◌, sym, subst}
 use mathlib.Core.Logic.{inl, inr}
 use Rattle.std.specs.Prelude.{Result, Ok, Err}
 use Rattle.outside_io.specs.Told.{Passage}
-use Rattle.outside_io.specs.Shelf.{Shelf}
+use Rattle.outside_host.specs.Shelf.{Shelf}
 use Rattle.psk_seal.specs.Sealer.{SealerState}
 use Rattle.rist_pack.specs.declared.bad.PackBad.{PackBad}
 use Rattle.rist_pack.specs.declared.bad.PackBad.TheVariants as packs
@@ -30,7 +30,7 @@ packs_with_memory IsKnown c p (inl failed) = not_drawn (sym failed.0)
 packs_with_memory IsKnown c p (inr work) = no_memory work.3.0 (sym work.3.1)
 
 -- so a packing that wants memory has touched nothing
-at_memory : {I O E : Type 0} (tells : Tells I O E) (old new : Shelf I O E) (c : CommandLine)
+at_memory : {I O E L C : Type 0} (tells : Tells I O E) (old new : Shelf I O E L C) (c : CommandLine)
     → Untouched old new c ⊎ Ran tells old new c statuses.Memory → LeavesAtMemory tells old new c
 at_memory tells old new (Replay c) left = left
 at_memory tells old new (Show c) left = left
@@ -38,7 +38,7 @@ at_memory tells old new (Pack c) (inl same) = same
 at_memory tells old new (Pack c) (inr ran) =
     absurd (packs_with_memory _ c (passage tells ran.source ran.spent ran.sink ran.filled) ran.work)
 
-pub line_at_memory : {I O E : Type 0} (tells : Tells I O E) (old new : Shelf I O E) (c k : CommandLine) (status : Status)
+pub line_at_memory : {I O E L C : Type 0} (tells : Tells I O E) (old new : Shelf I O E L C) (c k : CommandLine) (status : Status)
     → Untouched old new c ⊎ Ran tells old new c status → c ≡ k → status ≡ statuses.Memory → LeavesAtMemory tells old new k
 line_at_memory tells old new c k status left is memory =
     subst (LeavesAtMemory tells old new) is

@@ -1,8 +1,8 @@
 -- A command whose calls don't fail comes to its end, or memory is refused.
 use Rattle.std.specs.Prelude.{◌≡◌, ◌⊎◌, ◌≤◌, ◌^◌, ℕ, List, length, Some}
 use Rattle.outside_io.specs.Causes.{Rose}
-use Rattle.outside_io.specs.Shelf.{Shelf}
-use Rattle.outside_io.specs.declared.host.Place.TheVariants.{Here, Back}
+use Rattle.outside_host.specs.Shelf.{Shelf}
+use Rattle.outside_host.specs.declared.host.Place.TheVariants.{Here, Back}
 use Rattle.capture_file.specs.Capture.{Record, IsCapture}
 use Rattle.rist_words.specs.CommandLine.{CommandLine, Replay, Show, Pack}
 use Rattle.rist_top.specs.Ran.{source_name, sink_name}
@@ -22,7 +22,7 @@ IsWholeInput (Show c) b = IsWholeCapture b
 IsWholeInput (Pack c) b = length b ≤ 2 ^ 40
 
 -- no read, no write and no drawing of random words failed
-pub record NoneFailed {I O E : Type 0} (tells : Tells I O E) (old new : Shelf I O E) (c : CommandLine) : Type 0 where
+pub record NoneFailed {I O E L C : Type 0} (tells : Tells I O E) (old new : Shelf I O E L C) (c : CommandLine) : Type 0 where
   pub reads : (source spent : I) → old.sources (source_name c) ≡ Here source → new.sources (source_name c) ≡ Back spent
       → Rose (tells.read_faults source) (tells.read_faults spent) → ⊥
   pub writes : (sink filled : O) → old.sinks (sink_name c) ≡ Here sink → new.sinks (sink_name c) ≡ Back filled
@@ -30,7 +30,7 @@ pub record NoneFailed {I O E : Type 0} (tells : Tells I O E) (old new : Shelf I 
   pub words : FailedAt tells old new → ⊥
 
 -- a command over such a source in which nothing failed is done, or memory was refused
-abbrev pub Completes : {I O E : Type 0} → Tells I O E → Shelf I O E → Shelf I O E → CommandLine → Status → Type 0
+abbrev pub Completes : {I O E L C : Type 0} → Tells I O E → Shelf I O E L C → Shelf I O E L C → CommandLine → Status → Type 0
 Completes {I} tells old new c status =
     (source : I) (b : List ℕ) → old.sources (source_name c) ≡ Here source → tells.remaining source ≡ Some b → IsWholeInput c b
     → NoneFailed tells old new c → (status ≡ statuses.Done) ⊎ (status ≡ statuses.Memory)

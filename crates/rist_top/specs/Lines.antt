@@ -1,7 +1,7 @@
 -- Whether the words of a command line, the program's name first, are a line.
 use Rattle.std.specs.Prelude.{◌≡◌, Bool, List, Some, None, IsTrue, map, string_bytes}
 use Rattle.std.specs.declared.string.String.{String}
-use Rattle.outside_io.specs.Shelf.{Shelf}
+use Rattle.outside_host.specs.Shelf.{Shelf}
 use Rattle.rist_words.specs.CommandLine.{CommandLine, line_of}
 
 -- they are this line
@@ -17,5 +17,5 @@ abbrev pub IfLine : {A : Type 0} → List (String A) → (CommandLine → Type 0
 IfLine words P = (c : CommandLine) → IsLine words c → P c
 
 -- a host tells what stands on its shelf, and has handed out no random words yet
-abbrev pub IsFresh : {I O E : Type 0} → Bool → Shelf I O E → Type 0
+abbrev pub IsFresh : {I O E L C : Type 0} → Bool → Shelf I O E L C → Type 0
 IsFresh tells shelf = IsTrue tells × (shelf.next_entropy ≡ 0)

@@ -2,8 +2,8 @@
 use Rattle.std.specs.Prelude.{◌≡◌, ℕ, List, codes}
 use Rattle.outside_io.specs.Causes.{HasReadCause, HasWriteCause}
 use Rattle.outside_io.specs.Told.{IsEmpty}
-use Rattle.outside_io.specs.Shelf.{Shelf}
-use Rattle.outside_io.specs.declared.host.Place.TheVariants.{Here, Back}
+use Rattle.outside_host.specs.Shelf.{Shelf}
+use Rattle.outside_host.specs.declared.host.Place.TheVariants.{Here, Back}
 use Rattle.rist_words.specs.CommandLine.{CommandLine, Replay, Show, Pack}
 use Rattle.rist_top.specs.Causes.{fault_of}
 use Rattle.rist_top.specs.Objects.{Tells, passage}
@@ -25,7 +25,7 @@ sink_name (Show c) = codes "-"
 sink_name (Pack c) = c.capture
 
 -- the source and the sink of a line were handed out and came back, and the status says what they tell
-pub record Ran {I O E : Type 0} (tells : Tells I O E) (old new : Shelf I O E) (c : CommandLine) (status : Status) : Type 0 where
+pub record Ran {I O E L C : Type 0} (tells : Tells I O E) (old new : Shelf I O E L C) (c : CommandLine) (status : Status) : Type 0 where
   pub source : I
   pub spent : I
   pub sink : O

@@ -3,20 +3,21 @@ use Rattle.std.specs.Prelude.{◌≡◌, ◌≢◌, ℕ, Bool, false}
 use Rattle.psk_seal.specs.Nonces.{Draws}
 use Rattle.psk_seal.specs.Sealer.{SealerState}
 use Rattle.outside_io.specs.Causes.{Rose}
-use Rattle.outside_io.specs.Shelf.{Shelf}
-use Rattle.outside_io.specs.declared.host.Place.{Place}
-use Rattle.outside_io.specs.declared.host.Place.TheVariants.{Here, Back}
-use Rattle.rist_top.specs.Places.{CameBack}
+use Rattle.outside_host.specs.Shelf.{Shelf}
+use Rattle.outside_host.specs.declared.host.Place.{Place}
+use Rattle.outside_host.specs.declared.host.Place.TheVariants.{Here, Back}
+use Rattle.rist_top.specs.Places.{CameBack, KeepsLive}
 use Rattle.rist_top.specs.Objects.{Tells}
 
 -- sources and sinks stand as they stood, and of a host that has handed out none all random words but the first, which came
 -- back; that one too where none are drawn
-pub record KeepsObjects {I O E : Type 0} (old new : Shelf I O E) (draws : Bool) : Type 0 where
+pub record KeepsObjects {I O E L C : Type 0} (old new : Shelf I O E L C) (draws : Bool) : Type 0 where
   pub sources : new.sources ≡ old.sources
   pub sinks : new.sinks ≡ old.sinks
   pub others : old.next_entropy ≡ 0 → (place : ℕ) → place ≢ 0 → new.entropies place ≡ old.entropies place
   pub first : old.next_entropy ≡ 0 → CameBack (old.entropies 0) (new.entropies 0)
   pub undrawn : draws ≡ false → (place : ℕ) → new.entropies place ≡ old.entropies place
+  pub live : KeepsLive old new
 
 -- the nonces of a sealer are drawn from the first source of random words, which was handed out, did not fail, and came back
 pub record DrawnFirst {I O E : Type 0} (tells : Tells I O E) (old new : ℕ → Place E) (sealer : SealerState) : Type 0 where
@@ -28,7 +29,7 @@ pub record DrawnFirst {I O E : Type 0} (tells : Tells I O E) (old new : ℕ → 
   pub none : tells.word_faults drawn ≡ tells.word_faults words
 
 -- the first source of random words was handed out, failed, and came back
-pub record FailedAt {I O E : Type 0} (tells : Tells I O E) (old new : Shelf I O E) : Type 0 where
+pub record FailedAt {I O E L C : Type 0} (tells : Tells I O E) (old new : Shelf I O E L C) : Type 0 where
   pub words : E
   pub drawn : E
   pub took : old.entropies 0 ≡ Here words

@@ -1,7 +1,7 @@
 -- What each command leaves, by its status.
 use Rattle.std.specs.Prelude.{◌≡◌, ◌⊎◌, ℕ, List, Option, Result, Ok, Err, IfSome, is_some}
-use Rattle.outside_io.specs.declared.host.HostBad.{HostBad}
-use Rattle.outside_io.specs.declared.host.HostBad.TheVariants as hosts
+use Rattle.outside_host.specs.declared.host.HostBad.{HostBad}
+use Rattle.outside_host.specs.declared.host.HostBad.TheVariants as hosts
 use Rattle.psk_seal.specs.Sealer.{SealerState}
 use Rattle.psk_seal.specs.Nonces.{AreNonces}
 use Rattle.outside_io.specs.Told.{Passage}

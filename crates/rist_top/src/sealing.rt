@@ -1,7 +1,7 @@
 //! The sealer of a packing.
 ghost use Rattle.std.specs.Prelude.{IsTrue, IfOk, IfSome, IsErrOf, is_some};
 ghost use Rattle.outside_io.specs.Causes.{HasOpenCause};
-ghost use Rattle.outside_io.specs.Shelf.{Stays};
+ghost use Rattle.outside_host.specs.Shelf.{Stays};
 ghost use Rattle.rist_words.specs.Shown.{shown_pack};
 ghost use Rattle.rist_top.specs.Causes.{fault_of};
 ghost use Rattle.rist_top.specs.Lines.{IsFresh};
@@ -12,7 +12,7 @@ ghost use Rattle.rist_top.specs.declared.status.Status.TheVariants as statuses;
 
 use crate::status::Status;
 use crate::telling::Telling;
-use outside_io::Host;
+use outside_host::Host;
 use psk_seal::Sealer;
 use rist_words::PackLine;
 

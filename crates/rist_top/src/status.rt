@@ -1,7 +1,7 @@
 //! How a command ended.
 use capture_file::CapKind;
 use capture_walk::WalkBad;
-use outside_io::HostBad;
+use outside_host::HostBad;
 use rist_pack::PackBad;
 use std::fmt::{self, Display, Formatter, Write};
 

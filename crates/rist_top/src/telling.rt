@@ -1,7 +1,7 @@
 //! What the objects of a host tell, as one value of the contracts.
 ghost use Rattle.rist_top.specs.Objects.{Tells};
 
-use outside_io::Host;
+use outside_host::Host;
 
 /// Each host: a contract names what its objects tell by one word.
 pub trait Telling: Host {

@@ -6,7 +6,8 @@ ghost use Rattle.receiver_plain.specs.Told.{IsFit};
 
 use crate::{Status, run};
 use capture_file::CapKind;
-use outside_io::{Host, MemHost, MemParts, MemSource, Pieces, Place, Slot, Store8, Words};
+use outside_host::{Host, MemHost, MemParts, Place, Slot};
+use outside_io::{MemSource, Pieces, Store8, Words};
 use receiver_plain::{Event, Step, released};
 use receiver_rules::{Arrival, Limits, tick_of};
 use seq_unwrap::Width;
@@ -64,12 +65,17 @@ fn host(alloc: Global, octets: &[u8], outside: &Outside<'_>) -> Result<MemHost, 
     }
     let mut entropies = Vec::new(alloc);
     entropies.push(Place::Here(Words::with(alloc, outside.random, outside.draws)?))?;
-    Ok(MemHost::with(MemParts {
-        sources,
-        sinks,
-        entropies,
-        failing: Vec::from_slice(alloc, outside.calls)?,
-    }))
+    Ok(MemHost::with(
+        alloc,
+        MemParts {
+            sources,
+            sinks,
+            entropies,
+            links: Vec::new(alloc),
+            clocks: Vec::new(alloc),
+            failing: Vec::from_slice(alloc, outside.calls)?,
+        },
+    )?)
 }
 
 /// The words between blanks, the program's name before them.

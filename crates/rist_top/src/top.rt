@@ -15,7 +15,7 @@ ghost use Rattle.rist_top.specs.Complete.{Completes};
 use crate::status::Status;
 use crate::telling::Telling;
 use crate::working::{Worked, work};
-use outside_io::Host;
+use outside_host::Host;
 use rist_words::{Line, Refused, line};
 use std::alloc::Global;
 

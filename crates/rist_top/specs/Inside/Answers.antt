@@ -1,6 +1,6 @@
 -- What the parts of a run answer.
 use Rattle.std.specs.Prelude.{◌≡◌, ◌≢◌, ◌⊎◌, Result, Ok, Err}
-use Rattle.outside_io.specs.Shelf.{Shelf, Stays}
+use Rattle.outside_host.specs.Shelf.{Shelf, Stays}
 use Rattle.rist_top.specs.declared.status.Status.{Status}
 use Rattle.rist_top.specs.declared.status.Status.TheVariants as statuses
 
@@ -25,7 +25,7 @@ OnErrIs (Ok x) P = Unit {0}
 OnErrIs (Err e) P = P e
 
 -- a source and a sink are as they were handed out, and no random word was drawn
-pub record IsUnbegun {I O E : Type 0} (source spent : I) (sink filled : O) (old new : Shelf I O E) : Type 0 where
+pub record IsUnbegun {I O E L C : Type 0} (source spent : I) (sink filled : O) (old new : Shelf I O E L C) : Type 0 where
   pub unread : spent ≡ source
   pub unwritten : filled ≡ sink
   pub entropies : Stays old.entropies new.entropies

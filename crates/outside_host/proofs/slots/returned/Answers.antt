@@ -1,6 +1,6 @@
 use Rattle.std.proofs.Common.{sym, ◌∙◌}
-use Rattle.outside_io.proofs.Places.{place_of-none, stood}
-use Rattle.outside_io.proofs.slots.returned.Goals as goal
+use Rattle.outside_host.proofs.Places.{place_of-none, stood}
+use Rattle.outside_host.proofs.slots.returned.Goals as goal
 
 pub returns-in_err-i-clause-none : goal.returns-in_err-i-clause-none
 returns-in_err-i-clause-none g c =

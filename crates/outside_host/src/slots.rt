@@ -1,11 +1,12 @@
 // Objects under names, in order: the first slot of a name counts.
 ghost use Rattle.std.specs.Prelude.{◌≡◌, ◌<◌, length, MatchOption, IfSome, IfNone, IsTrue, false, []};
-ghost use Rattle.outside_io.specs.MemHost.{HasNoEmptySink};
-ghost use Rattle.outside_io.specs.declared.host.Place.TheVariants.{Here, Back};
-ghost use Rattle.outside_io.specs.Slots.{place_of, IsFirstOf};
-ghost use Rattle.outside_io.specs.Shelf.{Stays, HandsOut, TakesBack, IsAway};
+ghost use Rattle.outside_host.specs.MemHost.{HasNoEmptySink};
+ghost use Rattle.outside_host.specs.declared.host.Place.TheVariants.{Here, Back};
+ghost use Rattle.outside_host.specs.Slots.{place_of, IsFirstOf};
+ghost use Rattle.outside_host.specs.Shelf.{Stays, HandsOut, TakesBack, IsAway};
 
-use crate::{Place, Store8};
+use crate::Place;
+use outside_io::Store8;
 use std::mem;
 
 /// An object under a name.

@@ -1,18 +1,23 @@
 // A host in memory.
-ghost use Rattle.std.specs.Prelude.{◌≡◌, ◌<◌, ◌+◌, ◌⊎◌, true, Some, IfSome, IfNone, IfOk, IfErr, IsTrue, OnOk, OnErr};
+ghost use Rattle.std.specs.Prelude.{◌≡◌, ◌<◌, ◌+◌, ◌⊎◌, [], length, slice_get, true, Some, IfSome, IfNone, IfOk, IfErr, IsTrue, OnOk, OnErr};
 ghost use Rattle.outside_io.specs.Calls.{no_calls, FailsNext, CountsCall};
 ghost use Rattle.outside_io.specs.Told.{IsEmpty};
-ghost use Rattle.outside_io.specs.Shelf.{Stays, HandsOutSource, HandsOutSink, HandsOutNext, ChangesSources, ChangesSinks, ChangesEntropies, ChangesDrawing, TakesBack, IsAway, HasHostCause};
-ghost use Rattle.outside_io.specs.declared.host.HostBad.TheVariants.{Failed};
-ghost use Rattle.outside_io.specs.ByPlace.{object_at};
-ghost use Rattle.outside_io.specs.Slots.{place_of};
-ghost use Rattle.outside_io.specs.MemHost.{mem_shelf, mem_calls, IsRefused, HasNoEmptySink, HasNoNextEntropy};
-ghost use Rattle.outside_io.specs.declared.host.Place.TheVariants.{Back};
+ghost use Rattle.outside_host.specs.Shelf.{Stays, TakesBack, IsAway, HasHostCause};
+ghost use Rattle.outside_host.specs.Shelf.{HandsOutSource, HandsOutSink, HandsOutNext, HandsOutLink, HandsOutClock, KeepsLinks, IsUnwritten};
+ghost use Rattle.outside_host.specs.Shelf.{ChangesSources, ChangesSinks, ChangesEntropies, ChangesDrawing, ChangesLinks, ChangesOpening, ChangesClocks, ChangesTiming};
+ghost use Rattle.outside_host.specs.declared.host.HostBad.TheVariants.{Failed};
+ghost use Rattle.outside_host.specs.ByPlace.{object_at};
+ghost use Rattle.outside_host.specs.Slots.{place_of};
+ghost use Rattle.outside_host.specs.MemHost.{mem_shelf, mem_calls, IsRefused, HasNoEmptySink, HasNoNextEntropy, HasNoNextLink, HasNoNextClock, shelf_of};
+ghost use Rattle.outside_host.specs.declared.host.Place.TheVariants.{Back};
 
-use crate::by_place::{put_place, returned_place, take_place};
-use crate::failing::FailingCalls;
+use crate::by_place::{is_unwritten, put_place, returned_place, take_place};
+use crate::openings::Openings;
 use crate::slots::{is_fresh, put_back, returned, take_out};
-use crate::{Host, HostBad, MemSource, Place, Slot, Store8, Words};
+use crate::{Host, HostBad, Opened, Place, Slot};
+use outside_io::{FailingCalls, MemSource, NoMemory, Profile, Store8, Words};
+use outside_net::{LinkSpec, Role, ScriptClock, ScriptLink};
+use std::alloc::Global;
 
 /// What a host in memory is made of.
 #[derive(Drop)]
@@ -23,37 +28,46 @@ pub struct MemParts {
     pub sinks: Vec<Slot<Store8>>,
     /// The sources of random words in the order in which they are handed out.
     pub entropies: Vec<Place<Words>>,
+    /// The links in the order in which they are handed out.
+    pub links: Vec<Place<ScriptLink>>,
+    /// The clocks in the order in which they are handed out.
+    pub clocks: Vec<Place<ScriptClock>>,
     /// The calls that are to fail, by their places from 0.
     pub failing: Vec<u64>,
 }
 
-/// A host that hands out sources, sinks and random words in memory, and keeps those that come back.
-/// Of an absent name or place, of one that was handed out, and of a sink that isn't empty the call fails.
+/// A host that hands out objects in memory, and keeps those that come back. Of an absent name or place, of one that was
+/// handed out, of a sink that isn't empty and of a link that took a datagram the call fails.
 #[derive(Drop)]
 pub struct MemHost {
     sources: Vec<Slot<MemSource>>,
     sinks: Vec<Slot<Store8>>,
     entropies: Vec<Place<Words>>,
     next_entropy: usize,
+    links: Vec<Place<ScriptLink>>,
+    opened: Openings,
+    clocks: Vec<Place<ScriptClock>>,
+    next_clock: usize,
     calls: FailingCalls,
 }
 
 impl MemHost {
     /// The first slot of a name counts.
-    pub fn with(parts: MemParts) -> MemHost
-        ensures sources { (mem_shelf result).sources ≡ place_of parts.sources.items }
-        ensures sinks { (mem_shelf result).sinks ≡ place_of parts.sinks.items }
-        ensures entropies { (mem_shelf result).entropies ≡ object_at parts.entropies.items }
-        ensures first { (mem_shelf result).next_entropy ≡ 0 }
-        ensures calls { mem_calls result ≡ no_calls parts.failing.items }
+    pub fn with(alloc: Global, parts: MemParts) -> Result<MemHost, NoMemory>
+        ensures shelf { IfOk result (λ host. mem_shelf host ≡ shelf_of parts) }
+        ensures calls { IfOk result (λ host. mem_calls host ≡ no_calls parts.failing.items) }
     {
-        MemHost {
+        Ok(MemHost {
             sources: parts.sources,
             sinks: parts.sinks,
             entropies: parts.entropies,
             next_entropy: 0,
+            links: parts.links,
+            opened: Openings::with(alloc)?,
+            clocks: parts.clocks,
+            next_clock: 0,
             calls: FailingCalls::of(parts.failing),
-        }
+        })
     }
 
     /// The source that came back under this name.
@@ -80,6 +94,21 @@ impl MemHost {
     {
         returned_place(&self.entropies, place as usize)
     }
+
+    /// The link that came back at this place.
+    pub fn returned_link(&self, place: u8) -> Option<&ScriptLink>
+        ensures some { IfSome result (λ object. (mem_shelf self.now).links place ≡ Back object.now) }
+        ensures none { IfNone result ((object : _) → (mem_shelf self.now).links place ≡ Back object → ⊥) }
+    {
+        returned_place(&self.links, place as usize)
+    }
+
+    /// How the link of this place was opened, where it was handed out.
+    pub fn opened(&self, place: u8) -> Option<Opened>
+        ensures value { result ≡ slice_get (mem_shelf self.now).opened_links place }
+    {
+        self.opened.get(place as usize)
+    }
 }
 
 impl Host for MemHost {
@@ -88,6 +117,10 @@ impl Host for MemHost {
     type Output = Store8;
 
     type Random = Words;
+
+    type Wire = ScriptLink;
+
+    type Time = ScriptClock;
 
     ghost tells = { true };
 
@@ -179,6 +212,74 @@ impl Host for MemHost {
         }
     }
 
+    fn link(&mut self, spec: &LinkSpec, role: Role, profile: Profile) -> Result<ScriptLink, HostBad>
+        ensures ok { IsTrue true → IfOk result (λ object. HandsOutLink (mem_shelf self.old) (mem_shelf self.new)
+            (record { spec = spec.now; role = role; profile = profile }) object) }
+        ensures fresh { IfOk result (λ object. IsUnwritten (Some object.taken)) }
+        ensures within { IsTrue true → OnOk result (length (mem_shelf self.old).opened_links < 256) }
+        ensures err { IsTrue true → OnErr result (KeepsLinks (mem_shelf self.old) (mem_shelf self.new)) }
+        ensures same { IsTrue true → ChangesOpening (mem_shelf self.old) (mem_shelf self.new) }
+        ensures cause { HasHostCause (mem_calls self.old).faults (mem_calls self.new).faults result }
+        // It fails exactly where the call is to fail or 256 were handed out, or no unused one stands at the place.
+        ensures refused { IfErr result (λ bad.
+            IsRefused bad (mem_calls self.old) (HasNoNextLink (mem_shelf self.old))) }
+        ensures complete { OnOk result (FailsNext (mem_calls self.old) → ⊥) }
+        ensures calls { CountsCall (mem_calls self.old) (mem_calls self.new) result }
+    {
+        let place = self.opened.len();
+        if self.calls.next_fails() || place > 255 || !is_unwritten(&self.links, place) {
+            self.calls.count_fault();
+            return Err(HostBad::Failed);
+        }
+        match take_place(&mut self.links, place) {
+            Some(object) => {
+                self.opened.add(Opened {
+                    spec: *spec,
+                    role,
+                    profile,
+                });
+                Ok(object)
+            }
+            None => {
+                self.calls.count_fault();
+                Err(HostBad::Failed)
+            }
+        }
+    }
+
+    fn clock(&mut self) -> Result<ScriptClock, HostBad>
+        ensures ok { IsTrue true
+            → IfOk result (λ object. HandsOutClock (mem_shelf self.old) (mem_shelf self.new) object) }
+        ensures next { IsTrue true → OnOk result ((mem_shelf self.new).next_clock
+            ≡ (mem_shelf self.old).next_clock + 1) }
+        ensures within { IsTrue true → OnOk result ((mem_shelf self.old).next_clock < 256) }
+        ensures err { IsTrue true → OnErr result (Stays (mem_shelf self.old).clocks (mem_shelf self.new).clocks) }
+        ensures err_next { IsTrue true → OnErr result ((mem_shelf self.new).next_clock
+            ≡ (mem_shelf self.old).next_clock) }
+        ensures same { IsTrue true → ChangesTiming (mem_shelf self.old) (mem_shelf self.new) }
+        ensures cause { HasHostCause (mem_calls self.old).faults (mem_calls self.new).faults result }
+        // It fails exactly where the call is to fail or 256 were handed out, or nothing stands at the place.
+        ensures refused { IfErr result (λ bad.
+            IsRefused bad (mem_calls self.old) (HasNoNextClock (mem_shelf self.old))) }
+        ensures complete { OnOk result (FailsNext (mem_calls self.old) → ⊥) }
+        ensures calls { CountsCall (mem_calls self.old) (mem_calls self.new) result }
+    {
+        if self.calls.next_fails() || self.next_clock > 255 {
+            self.calls.count_fault();
+            return Err(HostBad::Failed);
+        }
+        match take_place(&mut self.clocks, self.next_clock) {
+            Some(object) => {
+                self.next_clock += 1;
+                Ok(object)
+            }
+            None => {
+                self.calls.count_fault();
+                Err(HostBad::Failed)
+            }
+        }
+    }
+
     fn back_source(&mut self, name: &str, object: MemSource)
         ensures state { IsTrue true
             → TakesBack (mem_shelf self.old).sources (mem_shelf self.new).sources name.now object }
@@ -209,5 +310,25 @@ impl Host for MemHost {
         ensures calls { mem_calls self.new ≡ mem_calls self.old }
     {
         put_place(&mut self.entropies, place as usize, object);
+    }
+
+    fn back_link(&mut self, place: u8, object: ScriptLink)
+        ensures state { IsTrue true → TakesBack (mem_shelf self.old).links (mem_shelf self.new).links place object }
+        ensures same { IsTrue true → ChangesLinks (mem_shelf self.old) (mem_shelf self.new) }
+        ensures cause { (mem_calls self.new).faults ≡ (mem_calls self.old).faults }
+        // It counts as no call.
+        ensures calls { mem_calls self.new ≡ mem_calls self.old }
+    {
+        put_place(&mut self.links, place as usize, object);
+    }
+
+    fn back_clock(&mut self, place: u8, object: ScriptClock)
+        ensures state { IsTrue true → TakesBack (mem_shelf self.old).clocks (mem_shelf self.new).clocks place object }
+        ensures same { IsTrue true → ChangesClocks (mem_shelf self.old) (mem_shelf self.new) }
+        ensures cause { (mem_calls self.new).faults ≡ (mem_calls self.old).faults }
+        // It counts as no call.
+        ensures calls { mem_calls self.new ≡ mem_calls self.old }
+    {
+        put_place(&mut self.clocks, place as usize, object);
     }
 }

@@ -1,7 +1,7 @@
 -- What is printed for a failure.
 use Rattle.std.specs.Prelude.{ℕ, List, codes}
-use Rattle.outside_io.specs.declared.host.HostBad.{HostBad}
-use Rattle.outside_io.specs.declared.host.HostBad.TheVariants.{Failed, NoMemory}
+use Rattle.outside_host.specs.declared.host.HostBad.{HostBad}
+use Rattle.outside_host.specs.declared.host.HostBad.TheVariants.{Failed, NoMemory}
 
 -- the text of each refusal of a host
 abbrev pub host_text : HostBad → List ℕ

@@ -1,7 +1,7 @@
 use Rattle.std.proofs.Common.{refl, sym, ◌∙◌}
-use Rattle.outside_io.proofs.Places.{place_of-none, stood, stands, stay}
-use Rattle.outside_io.proofs.slots.put_back.Goals.{in-Out, in_default-matches}
-use Rattle.outside_io.proofs.slots.put_back.Goals as goal
+use Rattle.outside_host.proofs.Places.{place_of-none, stood, stands, stay}
+use Rattle.outside_host.proofs.slots.put_back.Goals.{in-Out, in_default-matches}
+use Rattle.outside_host.proofs.slots.put_back.Goals as goal
 
 pub returns-then-matches : goal.returns-then-matches
 returns-then-matches g c =

@@ -1,10 +1,12 @@
 // Objects by place, from 0.
-ghost use Rattle.std.specs.Prelude.{◌≡◌, ◌<◌, length, IfSome, IfNone};
-ghost use Rattle.outside_io.specs.declared.host.Place.TheVariants.{Back};
-ghost use Rattle.outside_io.specs.ByPlace.{object_at};
-ghost use Rattle.outside_io.specs.Shelf.{Stays, HandsOut, TakesBack, IsAway};
+ghost use Rattle.std.specs.Prelude.{◌≡◌, ◌<◌, [], length, IfSome, IfNone, IsTrue, false};
+ghost use Rattle.outside_host.specs.MemHost.{HoldsNoUnwritten};
+ghost use Rattle.outside_host.specs.declared.host.Place.TheVariants.{Here, Back};
+ghost use Rattle.outside_host.specs.ByPlace.{object_at};
+ghost use Rattle.outside_host.specs.Shelf.{Stays, HandsOut, TakesBack, IsAway};
 
 use crate::Place;
+use outside_net::ScriptLink;
 use std::mem;
 
 // Hands out the object of this place, if it stands there.
@@ -43,5 +45,19 @@ pub(crate) fn returned_place<T>(places: &[Place<T>], at: usize) -> Option<&T>
     match &places[at] {
         Place::Back(object) => Some(object),
         _ => None,
+    }
+}
+
+// Whether a link that took nothing stands at this place, to be handed out.
+pub(crate) fn is_unwritten(places: &[Place<ScriptLink>], at: usize) -> bool
+    ensures value { (link : _) → IsTrue result → object_at places.now at ≡ Here link → link.taken ≡ [] }
+    ensures none { result ≡ false → HoldsNoUnwritten (object_at places.now at) }
+{
+    if at >= places.len() {
+        return false;
+    }
+    match &places[at] {
+        Place::Here(link) => link.is_unwritten(),
+        _ => false,
     }
 }

@@ -1,7 +1,7 @@
 use Rattle.std.proofs.Common.{sym, ◌∙◌}
-use Rattle.outside_io.proofs.Places.{place_of-none, stood, stands, stay}
-use Rattle.outside_io.proofs.slots.take_out.Goals.{in-Here, in_default}
-use Rattle.outside_io.proofs.slots.take_out.Goals as goal
+use Rattle.outside_host.proofs.Places.{place_of-none, stood, stands, stay}
+use Rattle.outside_host.proofs.slots.take_out.Goals.{in-Here, in_default}
+use Rattle.outside_host.proofs.slots.take_out.Goals as goal
 
 pub returns-in-Here-replace-clause-some : goal.returns-in-Here-replace-clause-some
 returns-in-Here-replace-clause-some g c =

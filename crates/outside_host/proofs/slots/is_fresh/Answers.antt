@@ -1,6 +1,6 @@
 use Rattle.std.proofs.Common.{◌≡◌, sym, ap, ◌∙◌}
-use Rattle.outside_io.proofs.Places.{place_of-none, stood}
-use Rattle.outside_io.proofs.slots.is_fresh.Goals as goal
+use Rattle.outside_host.proofs.Places.{place_of-none, stood}
+use Rattle.outside_host.proofs.slots.is_fresh.Goals as goal
 
 pub returns-in-Here-clause-value : goal.returns-in-Here-clause-value
 returns-in-Here-clause-value c = λ sink fresh here.

@@ -1,9 +1,12 @@
-// What hands out sources and sinks by name, and random words by place, and takes them back.
-ghost use Rattle.std.specs.Prelude.{◌≡◌, ◌<◌, ◌+◌, ℕ, Bool, IsTrue, IfOk, OnOk, OnErr};
+// What hands out sources and sinks by name, links, clocks and random words by place, and takes them back.
+ghost use Rattle.std.specs.Prelude.{◌≡◌, ◌<◌, ◌+◌, ℕ, length, Bool, IsTrue, IfOk, OnOk, OnErr};
 ghost use Rattle.outside_io.specs.Told.{IsEmpty};
-ghost use Rattle.outside_io.specs.Shelf.{Shelf, Stays, HandsOutSource, HandsOutSink, HandsOutNext, ChangesSources, ChangesSinks, ChangesEntropies, ChangesDrawing, TakesBack, HasHostCause};
+ghost use Rattle.outside_host.specs.Shelf.{Shelf, Stays, TakesBack, HasHostCause};
+ghost use Rattle.outside_host.specs.Shelf.{HandsOutSource, HandsOutSink, HandsOutNext, HandsOutLink, HandsOutClock, KeepsLinks, IsUnwritten};
+ghost use Rattle.outside_host.specs.Shelf.{ChangesSources, ChangesSinks, ChangesEntropies, ChangesDrawing, ChangesLinks, ChangesOpening, ChangesClocks, ChangesTiming};
 
-use crate::{Entropy, Sink, Source};
+use outside_io::{Entropy, Profile, Sink, Source};
+use outside_net::{Clock, Link, LinkSpec, Role};
 use std::fmt::{self, Display, Formatter, Write};
 
 /// Why a host hands nothing out.
@@ -17,7 +20,7 @@ pub enum HostBad {
 
 impl Display for HostBad {
     ghost use Rattle.std.specs.Prelude.{Some};
-    ghost use Rattle.outside_io.specs.Text.{host_text};
+    ghost use Rattle.outside_host.specs.Text.{host_text};
 
     ghost output = { λ bad. Some (host_text bad) };
 
@@ -42,6 +45,17 @@ pub enum Place<T> {
     Back(T),
 }
 
+/// How a link was opened.
+#[derive(Clone, Copy, Debug, PartialEq, Eq)]
+pub struct Opened {
+    /// The address that it is bound to, or sends to.
+    pub spec: LinkSpec,
+    /// Which end of it this is.
+    pub role: Role,
+    /// Whether it has a port for media and one for control, or one for the tunnel.
+    pub profile: Profile,
+}
+
 /// Hands out each object once, under its name or from its place, and takes it back there.
 pub trait Host {
     /// What it hands out as a source.
@@ -53,11 +67,17 @@ pub trait Host {
     /// What it hands out as a source of random words.
     type Random: Entropy + Drop;
 
+    /// What it hands out as a link.
+    type Wire: Link + Drop;
+
+    /// What it hands out as a clock.
+    type Time: Clock + Drop;
+
     /// Whether a host of this type tells what stands under its names and at its places.
     ghost tells: { Bool };
 
     /// What stands under each name and at each place.
-    ghost shelf: { Self → Shelf Self.Input Self.Output Self.Random };
+    ghost shelf: { Self → Shelf Self.Input Self.Output Self.Random Self.Wire Self.Time };
 
     /// How many calls failed. It never falls.
     ghost faults: { Self → ℕ };
@@ -91,6 +111,27 @@ pub trait Host {
         ensures same { IsTrue tells → ChangesDrawing (shelf self.old) (shelf self.new) }
         ensures cause { HasHostCause (faults self.old) (faults self.new) result };
 
+    /// Hands out the next link, opened so: the first one asked for stands at place 0. Where it tells, it took nothing yet.
+    /// At most 256 are handed out.
+    fn link(&mut self, spec: &LinkSpec, role: Role, profile: Profile) -> Result<Self::Wire, HostBad>
+        ensures ok { IsTrue tells → IfOk result (λ object. HandsOutLink (shelf self.old) (shelf self.new)
+            (record { spec = spec.now; role = role; profile = profile }) object) }
+        ensures fresh { IfOk result (λ object. IsUnwritten (Self.Wire.taken object)) }
+        ensures within { IsTrue tells → OnOk result (length (shelf self.old).opened_links < 256) }
+        ensures err { IsTrue tells → OnErr result (KeepsLinks (shelf self.old) (shelf self.new)) }
+        ensures same { IsTrue tells → ChangesOpening (shelf self.old) (shelf self.new) }
+        ensures cause { HasHostCause (faults self.old) (faults self.new) result };
+
+    /// Hands out the next clock: the first one asked for stands at place 0. At most 256 are handed out.
+    fn clock(&mut self) -> Result<Self::Time, HostBad>
+        ensures ok { IsTrue tells → IfOk result (λ object. HandsOutClock (shelf self.old) (shelf self.new) object) }
+        ensures next { IsTrue tells → OnOk result ((shelf self.new).next_clock ≡ (shelf self.old).next_clock + 1) }
+        ensures within { IsTrue tells → OnOk result ((shelf self.old).next_clock < 256) }
+        ensures err { IsTrue tells → OnErr result (Stays (shelf self.old).clocks (shelf self.new).clocks) }
+        ensures err_next { IsTrue tells → OnErr result ((shelf self.new).next_clock ≡ (shelf self.old).next_clock) }
+        ensures same { IsTrue tells → ChangesTiming (shelf self.old) (shelf self.new) }
+        ensures cause { HasHostCause (faults self.old) (faults self.new) result };
+
     /// Takes back the source of this name. Under a name that isn't out it lets the source go.
     fn back_source(&mut self, name: &str, object: Self::Input)
         ensures state { IsTrue tells → TakesBack (shelf self.old).sources (shelf self.new).sources name.now object }
@@ -107,5 +148,17 @@ pub trait Host {
     fn back_entropy(&mut self, place: u8, object: Self::Random)
         ensures state { IsTrue tells → TakesBack (shelf self.old).entropies (shelf self.new).entropies place object }
         ensures same { IsTrue tells → ChangesEntropies (shelf self.old) (shelf self.new) }
+        ensures cause { faults self.new ≡ faults self.old };
+
+    /// Takes back the link of this place. At a place that isn't out it lets the link go.
+    fn back_link(&mut self, place: u8, object: Self::Wire)
+        ensures state { IsTrue tells → TakesBack (shelf self.old).links (shelf self.new).links place object }
+        ensures same { IsTrue tells → ChangesLinks (shelf self.old) (shelf self.new) }
+        ensures cause { faults self.new ≡ faults self.old };
+
+    /// Takes back the clock of this place. At a place that isn't out it lets the clock go.
+    fn back_clock(&mut self, place: u8, object: Self::Time)
+        ensures state { IsTrue tells → TakesBack (shelf self.old).clocks (shelf self.new).clocks place object }
+        ensures same { IsTrue tells → ChangesClocks (shelf self.old) (shelf self.new) }
         ensures cause { faults self.new ≡ faults self.old };
 }

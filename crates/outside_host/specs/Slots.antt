@@ -1,9 +1,9 @@
 -- Objects under names, in order.
 use Rattle.std.specs.Prelude.{◌≡◌, ◌<◌, ℕ, ◌+◌, List, [], ◌∷◌, length, if◌then◌else◌, string_bytes, Option, MatchOption}
 use Rattle.std.specs.Str.{bytes_eq}
-use Rattle.outside_io.specs.declared.host.Place.{Place}
-use Rattle.outside_io.specs.declared.host.Place.TheVariants.{Absent}
-use Rattle.outside_io.specs.declared.slots.Slot.{Slot}
+use Rattle.outside_host.specs.declared.host.Place.{Place}
+use Rattle.outside_host.specs.declared.host.Place.TheVariants.{Absent}
+use Rattle.outside_host.specs.declared.slots.Slot.{Slot}
 
 -- what stands under a name: the first slot of that name counts
 abbrev pub place_of : {T : Type 0} → List (Slot T) → List ℕ → Place T

@@ -1,0 +1,71 @@
+-- What stands under the names and at the places of a host in memory, and its calls.
+use Rattle.std.specs.Prelude.{◌≡◌, ◌≢◌, ◌⊎◌, ◌<◌, [], length}
+use Rattle.outside_io.specs.Calls.{Calls, FailsNext}
+use Rattle.outside_host.specs.Shelf.{Shelf, IsAway}
+use Rattle.outside_host.specs.declared.host.HostBad.{HostBad}
+use Rattle.outside_host.specs.declared.host.HostBad.TheVariants.{Failed}
+use Rattle.outside_host.specs.Slots.{place_of}
+use Rattle.outside_host.specs.ByPlace.{object_at}
+use Rattle.outside_host.specs.declared.host.Place.{Place}
+use Rattle.outside_host.specs.declared.host.Place.TheVariants.{Here}
+use Rattle.outside_io.specs.declared.mem_source.MemSource.{MemSource}
+use Rattle.outside_io.specs.declared.store.Store8.{Store8}
+use Rattle.outside_io.specs.declared.words.Words.{Words}
+use Rattle.outside_net.specs.declared.script_link.ScriptLink.{ScriptLink}
+use Rattle.outside_net.specs.declared.script_clock.ScriptClock.{ScriptClock}
+use Rattle.outside_host.specs.declared.mem_host.MemHost.{MemHost}
+use Rattle.outside_host.specs.declared.mem_host.MemParts.{MemParts}
+
+-- what stands under the names and at the places of a host in memory
+abbrev pub mem_shelf : MemHost → Shelf MemSource Store8 Words ScriptLink ScriptClock
+mem_shelf host = record {
+  sources = place_of host.sources.items;
+  sinks = place_of host.sinks.items;
+  entropies = object_at host.entropies.items;
+  next_entropy = host.next_entropy;
+  links = object_at host.links.items;
+  opened_links = host.opened;
+  clocks = object_at host.clocks.items;
+  next_clock = host.next_clock;
+}
+
+-- its calls
+abbrev pub mem_calls : MemHost → Calls
+mem_calls host = host.calls
+
+-- no empty sink stands here to be handed out
+abbrev pub HasNoEmptySink : Place Store8 → Type 0
+HasNoEmptySink place = (sink : Store8) → place ≡ Here sink → sink.contents ≢ []
+
+-- a call failed because it was to fail, or because there was nothing to hand out
+abbrev pub IsRefused : HostBad → Calls → Type 0 → Type 0
+IsRefused bad calls IsMissing = (bad ≡ Failed) × (FailsNext calls ⊎ IsMissing)
+
+-- 256 sources of random words were handed out, or none stands at the next place
+abbrev pub HasNoNextEntropy : {I O E L C : Type 0} → Shelf I O E L C → Type 0
+HasNoNextEntropy shelf = (255 < shelf.next_entropy) ⊎ IsAway (shelf.entropies shelf.next_entropy)
+
+-- no link that took nothing stands here to be handed out
+abbrev pub HoldsNoUnwritten : Place ScriptLink → Type 0
+HoldsNoUnwritten place = (link : ScriptLink) → place ≡ Here link → link.taken ≢ []
+
+-- 256 links were handed out, or none that took nothing stands at the next place
+abbrev pub HasNoNextLink : {I O E C : Type 0} → Shelf I O E ScriptLink C → Type 0
+HasNoNextLink shelf = (255 < length shelf.opened_links) ⊎ HoldsNoUnwritten (shelf.links (length shelf.opened_links))
+
+-- 256 clocks were handed out, or none stands at the next place
+abbrev pub HasNoNextClock : {I O E L C : Type 0} → Shelf I O E L C → Type 0
+HasNoNextClock shelf = (255 < shelf.next_clock) ⊎ IsAway (shelf.clocks shelf.next_clock)
+
+-- what a host in memory hands out at first
+abbrev pub shelf_of : MemParts → Shelf MemSource Store8 Words ScriptLink ScriptClock
+shelf_of parts = record {
+  sources = place_of parts.sources.items;
+  sinks = place_of parts.sinks.items;
+  entropies = object_at parts.entropies.items;
+  next_entropy = 0;
+  links = object_at parts.links.items;
+  opened_links = [];
+  clocks = object_at parts.clocks.items;
+  next_clock = 0;
+}

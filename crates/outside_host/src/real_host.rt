@@ -1,0 +1,137 @@
+// The host of the system. What its objects give and take is not told: the trusted edge of the system.
+ghost use Rattle.std.specs.Prelude.{◌≡◌, false};
+ghost use Rattle.outside_io.specs.Causes.{Rose};
+ghost use Rattle.outside_host.specs.Shelf.{nowhere};
+
+use crate::{Host, HostBad};
+use outside_io::{
+    FileIdentity, Profile, RealEntropy, RealSink, RealSource, create_sink, is_named,
+    open_known_source,
+};
+use outside_net::{LinkSpec, ProcessClock, Role, UdpLink};
+use std::fs::Files;
+use std::io::{Input, Print, Printer};
+use std::marker::Model;
+use std::net::Net;
+use std::random::RandomSource;
+use std::time::Clock;
+
+/// The system's files, its standard streams under the name `-`, links over UDP, the process clock and the system's random
+/// source. A file that is read as the source isn't opened as the sink: that would empty it. All clocks have one start.
+#[derive(Drop)]
+pub struct RealHost<'a, R> {
+    rt: &'a R,
+    faults: u64,
+    read: Option<FileIdentity>,
+    clock: Option<ProcessClock<'a, R>>,
+}
+
+impl<'a, R> Model for RealHost<'a, R> {
+    ghost use Rattle.outside_host.specs.RealHost.{RealHostState};
+
+    ghost Value = { RealHostState };
+
+    ghost view = { λ host. record { faults = host.faults } };
+}
+
+impl<'a, R> RealHost<'a, R> {
+    /// A host of which no call has failed.
+    pub fn new(rt: &'a R) -> RealHost<'a, R>
+        ensures value { result.faults ≡ 0 }
+    {
+        RealHost {
+            rt,
+            faults: 0,
+            read: None,
+            clock: None,
+        }
+    }
+
+    /// One more call failed.
+    fn refuse(&mut self) -> HostBad
+        ensures value { result ≡ HostBad.Failed }
+        ensures cause { Rose self.old.faults self.new.faults }
+    {
+        self.faults = self.faults.saturating_add(1);
+        HostBad::Failed
+    }
+}
+
+impl<'a, R: Files + Input + Print + RandomSource + Net + Clock> Host for RealHost<'a, R> {
+    type Input = RealSource<R::File, R::Reader>;
+
+    type Output = RealSink<R::File, Printer<'a, R>>;
+
+    type Random = RealEntropy<'a, R>;
+
+    type Wire = UdpLink;
+
+    type Time = ProcessClock<'a, R>;
+
+    ghost tells = { false };
+
+    ghost shelf = { λ _. nowhere };
+
+    ghost faults = { λ host. host.faults };
+
+    fn source(&mut self, name: &str) -> Result<Self::Input, HostBad> {
+        match open_known_source(self.rt, name) {
+            Ok((source, file)) => {
+                self.read = file;
+                Ok(source)
+            }
+            Err(_) => Err(self.refuse()),
+        }
+    }
+
+    fn sink(&mut self, name: &str) -> Result<Self::Output, HostBad> {
+        if name != "-" && is_named(self.rt, name, self.read) {
+            return Err(self.refuse());
+        }
+        match create_sink(self.rt, name) {
+            Ok(sink) => Ok(sink),
+            Err(_) => Err(self.refuse()),
+        }
+    }
+
+    fn entropy(&mut self) -> Result<Self::Random, HostBad> {
+        Ok(RealEntropy::new(self.rt))
+    }
+
+    fn link(
+        &mut self,
+        spec: &LinkSpec,
+        role: Role,
+        profile: Profile,
+    ) -> Result<Self::Wire, HostBad> {
+        match UdpLink::open(self.rt, spec, role, profile) {
+            Ok(link) => Ok(link),
+            Err(_) => Err(self.refuse()),
+        }
+    }
+
+    fn clock(&mut self) -> Result<Self::Time, HostBad> {
+        if let Some(clock) = &self.clock {
+            return Ok(clock.with_same_start());
+        }
+        match ProcessClock::start(self.rt) {
+            Ok(clock) => {
+                self.clock = Some(clock.with_same_start());
+                Ok(clock)
+            }
+            Err(_) => Err(self.refuse()),
+        }
+    }
+
+    fn back_source(&mut self, _name: &str, _object: Self::Input) {
+        self.read = None;
+    }
+
+    fn back_sink(&mut self, _name: &str, _object: Self::Output) {}
+
+    fn back_entropy(&mut self, _place: u8, _object: Self::Random) {}
+
+    fn back_link(&mut self, _place: u8, _object: Self::Wire) {}
+
+    fn back_clock(&mut self, _place: u8, _object: Self::Time) {}
+}
