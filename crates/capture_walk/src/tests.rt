@@ -14,7 +14,7 @@ const WHOLE: &[u8] =
 struct Copier;
 
 impl Visitor for Copier {
-    ghost use Rattle.std.specs.Prelude.{◌++◌, ◌∷◌, []};
+    ghost use Rattle.std.specs.Prelude.{◌++◌, ◌∷◌, [], false};
     ghost use Rattle.capture_walk.specs.Inside.Copied.{copied};
 
     ghost so_far = { λ _ rs. copied rs };
@@ -22,6 +22,8 @@ impl Visitor for Copier {
     ghost whole = { λ _ rs. copied rs ++ 46 ∷ [] };
 
     ghost has_seen = { λ _ rs. Unit {0} };
+
+    ghost wants_memory = { false };
 
     #[tactic(auto, using(crate::proofs::CopyLemmas::writes_more, crate::proofs::CopyLemmas::writes_part))]
     fn record<K: Sink>(

@@ -1,5 +1,5 @@
 //! What is done with the records of a capture.
-ghost use Rattle.std.specs.Prelude.{◌≡◌, ◌++◌, ◌∷◌, [], ℕ, List, OnOk, OnErr, IsErrOf};
+ghost use Rattle.std.specs.Prelude.{◌≡◌, ◌++◌, ◌∷◌, [], ℕ, List, Bool, IsTrue, OnOk, OnErr, IsErrOf};
 ghost use Rattle.capture_file.specs.Capture.{Record, Fits};
 ghost use Rattle.capture_file.specs.Heads.{record_of};
 ghost use Rattle.outside_io.specs.Causes.{HasCause, HasWriteCause, fault_by};
@@ -45,6 +45,9 @@ pub trait Visitor {
     /// These are the records that it took, and no call failed.
     ghost has_seen: { Self → List Record → Type 0 };
 
+    /// Whether it may want memory for a record.
+    ghost wants_memory: { Bool };
+
     /// Takes a record. Its octets may be changed in place.
     fn record<K: Sink>(
         &mut self,
@@ -63,6 +66,7 @@ pub trait Visitor {
             (so_far self.old done) (so_far self.old (done ++ record_of head.now octets.old ∷ []))) }
         // Where memory was refused nothing was written.
         ensures none { IsErrOf result Memory → K.contents sink.new ≡ K.contents sink.old }
+        ensures memory { IsErrOf result Memory → IsTrue wants_memory }
         ensures same { (so_far self.new ≡ so_far self.old) × (whole self.new ≡ whole self.old) }
         ensures cause { HasWriteCause (fault_by visit_fault result) (K.faults sink.old) (K.faults sink.new) };
 

@@ -1,11 +1,11 @@
 //! The walk: each record is read and brought, and then the end.
-ghost use Rattle.std.specs.Prelude.{◌≡◌, ◌≤◌, ◌<◌, ◌⊎◌, ◌^◌, true, false, [], ℕ, List, Option, IsErrOf};
+ghost use Rattle.std.specs.Prelude.{◌≡◌, ◌≤◌, ◌<◌, ◌⊎◌, ◌^◌, true, false, [], ℕ, List, Option, IsErrOf, IsTrue};
 ghost use Rattle.outside_io.specs.Causes.{HasReadCause, HasWriteCause, fault_by};
 ghost use Rattle.capture_walk.specs.Causes.{walk_fault};
 ghost use Rattle.capture_walk.specs.Leaves.{Leaves, passage};
 ghost use Rattle.capture_walk.specs.Inside.Turns.{IfOn, IfOver, TakesOneOrSpent};
 ghost use Rattle.capture_walk.specs.Inside.Sofar.{Sofar};
-ghost use Rattle.capture_walk.specs.declared.walk_bad.WalkBad.TheVariants.{ReadFault, WriteFault};
+ghost use Rattle.capture_walk.specs.declared.walk_bad.WalkBad.TheVariants.{ReadFault, WriteFault, Memory};
 
 use crate::visitor::{VisitBad, Visitor};
 use crate::walk_bad::WalkBad;
@@ -28,6 +28,8 @@ pub fn walk<S: Source, V: Visitor, K: Sink>(
     // Where a write fails before the capture has come to an end, no read has failed.
     ensures stopped { IsErrOf result WriteFault
         → (reader.new.faults ≡ reader.old.faults) ⊎ (reader.new.spent ≡ true) }
+    // Memory is the answer only of a visitor that wants some.
+    ensures memory { IsErrOf result Memory → IsTrue V.wants_memory }
     ensures ahead { IsErrOf result ReadFault → reader.new.ahead ≡ [] }
     ensures read { HasReadCause (fault_by walk_fault result) reader.old.faults reader.new.faults }
     ensures write { HasWriteCause (fault_by walk_fault result) (K.faults sink.old) (K.faults sink.new) }
@@ -63,6 +65,8 @@ fn visit_next<S: Source, V: Visitor, K: Sink>(
         × (reader.new.at ≤ 2 ^ 40) × (reader.new.spent ≡ false)) }
     // After a failed write no further record was taken.
     ensures stopped { IsErrOf result WriteFault → TakesOneOrSpent reader.old reader.new }
+    // Memory is the answer only of a visitor that wants some.
+    ensures memory { IsErrOf result Memory → IsTrue V.wants_memory }
     ensures ahead { IsErrOf result ReadFault → reader.new.ahead ≡ [] }
     ensures read { HasReadCause (fault_by walk_fault result) reader.old.faults reader.new.faults }
     ensures write { HasWriteCause (fault_by walk_fault result) (K.faults sink.old) (K.faults sink.new) }

@@ -13,6 +13,7 @@ use outside_io::{Failed, Sink};
 use receiver_rules::Arrival;
 use rist_ends::{Outcome, Receiver, Told, What};
 use rist_wire::{Item, Media, Opener, WireBad};
+use ts_nulls::BLOCK_LEN;
 
 /// Opens a session's datagrams, and steps their items on a receiver.
 #[derive(Drop)]
@@ -22,13 +23,13 @@ pub struct Replayer {
     /// Is told their items.
     pub receiver: Receiver,
     /// Where a payload is put whose null packets were deleted.
-    pub block: [u8; 1500],
+    pub block: [u8; BLOCK_LEN],
 }
 
 // The payload with its null packets in their places: a view of the datagram, or of the block where some were deleted.
-fn content_in<'a>(media: &Media<'a>, block: &'a mut [u8; 1500]) -> &'a [u8]
+fn content_in<'a>(media: &Media<'a>, block: &'a mut [u8; BLOCK_LEN]) -> &'a [u8]
     ensures value { result.now ≡ content_of media.now }
-    ensures within { length result.now ≤ 1500 }
+    ensures within { length result.now ≤ BLOCK_LEN }
     // The bits of its number fit their width.
     ensures fits { media.now.word < cycle_of media.now.width }
 {
@@ -40,7 +41,7 @@ fn content_in<'a>(media: &Media<'a>, block: &'a mut [u8; 1500]) -> &'a [u8]
     &block[..len]
 }
 
-fn arrival_in<'a>(media: &Media<'a>, block: &'a mut [u8; 1500]) -> Arrival<'a>
+fn arrival_in<'a>(media: &Media<'a>, block: &'a mut [u8; BLOCK_LEN]) -> Arrival<'a>
     ensures value { seen result ≡ arrival_of media.now }
     ensures fits { IsFitArrival result }
 {
@@ -54,7 +55,7 @@ fn arrival_in<'a>(media: &Media<'a>, block: &'a mut [u8; 1500]) -> Arrival<'a>
 }
 
 // What a receiver is told of a datagram.
-fn what_of<'a>(item: &Result<Item<'a>, WireBad>, block: &'a mut [u8; 1500]) -> What<'a>
+fn what_of<'a>(item: &Result<Item<'a>, WireBad>, block: &'a mut [u8; BLOCK_LEN]) -> What<'a>
     ensures value { input_of result ≡ input_read item.now }
     ensures fits { IsFitWhat result }
 {
@@ -77,6 +78,7 @@ fn answer_of(outcome: Outcome) -> Result<(), VisitBad>
 }
 
 impl Visitor for Replayer {
+    ghost use Rattle.std.specs.Prelude.{false};
     ghost use Rattle.rist_replay.specs.Replay.{released_so_far, replayed};
     ghost use Rattle.rist_replay.specs.Inside.Visiting.{HasReplayed};
 
@@ -85,6 +87,8 @@ impl Visitor for Replayer {
     ghost whole = { λ r. replayed r.opener r.receiver.buffer.limits };
 
     ghost has_seen = { λ r rs. HasReplayed r.opener r.receiver rs };
+
+    ghost wants_memory = { false };
 
     fn record<K: Sink>(
         &mut self,

@@ -3,7 +3,7 @@ ghost use Rattle.std.specs.Prelude.{◌≡◌, ◌⊎◌, [], true, false, IsErr
 ghost use Rattle.outside_io.specs.Causes.{HasReadCause, HasWriteCause, fault_by};
 ghost use Rattle.capture_walk.specs.Causes.{walk_fault};
 ghost use Rattle.capture_walk.specs.Leaves.{Leaves, passage};
-ghost use Rattle.capture_walk.specs.declared.walk_bad.WalkBad.TheVariants.{ReadFault, WriteFault};
+ghost use Rattle.capture_walk.specs.declared.walk_bad.WalkBad.TheVariants.{ReadFault, WriteFault, Memory};
 ghost use Rattle.rist_wire.specs.Session.{IsSession};
 ghost use Rattle.rist_ends.specs.Receiver.{limits_of};
 ghost use Rattle.rist_replay.specs.Replay.{released_so_far, replayed, AreSettings};
@@ -15,6 +15,7 @@ use outside_io::{Sink, Source};
 use rist_ends::{Receiver, Settings};
 use rist_wire::{Opener, Session};
 use std::alloc::Global;
+use ts_nulls::BLOCK_LEN;
 
 /// Steps each record of a capture in a session, and then an end, on a receiver with these settings.
 pub fn replay<S: Source, K: Sink>(
@@ -34,6 +35,8 @@ pub fn replay<S: Source, K: Sink>(
     // Where a write fails before the capture has come to an end, no read has failed.
     ensures stopped { IsErrOf result WriteFault
         → (reader.new.faults ≡ reader.old.faults) ⊎ (reader.new.spent ≡ true) }
+    // Memory is wanted before the first record alone: nothing was read or written then.
+    ensures memory { IsErrOf result Memory → (reader.new ≡ reader.old) × (sink.new ≡ sink.old) }
     ensures ahead { IsErrOf result ReadFault → reader.new.ahead ≡ [] }
     ensures read { HasReadCause (fault_by walk_fault result) reader.old.faults reader.new.faults }
     ensures write { HasWriteCause (fault_by walk_fault result) (K.faults sink.old) (K.faults sink.new) }
@@ -49,7 +52,7 @@ pub fn replay<S: Source, K: Sink>(
     let mut replayer = Replayer {
         opener,
         receiver,
-        block: [0; 1500],
+        block: [0; BLOCK_LEN],
     };
     walk(reader, &mut replayer, sink)
 }

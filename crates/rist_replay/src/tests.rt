@@ -113,8 +113,16 @@ fn media_packets_are_played_out_in_order(rt: HostRuntime) -> Result<(), Fail> {
     let again =
         b"\x01\x00\x00\x0D\x00\x00\x00\x00\x00\x00\x4E\x20\x80\x21\x00\x0B\x00\x00\x03\x84\x10\x20\x30\x41B";
     assert!(rt; gives(alloc, &[A, C, again], b"ABC")?);
-    // Each payload is one put, and an end that releases nothing is none: no fourth put is made, which would fail.
     let octets = joined(alloc, &[NAME, A, B, C])?;
+    for cut in 1..83 {
+        let source = Pieces::with(alloc, &octets, &[cut], &[])?;
+        let sink = Store8::with(alloc, 64, &[])?;
+        assert!(rt;
+            leaves(alloc, &simple_session(), source, sink, Ok(()), b"ABC")?,
+            "cut at {cut}"
+        );
+    }
+    // Each payload is one put, and an end that releases nothing is none: no fourth put is made, which would fail.
     let source = Bytes::with(alloc, &octets, &[])?;
     let sink = Store8::with(alloc, 64, &[3])?;
     assert!(rt; leaves(alloc, &simple_session(), source, sink, Ok(()), b"ABC")?);

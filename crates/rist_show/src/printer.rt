@@ -35,6 +35,7 @@ pub(crate) struct Printer {
 }
 
 impl Visitor for Printer {
+    ghost use Rattle.std.specs.Prelude.{true};
     ghost use Rattle.rist_show.specs.Lines.{lines};
 
     ghost so_far = { λ p. lines p.opener };
@@ -42,6 +43,8 @@ impl Visitor for Printer {
     ghost whole = { λ p. lines p.opener };
 
     ghost has_seen = { λ p rs. Unit {0} };
+
+    ghost wants_memory = { true };
 
     fn record<K: Sink>(
         &mut self,
