@@ -1,0 +1,3 @@
+mod Rows
+pub mod BuildingLemmas
+pub mod WordLemmas

@@ -1,0 +1,6 @@
+pub mod Steps
+pub mod Words
+pub mod Building
+pub mod Missing
+pub mod Requests
+pub mod Rows
