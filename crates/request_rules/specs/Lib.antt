@@ -1,0 +1,7 @@
+pub mod Steps
+pub mod Words
+pub mod Building
+pub mod Missing
+pub mod Requests
+pub mod Times
+pub mod Rows
