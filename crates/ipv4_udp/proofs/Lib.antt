@@ -1,0 +1,6 @@
+pub mod SumLemmas
+pub mod UdpLemmas
+pub mod HeaderLemmas
+pub mod WholeLemmas
+pub mod WritingLemmas
+mod Rows

@@ -1,0 +1,6 @@
+pub mod Sum
+pub mod Ip
+pub mod Reading
+pub mod Writing
+pub mod Text
+pub mod Inside
