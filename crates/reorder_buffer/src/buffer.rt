@@ -183,14 +183,16 @@ impl Buffer {
 
     /// The highest number that was played out.
     pub fn floor(&self) -> Option<u64>
-        ensures { result ≡ number_below self.now.floor }
+        ensures value { result ≡ number_below self.now.floor }
+        ensures within { self.now.floor < 2 ^ 64 }
     {
         self.floor.checked_sub(1)
     }
 
     /// The highest number that was kept.
     pub fn high(&self) -> Option<u64>
-        ensures { result ≡ option_map (λ h. h.number) self.now.highest }
+        ensures number { result ≡ option_map (λ h. h.number) self.now.highest }
+        ensures within { ForSome result (λ n. n < 2 ^ 62) }
     {
         self.highest.map(|highest| highest.number)
     }

@@ -1,3 +1,4 @@
 mod Rows
 pub mod BuildingLemmas
 pub mod WordLemmas
+pub mod KeptLemmas

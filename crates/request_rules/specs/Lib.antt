@@ -3,4 +3,5 @@ pub mod Words
 pub mod Building
 pub mod Missing
 pub mod Requests
+pub mod Times
 pub mod Rows

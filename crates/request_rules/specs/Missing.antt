@@ -1,5 +1,5 @@
 -- Which packets are missing after a history, and since when (this profile). Histories are those of the buffer.
-use Rattle.std.specs.Prelude.{ℕ, ◌+◌, ◌-◌, max, List, [], ◌∷◌, Bool, not, nat_lt, ◌==◌, if◌then◌else◌, Option, None, Some}
+use Rattle.std.specs.Prelude.{ℕ, ◌+◌, ◌-◌, max, List, [], ◌∷◌, Bool, false, not, nat_lt, ◌==◌, if◌then◌else◌, Option, None, Some}
 use Rattle.std.specs.List.{filter, list_any, range_with_len}
 use Rattle.receiver_rules.specs.declared.limits.Limits.{Limits}
 use Rattle.receiver_rules.specs.declared.anchor.Anchor.{Anchor}
@@ -15,6 +15,11 @@ is_accepted accepted x = list_any (λ p. p.number == x) accepted
 -- a packet of a higher number was kept
 abbrev pub is_passed : List Packet → ℕ → Bool
 is_passed accepted x = list_any (λ p. nat_lt x p.number) accepted
+
+-- a number lies below the highest one, where there is one
+abbrev pub is_below_highest : Option ℕ → ℕ → Bool
+is_below_highest None x = false
+is_below_highest (Some highest) x = nat_lt x highest
 
 -- the lowest number that is looked for: not below the first arrival's, nor at or below any that was played out, nor the
 -- capacity or more below the highest

@@ -15,6 +15,10 @@ pub record Request : Type 0 where
   pub number : ℕ
   pub time : ℕ
 
+-- a number that is asked for at a time
+abbrev pub request_at : ℕ → ℕ → Request
+request_at x t = record { number = x; time = t }
+
 -- the times at which a number was asked for, the newest first
 abbrev pub request_times : List Request → ℕ → List ℕ
 request_times requests x = map (λ r. r.time) (filter (λ r. r.number == x) requests)
@@ -50,7 +54,7 @@ due_words limits policy history requests t = words_for policy.kind 64 (due_numbe
 -- the requests so far, after one more step: a tick of the clock asks
 abbrev pub requests_after : Limits → Policy → List Step → List Request → ℕ → Input → List Request
 requests_after limits policy before requests t (Tick micros) =
-    map (λ x. record { number = x; time = t }) (asked_numbers policy.kind (due_words limits policy before requests t))
+    map (λ x. request_at x t) (asked_numbers policy.kind (due_words limits policy before requests t))
     ++ requests
 requests_after limits policy before requests t (Media arrival) = requests
 requests_after limits policy before requests t (Control sample request) = requests

@@ -1,0 +1,5 @@
+pub mod State
+pub mod Steps
+pub mod TimerAfter
+pub mod OneMore
+pub mod Inside
