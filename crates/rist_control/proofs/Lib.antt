@@ -1,0 +1,4 @@
+mod Rows
+pub mod LengthLemmas
+pub mod GroupLemmas
+pub mod NearLemmas
