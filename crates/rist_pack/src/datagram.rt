@@ -9,7 +9,7 @@ use crate::PackSettings;
 use outside_io::Channel;
 use receiver_rules::tick_of;
 use rist_wire::Shutter;
-use ts_nulls::{Strip, strip};
+use ts_nulls::{BLOCK_LEN, Strip, strip};
 
 // The time of piece k, in microseconds from the first.
 pub(crate) fn time_of(settings: &PackSettings, k: u64) -> u64
@@ -42,7 +42,7 @@ fn put_sent(
     requires flow { settings.now.flow % 2 ≡ 0 }
     requires place { k < 2 ^ 32 }
     requires gap { settings.now.gap ≤ 1000000 }
-    requires payload { length payload.now ≤ 1500 }
+    requires payload { length payload.now ≤ BLOCK_LEN }
     requires strip { IsSome strip → shutter.old.session.nulls ≡ true }
     requires whole { can_restore strip payload.now ≡ true }
     ensures channel { result.0 ≡ media_channel shutter.old.session }
@@ -84,7 +84,7 @@ pub(crate) fn put_piece(
     ensures state { shutter.new ≡ record shutter.old { sealer = after_pair shutter.old.sealer } }
     ensures within { result.1 ≤ 2048 }
 {
-    let mut kept = [0; 1500];
+    let mut kept = [0; BLOCK_LEN];
     if nulls {
         if let Some((told, len)) = strip(piece, &mut kept) {
             return put_sent(shutter, settings, k, Some(told), &kept[..len], block);

@@ -7,13 +7,14 @@ use crate::objects::item_value;
 use capture_file::Head;
 use rist_wire::{Item, WireBad};
 use std::alloc::{AllocError, Global};
+use ts_nulls::BLOCK_LEN;
 
 /// The line of a record with this head and this item. The block is scratch.
 pub(crate) fn line(
     alloc: Global,
     head: &Head,
     item: &Result<Item<'_>, WireBad>,
-    block: &mut [u8; 1500],
+    block: &mut [u8; BLOCK_LEN],
 ) -> Result<Vec<u8>, AllocError>
     ensures value { IfOk result (λ text. text.items ≡ line_by (origin_in head.now) item.now) }
 {

@@ -14,6 +14,7 @@ use rtcp_compound::Compound;
 use seq_unwrap::Width;
 use serde_json::{Value, json};
 use std::alloc::{AllocError, Global};
+use ts_nulls::BLOCK_LEN;
 
 fn channel_name(channel: Channel) -> &'static str
     ensures value { result.now ≡ channel_name channel }
@@ -35,7 +36,7 @@ fn bits_of(width: Width) -> u8
 }
 
 // The length of a payload with its null packets in their places. The block is scratch.
-fn content_length(media: &Media<'_>, block: &mut [u8; 1500]) -> usize
+fn content_length(media: &Media<'_>, block: &mut [u8; BLOCK_LEN]) -> usize
     ensures value { result ≡ length (content_of media.now) }
 {
     if media.is_whole() {
@@ -48,7 +49,7 @@ fn media_value(
     alloc: Global,
     head: &Head,
     media: &Media<'_>,
-    block: &mut [u8; 1500],
+    block: &mut [u8; BLOCK_LEN],
 ) -> Result<Value, AllocError>
     ensures value { IfOk result (λ v. view v ≡ media_data (origin_in head.now) media.now) }
 {
@@ -143,7 +144,7 @@ pub(crate) fn item_value(
     alloc: Global,
     head: &Head,
     item: &Result<Item<'_>, WireBad>,
-    block: &mut [u8; 1500],
+    block: &mut [u8; BLOCK_LEN],
 ) -> Result<Value, AllocError>
     ensures value { IfOk result (λ v. view v ≡ data_by (origin_in head.now) item.now) }
 {

@@ -11,6 +11,7 @@ use capture_walk::{VisitBad, Visitor};
 use outside_io::{Failed, Sink};
 use rist_wire::Opener;
 use std::alloc::Global;
+use ts_nulls::BLOCK_LEN;
 
 // Writes a line at once. Only a failed write is answered.
 fn put_line<K: Sink>(text: &[u8], sink: &mut K) -> Result<(), VisitBad>
@@ -31,7 +32,7 @@ pub(crate) struct Printer {
     pub(crate) alloc: Global,
     pub(crate) opener: Opener,
     /// Where a payload is put whose null packets were deleted.
-    pub(crate) block: [u8; 1500],
+    pub(crate) block: [u8; BLOCK_LEN],
 }
 
 impl Visitor for Printer {

@@ -13,6 +13,7 @@ use capture_walk::{WalkBad, walk};
 use outside_io::{Sink, Source};
 use rist_wire::{Opener, Session};
 use std::alloc::Global;
+use ts_nulls::BLOCK_LEN;
 
 /// Writes a line for each record of a capture: what its datagram is in a session, or the first test that fails and where.
 /// A JSON object without blanks, its members in the order of their names, and a line feed. Times are in microseconds; each
@@ -42,7 +43,7 @@ pub fn show<S: Source, K: Sink>(
     let mut printer = Printer {
         alloc,
         opener,
-        block: [0; 1500],
+        block: [0; BLOCK_LEN],
     };
     walk(reader, &mut printer, sink)
 }
