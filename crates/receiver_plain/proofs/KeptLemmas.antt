@@ -9,7 +9,8 @@ use Rattle.receiver_rules.specs.declared.place.Position.{Position}
 use Rattle.receiver_rules.specs.Steps.{Arrival}
 use Rattle.receiver_rules.specs.Packets.{Packet, Moment, is_due_by, distance, is_played_out, is_behind_playout, is_duplicate, is_beyond_capacity, insert_by_number, verdict_of, first_verdict, tests_of, placed_packet, highest_of}
 use Rattle.receiver_rules.specs.Seen.{packet_at, IsPlaceOf}
-use Rattle.receiver_plain.specs.Inside.Kept.{kept_packet, kept_packets, at_number, at_deadline}
+use Rattle.receiver_plain.specs.Kept.{kept_packet, kept_packets}
+use Rattle.receiver_plain.specs.Inside.Kept.{at_number, at_deadline}
 
 any_kept : (f : Packet → Bool) (ks : List Kept) → list_any f (kept_packets ks) ≡ list_any (λ k. f (kept_packet k)) ks
 any_kept f [] = refl

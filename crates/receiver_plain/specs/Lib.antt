@@ -1,2 +1,4 @@
 pub mod Told
+pub mod Kept
+pub mod Run
 pub mod Inside

@@ -6,7 +6,8 @@ ghost use Rattle.receiver_rules.specs.Packets.{highest_of, distance, is_due_by, 
 ghost use Rattle.receiver_rules.specs.Seen.{seen, moment_of, IsPlaceOf};
 ghost use Rattle.receiver_rules.specs.Bounds.{AreInRange};
 ghost use Rattle.receiver_plain.specs.Told.{payload_of};
-ghost use Rattle.receiver_plain.specs.Inside.Kept.{kept_packet, kept_packets, at_number, at_deadline};
+ghost use Rattle.receiver_plain.specs.Kept.{kept_packet, kept_packets};
+ghost use Rattle.receiver_plain.specs.Inside.Kept.{at_number, at_deadline};
 
 use receiver_rules::place::Position;
 use receiver_rules::{Anchor, Arrival, Limits, Verdict};
@@ -15,7 +16,9 @@ use std::alloc::{AllocError, Global};
 /// A packet that was kept.
 #[derive(Clone, Copy)]
 pub struct Kept<'a> {
+    /// Its number, timestamp and deadline.
     pub place: Position,
+    /// Its octets.
     pub payload: &'a [u8],
 }
 

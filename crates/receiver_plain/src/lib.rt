@@ -9,5 +9,7 @@ mod steps;
 #[cfg(test)]
 mod tests;
 
+pub use kept::Kept;
 pub use programs::{released, verdicts};
+pub use running::{Run, nothing_yet, take};
 pub use steps::{Event, Step};

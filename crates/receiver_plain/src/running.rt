@@ -1,16 +1,18 @@
 //! What a plain program knows after some steps.
-ghost use Rattle.std.specs.Prelude.{◌≡◌, ◌<◌, ◌^◌, ◌∷◌, List, if◌then◌else◌, IfOk, OnOk, unwrap_or};
+ghost use Rattle.std.specs.Prelude.{◌≡◌, ◌<◌, ◌^◌, [], ◌∷◌, List, if◌then◌else◌, IfOk, OnOk, unwrap_or};
 ghost use Rattle.std.specs.List.{All};
 ghost use Rattle.std.specs.Option.{ForSome};
 ghost use Rattle.seq_unwrap.specs.Nearest.{cycle_of};
+ghost use Rattle.receiver_rules.specs.declared.limits.Limits.{Limits};
 ghost use Rattle.receiver_rules.specs.Steps.{Step as RuleStep};
 ghost use Rattle.receiver_rules.specs.Packets.{highest_of, is_kept, insert_by_number};
 ghost use Rattle.receiver_rules.specs.History.{new_anchor as anchor_fixed};
 ghost use Rattle.receiver_rules.specs.Seen.{seen, packet_at};
 ghost use Rattle.receiver_rules.specs.Bounds.{AreInRange, IsEarlyAnchor};
 ghost use Rattle.receiver_plain.specs.Told.{step_of, history_of, IsFit};
-ghost use Rattle.receiver_plain.specs.Inside.Kept.{kept_packets};
-ghost use Rattle.receiver_plain.specs.Inside.Run.{kept_with, ordered_with, IsSmallRun, RunShows, SameButKept, IsBrought, IsKeptAfter};
+ghost use Rattle.receiver_plain.specs.Kept.{kept_packets};
+ghost use Rattle.receiver_plain.specs.Run.{IsSmallRun, RunShows};
+ghost use Rattle.receiver_plain.specs.Inside.Run.{kept_with, ordered_with, SameButKept, IsBrought, IsKeptAfter};
 
 use crate::kept::{Kept, insert_in_order, judge_arrival};
 use crate::steps::{Event, Step};
@@ -18,15 +20,22 @@ use receiver_rules::place::{Position, highest_after, new_anchor, place_of};
 use receiver_rules::{Anchor, Arrival, Highest, Limits, Verdict};
 use std::alloc::{AllocError, Global};
 
-/// What a plain program knows after some steps: all that was kept, the newest first and by rising number.
+/// What a plain program knows after some steps.
 #[derive(Drop)]
 pub struct Run<'a> {
+    /// The effective time, in ticks of 1/90,000 s.
     pub time: u64,
+    /// Whether some step ended the stream.
     pub has_ended: bool,
+    /// What the first media arrival fixed.
     pub anchor: Option<Anchor>,
+    /// The kept packet with the highest number.
     pub highest: Option<Highest>,
+    /// All that was kept, the newest first.
     pub kept: Vec<Kept<'a>>,
+    /// The same by rising number.
     pub ordered: Vec<Kept<'a>>,
+    /// The verdict on each arrival, in order.
     pub verdicts: Vec<Verdict>,
 }
 
@@ -36,7 +45,19 @@ pub fn run_of<'a>(alloc: Global, limits: &Limits, steps: &[Step<'a>]) -> Result<
     ensures small { IfOk result IsSmallRun }
     ensures shows { IfOk result (λ run. RunShows limits.now run (history_of steps.now)) }
 {
-    let mut run = Run {
+    let mut run = nothing_yet(alloc);
+    for step in steps {
+        take(&mut run, limits, step)?;
+    }
+    Ok(run)
+}
+
+/// What is known where no step was made.
+pub fn nothing_yet<'a>(alloc: Global) -> Run<'a>
+    ensures small { IsSmallRun result }
+    ensures shows { (limits : Limits) → RunShows limits result [] }
+{
+    Run {
         time: 0,
         has_ended: false,
         anchor: None,
@@ -44,14 +65,11 @@ pub fn run_of<'a>(alloc: Global, limits: &Limits, steps: &[Step<'a>]) -> Result<
         kept: Vec::new(alloc),
         ordered: Vec::new(alloc),
         verdicts: Vec::new(alloc),
-    };
-    for step in steps {
-        take(&mut run, limits, step)?;
     }
-    Ok(run)
 }
 
-fn take<'a>(run: &mut Run<'a>, limits: &Limits, step: &Step<'a>) -> Result<(), AllocError>
+/// One more step. After want of memory the run stands for no history.
+pub fn take<'a>(run: &mut Run<'a>, limits: &Limits, step: &Step<'a>) -> Result<(), AllocError>
     requires limits { AreInRange limits.now }
     requires step { IsFit step.now }
     requires small { IsSmallRun run.old }

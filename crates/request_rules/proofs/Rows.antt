@@ -75,7 +75,7 @@ unfolding nearest
 unanswered = refl
 
 -- each packet is asked for as often as the limit says
-used_up : words_at usual (patient Range 2) (asked_once ++ clock 6850 ∷ []) 100000 ≡ []
+used_up : words_at usual (patient Range 2) (asked_once ++ clock 6850 ∷ []) 80000 ≡ []
 unfolding nearest
 used_up = refl
 

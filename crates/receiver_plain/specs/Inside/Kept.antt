@@ -1,16 +1,6 @@
--- What a plain program keeps, as packets.
-use Rattle.std.specs.Prelude.{ℕ, ℤ, pos, List, [], map}
-use Rattle.receiver_plain.specs.declared.kept.Kept.{Kept as KeptOne}
+-- Packets of which a test reads a part alone.
+use Rattle.std.specs.Prelude.{ℕ, ℤ, pos, []}
 use Rattle.receiver_rules.specs.Packets.{Packet}
-use Rattle.receiver_rules.specs.Seen.{packet_at}
-
--- a packet that a program keeps, with its place
-abbrev pub kept_packet : KeptOne → Packet
-kept_packet kept = packet_at kept.place kept.payload.now
-
--- the packets that a program keeps, in their order
-abbrev pub kept_packets : List KeptOne → List Packet
-kept_packets kept = map kept_packet kept
 
 -- a packet of which only the number is read
 abbrev pub at_number : ℕ → Packet

@@ -3,7 +3,7 @@ use Rattle.std.proofs.Common.{ap, ◌∙◌, ◌≡◌}
 use Rattle.std.specs.Prelude.{nat_lt}
 use Rattle.std.specs.List.{insert, position_or_len}
 use Rattle.receiver_plain.specs.declared.kept.Kept.{Kept}
-use Rattle.receiver_plain.specs.Inside.Kept.{kept_packets}
+use Rattle.receiver_plain.specs.Kept.{kept_packets}
 use Rattle.receiver_plain.proofs.KeptLemmas.{insert_plain}
 use Rattle.receiver_plain.proofs.kept.insert_in_order.Goals as goal
 

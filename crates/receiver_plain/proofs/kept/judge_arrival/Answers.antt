@@ -1,6 +1,6 @@
 use Rattle.std.proofs.Common.{◌∙◌}
 use Rattle.receiver_rules.specs.Seen.{seen}
-use Rattle.receiver_plain.specs.Inside.Kept.{kept_packets}
+use Rattle.receiver_plain.specs.Kept.{kept_packets}
 use Rattle.receiver_plain.proofs.KeptLemmas.{judged_plain}
 use Rattle.receiver_plain.proofs.kept.judge_arrival.Goals as goal
 

@@ -4,7 +4,7 @@ use Rattle.std.specs.List.{filter}
 use Rattle.receiver_rules.specs.Packets.{Packet, is_played_out}
 use Rattle.receiver_rules.specs.Seen.{moment_of}
 use Rattle.receiver_plain.specs.Told.{payload_of}
-use Rattle.receiver_plain.specs.Inside.Kept.{kept_packets}
+use Rattle.receiver_plain.specs.Kept.{kept_packets}
 use Rattle.receiver_plain.proofs.kept.payloads_out.Given as goal
 
 abbrev pub invariant-loop-k : goal.invariant-loop-k

@@ -1,7 +1,7 @@
 -- the run shows the steps so far
 use Rattle.std.proofs.Common.{take}
 use Rattle.receiver_plain.specs.Told.{history_of}
-use Rattle.receiver_plain.specs.Inside.Run.{IsSmallRun, RunShows}
+use Rattle.receiver_plain.specs.Run.{IsSmallRun, RunShows}
 use Rattle.receiver_plain.proofs.running.run_of.Given as goal
 
 abbrev pub invariant-loop-step : goal.invariant-loop-step

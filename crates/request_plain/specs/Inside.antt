@@ -1,0 +1,2 @@
+-- What only the program's own functions need.
+pub mod Asking
