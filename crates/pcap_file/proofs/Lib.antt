@@ -1,0 +1,5 @@
+pub mod NumberLemmas
+pub mod TakenLemmas
+pub mod StepLemmas
+pub mod FormatLemmas
+mod Rows
