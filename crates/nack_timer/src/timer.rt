@@ -39,6 +39,7 @@ impl Timer {
     ghost use Rattle.receiver_rules.specs.declared.limits.Limits.{Limits};
     ghost use Rattle.reorder_buffer.specs.declared.phase.Phase.TheVariants.{Open};
     ghost use Rattle.nack_timer.specs.State.{policy_of, IsInRange, high_or, AreRising};
+    ghost use Rattle.request_rules.specs.Near.{AreNear};
     ghost use Rattle.nack_timer.specs.TimerAfter.{IsTimerAfter};
     ghost use Rattle.nack_timer.specs.OneMore.{RaisesAt, AsksAt, StandsAfterTick, WouldAskAt};
     ghost use Rattle.nack_timer.specs.Inside.Raise.{raised_to};
@@ -86,6 +87,7 @@ impl Timer {
         requires span { buffer.now.limits.capacity ≡ self.old.span }
 
         ensures requests { AsksAt self.old buffer.now at rtt result }
+        ensures near { AreNear result }
         ensures state { StandsAfterTick self.old self.new buffer.now rtt }
         ensures same { (self.new.policy ≡ self.old.policy) × (self.new.span ≡ self.old.span) }
         ensures told { self.new.high ≡ self.old.high }

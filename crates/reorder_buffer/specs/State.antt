@@ -1,5 +1,5 @@
 -- What a reorder buffer keeps, as its clauses see it.
-use Rattle.std.specs.Prelude.{ℕ, ◌-◌, ◌==◌, if◌then◌else◌, List, [], Option, None, Some}
+use Rattle.std.specs.Prelude.{ℕ, ◌-◌, ◌≤◌, ◌==◌, if◌then◌else◌, List, [], Option, None, Some}
 use Rattle.receiver_rules.specs.declared.limits.Limits.{Limits}
 use Rattle.receiver_rules.specs.declared.anchor.Anchor.{Anchor}
 use Rattle.receiver_rules.specs.declared.anchor.Highest.{Highest}
@@ -28,3 +28,9 @@ number_below floor = if floor == 0 then None else Some (floor - 1)
 -- after a failed write all is as it was, but that nothing waits
 abbrev pub failed : State → State
 failed b = record { limits = b.limits; phase = Failed; time = b.time; anchor = b.anchor; highest = b.highest; floor = b.floor; held = [] }
+
+-- the highest number is no lower than it was
+abbrev pub IsNoLower : Option Highest → Option Highest → Type 0
+IsNoLower None new = Unit {0}
+IsNoLower (Some old) None = ⊥
+IsNoLower (Some old) (Some new) = old.number ≤ new.number

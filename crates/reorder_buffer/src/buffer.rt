@@ -48,7 +48,7 @@ impl Buffer {
     ghost use Rattle.receiver_rules.specs.Packets.{is_below, placed_packet};
     ghost use Rattle.receiver_rules.specs.Seen.{seen, moment_of, packet_at, IsPlaceOf};
     ghost use Rattle.receiver_rules.specs.Bounds.{AreInRange, IsEarlyAnchor};
-    ghost use Rattle.reorder_buffer.specs.State.{failed, number_below};
+    ghost use Rattle.reorder_buffer.specs.State.{failed, number_below, IsNoLower};
     ghost use Rattle.reorder_buffer.specs.StateAfter.{IsStateAfter};
     ghost use Rattle.reorder_buffer.specs.OneMore.{StandsAfter, Judges, Releases, ReleasesPart, ReleasesNothing, Counts, IsKept};
     ghost use Rattle.reorder_buffer.specs.Inside.Release.{octets_below, floor_then};
@@ -116,6 +116,7 @@ impl Buffer {
         ensures sink { OnOk result
             (Releases self.old (media_step at (seen arrival.now)) (K.contents sink.old) (K.contents sink.new)) }
         ensures time { OnOk result ((self.new.time ≡ at) × (self.new.phase ≡ Phase.Open)) }
+        ensures high { OnOk result (IsNoLower self.old.highest self.new.highest) }
         ensures limits { self.new.limits ≡ self.old.limits }
 
         ensures err { OnErr result (self.new ≡ failed self.old) }
@@ -138,6 +139,7 @@ impl Buffer {
         ensures sink { OnOk result (Releases self.old (time_step at) (K.contents sink.old) (K.contents sink.new)) }
         ensures count { IfOk result (Counts self.old (time_step at)) }
         ensures time { OnOk result ((self.new.time ≡ at) × (self.new.phase ≡ Phase.Open)) }
+        ensures high { OnOk result (self.new.highest ≡ self.old.highest) }
         ensures limits { self.new.limits ≡ self.old.limits }
 
         ensures err { OnErr result (self.new ≡ failed self.old) }

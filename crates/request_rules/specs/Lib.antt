@@ -3,5 +3,6 @@ pub mod Words
 pub mod Building
 pub mod Missing
 pub mod Requests
+pub mod Near
 pub mod Times
 pub mod Rows

@@ -9,7 +9,7 @@ use Rattle.std.proofs.lemmas.Bool.Decides.{eqb_tells}
 use Rattle.std.proofs.lemmas.List.Folds.{length-prefix_len}
 use Rattle.request_rules.specs.declared.word.AskWord.{AskWord}
 use Rattle.rist_control.specs.Nacks.{upper_of, Group, group_with, groups_of}
-use Rattle.rist_control.specs.Near.{AreAscending, AreClose}
+use Rattle.request_rules.specs.Near.{AreAscending, AreClose}
 use Rattle.rist_control.specs.Inside.Groups.{leading, AreOfUpper, IsOtherUpper}
 
 -- ---- groups of uniform words

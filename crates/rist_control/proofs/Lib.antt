@@ -1,4 +1,3 @@
 mod Rows
 pub mod LengthLemmas
 pub mod GroupLemmas
-pub mod NearLemmas

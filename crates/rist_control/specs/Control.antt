@@ -67,16 +67,17 @@ abbrev pub tick_compound : NackKind → ℕ → Bool → Option ℕ → Width �
 tick_compound kind own is_report flow width words micros =
     if is_report || is_any words then Compound (tick_packets kind own is_report flow width words micros) ∷ [] else []
 
--- a keepalive goes out where one is due, in the Main Profile
-abbrev pub tick_keepalive : Bool → ℕ → Bool → List Datagram
-tick_keepalive has_keepalives own is_due = if has_keepalives && is_due then Alive own ∷ [] else []
+-- a tick's keepalive
+abbrev pub tick_keepalive : ℕ → Bool → List Datagram
+tick_keepalive own is_sent = if is_sent then Alive own ∷ [] else []
 
--- what a tick of a link makes at a time, at a moment of its clock in microseconds: a compound, and then a keepalive
+-- what a tick of a link makes at a time, at a moment of its clock in microseconds: a compound, and then, in the Main Profile,
+-- a keepalive where one is due
 abbrev pub tick_datagrams : ControlSettings → List Step → ℕ → ℕ → ℕ → List Datagram
 tick_datagrams settings before link t micros =
     tick_compound settings.policy.kind settings.own (is_report_due link before t) (flow_of before)
     (width_of settings.limits before) (asked_words settings.limits settings.policy before t) micros
-    ++ tick_keepalive settings.has_keepalives settings.own (is_keepalive_due link before t)
+    ++ tick_keepalive settings.own (settings.has_keepalives && is_keepalive_due link before t)
 
 -- the first RTT request of a compound is answered
 abbrev pub answer_datagrams : ℕ → Option EchoOf → List Datagram

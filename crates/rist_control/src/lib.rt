@@ -3,7 +3,6 @@
 #![tactic(auto)]
 
 mod answer;
-pub mod laws;
 mod opening;
 mod report;
 mod requests;

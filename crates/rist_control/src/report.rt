@@ -1,7 +1,7 @@
 //! The compound of a tick.
 ghost use Rattle.std.specs.Prelude.{◌≡◌, ◌≤◌, ◌<◌, ◌++◌, [], length, Some};
 ghost use Rattle.rist_control.specs.Control.{rtt_request, tick_packets};
-ghost use Rattle.rist_control.specs.Near.{AreNear};
+ghost use Rattle.request_rules.specs.Near.{AreNear};
 
 use crate::opening::opened;
 use crate::requests::{Asker, put_nacks};

@@ -5,7 +5,7 @@ ghost use Rattle.rtcp_compound.specs.Compound.{application, feedback};
 ghost use Rattle.rtcp_compound.specs.Name.{rist_name};
 ghost use Rattle.rist_nack.specs.Written.{words_spelling, upper_spelling};
 ghost use Rattle.rist_control.specs.Nacks.{halves_of, upper_of, nack, nacks, groups_of, extended_nack};
-ghost use Rattle.rist_control.specs.Near.{AreNear};
+ghost use Rattle.request_rules.specs.Near.{AreNear};
 ghost use Rattle.rist_control.specs.Inside.Groups.{leading};
 
 use request_rules::{AskWord, NackKind};

@@ -1,4 +1,4 @@
-use Rattle.std.proofs.Common.{◌≡◌, ◌∙◌, ℕ, List, ◌∷◌, Some, option_map, sym, ap, subst, arith}
+use Rattle.std.proofs.Common.{◌≡◌, ◌≤◌, ◌+◌, ◌∙◌, ℕ, List, ◌∷◌, Some, option_map, sym, ap, subst, arith}
 use Rattle.receiver_rules.specs.declared.anchor.Anchor.{Anchor}
 use Rattle.receiver_rules.specs.declared.anchor.Highest.{Highest}
 use Rattle.receiver_rules.specs.Steps.{tick_of}
@@ -10,6 +10,8 @@ use Rattle.nack_timer.specs.Steps.{tick_step}
 use Rattle.nack_timer.specs.TimerAfter.{IsTimerAfter}
 use Rattle.nack_timer.proofs.NoneLemmas.{none_stands, none_of, some_of}
 use Rattle.nack_timer.proofs.StandsLemmas.{Asked, words_stand, after_stands}
+use Rattle.request_rules.specs.Near.{AreNear}
+use Rattle.nack_timer.proofs.NearLemmas.{near_words}
 use Rattle.nack_timer.proofs.timer.Timer.due.Goals as goal
 
 pub returns-in_default-clause-state : goal.returns-in_default-clause-state
@@ -50,3 +52,11 @@ returns-clause-state c = λ before link tick micros s stands rtts.
     let h = some_of (λ (h : Highest). h.number) c.args.buffer.now.highest c.in-Some-high.high (sym c.high.ensures.number ∙ c.in-Some-high.is) in
     subst (λ (t : TimerState). IsTimerAfter t c.args.buffer.now.limits (tick_step link tick micros ∷ before)) (sym c.ask_for_missing.ensures.state)
     (after_stands c.args.self.now c.args.buffer.now before link tick micros c.args.at c.args.rtt c.lowest_wanted-low.result a.value h.value (asked c before link tick micros s stands rtts a.value h.value a.is a.number h.is h.number))
+
+pub returns-clause-near : goal.returns-clause-near
+returns-clause-near c =
+    let order = subst (λ (t : TimerState). AreRising 0 (high_or t.high) t.missing) c.self.view_is c.self.invariant.rising in
+    let high : high_or c.args.self.now.high ≡ c.in-Some-high.high = ap high_or (sym c.requires.told ∙ sym c.high.ensures.number ∙ c.in-Some-high.is) in
+    let near : high_or c.args.self.now.high ≤ c.lowest_wanted-low.result + 16384 = omega (arith, c.lowest_wanted-low.ensures, c.capacity-span.ensures.capacity, c.self.invariant.few, high) in
+    subst AreNear (sym c.ask_for_missing.ensures.words)
+    (near_words c.args.self.now.policy c.args.rtt c.args.at c.lowest_wanted-low.result (high_or c.args.self.now.high) c.args.buffer.now.held c.args.self.now.missing near order)

@@ -1,22 +1,13 @@
--- The words of one request lie near together: what is missing lies within the buffer's capacity.
-use Rattle.std.proofs.Common.{ℕ, zero, suc, ◌+◌, ◌-◌, ◌<◌, ◌≤◌, Bool, true, false, cond, not, List, [], ◌∷◌, length, take, Option, Some, None, subst, arith}
+-- Words for rising numbers that lie near together do too.
+use Rattle.std.proofs.Common.{ℕ, zero, suc, ◌+◌, ◌<◌, ◌≤◌, true, false, cond, not, List, [], ◌∷◌, length, take, arith}
 use Rattle.std.specs.Prelude.{◌==◌}
-use Rattle.std.specs.List.{filter, range_with_len}
-use Rattle.receiver_rules.specs.declared.limits.Limits.{Limits}
-use Rattle.receiver_rules.specs.declared.anchor.Anchor.{Anchor}
-use Rattle.receiver_rules.specs.declared.anchor.Highest.{Highest}
-use Rattle.receiver_rules.specs.Packets.{Packet, Moment, highest_of}
-use Rattle.receiver_rules.specs.History.{anchor_of, accepted_packets}
+use Rattle.std.specs.List.{filter}
 use Rattle.request_rules.specs.declared.policy.NackKind.{NackKind}
 use Rattle.request_rules.specs.declared.policy.NackKind.TheVariants.{Range, Mask}
-use Rattle.request_rules.specs.declared.policy.Policy.{Policy}
 use Rattle.request_rules.specs.declared.word.AskWord.{AskWord}
 use Rattle.request_rules.specs.Words.{run_with, runs_of, is_masked, mask_words, words_for, IsRisingIn}
-use Rattle.request_rules.specs.Steps.{Step, buffer_history, longest_rtt}
-use Rattle.request_rules.specs.Missing.{missing_among, moment_at, lowest_wanted, is_accepted, found_time}
-use Rattle.request_rules.specs.Requests.{asked_words, requests_of, request_times, is_due}
+use Rattle.request_rules.specs.Near.{AreAscending, AreClose, AreNear}
 use Rattle.request_rules.proofs.WordLemmas.{rising_le, rising-filter}
-use Rattle.rist_control.specs.Near.{AreAscending, AreClose, AreNear}
 
 -- ---- words of rising numbers ascend
 
@@ -80,36 +71,9 @@ few_words : (kind : NackKind) (xs : List ℕ) → length (words_for kind 64 xs) 
 few_words Range xs = few_front 64 (runs_of xs)
 few_words Mask xs = few_masks 64 xs
 
--- ---- what is missing
+-- ---- both
 
-rising_range : (low n : ℕ) → IsRisingIn low (low + n) (range_with_len low n)
-rising_range low zero = omega arith
-rising_range low (suc n) = (omega arith, subst (λ (h : ℕ). IsRisingIn (low + 1) h (range_with_len (low + 1) n)) (omega arith) (rising_range (low + 1) n))
-
-near_numbers : (kind : NackKind) (low n : ℕ) (f g : ℕ → Bool) → n ≤ 65536 → AreNear (words_for kind 64 (filter f (filter g (range_with_len low n))))
-near_numbers kind low n f g l = record {
-  few = few_words kind (filter f (filter g (range_with_len low n)));
-  close = close_words low (low + n) (words_for kind 64 (filter f (filter g (range_with_len low n)))) (omega (arith, l))
-      (words_ascend kind low (low + n) (filter f (filter g (range_with_len low n)))
-      (rising-filter f low (low + n) (filter g (range_with_len low n)) (rising-filter g low (low + n) (range_with_len low n) (rising_range low n))));
-}
-
-no_words : (kind : NackKind) (f : ℕ → Bool) → AreNear (words_for kind 64 (filter f []))
-no_words Range f = record { few = omega arith; close = tt }
-no_words Mask f = record { few = omega arith; close = tt }
-
-near_missing : (kind : NackKind) (limits : Limits) (f : ℕ → Bool) (anchor : Option Anchor) (accepted : List Packet) (moment : Moment) (highest : Option Highest) → limits.capacity ≤ 65536
-    → AreNear (words_for kind 64 (filter f (missing_among limits anchor accepted moment highest)))
-near_missing kind limits f None accepted moment highest l = no_words kind f
-near_missing kind limits f (Some anchor) accepted moment None l = no_words kind f
-near_missing kind limits f (Some anchor) accepted moment (Some highest) l =
-    near_numbers kind (lowest_wanted limits anchor accepted moment highest) (highest.number - lowest_wanted limits anchor accepted moment highest)
-    f (λ x. not (is_accepted accepted x)) (omega (arith, l))
-
--- the words by which a receiver asks
-pub near_words : (limits : Limits) (policy : Policy) (before : List Step) (t : ℕ) → limits.capacity ≤ 65536 → AreNear (asked_words limits policy before t)
-near_words limits policy before t l =
-    let h = buffer_history before in
-    near_missing policy.kind limits
-    (λ x. is_due policy (longest_rtt 16 before) t (found_time limits h x) (request_times (requests_of limits policy before) x))
-    (anchor_of h) (accepted_packets limits h) (moment_at h t) (highest_of (accepted_packets limits h)) l
+-- words for rising numbers that lie less than 65,536 apart
+pub words_near : (kind : NackKind) (low high : ℕ) (xs : List ℕ) → high ≤ low + 65536 → IsRisingIn low high xs → AreNear (words_for kind 64 xs)
+words_near kind low high xs near rising =
+    record { few = few_words kind xs; close = close_words low high (words_for kind 64 xs) near (words_ascend kind low high xs rising) }
