@@ -1,5 +1,4 @@
 pub mod HeadLemmas
 pub mod ReadingLemmas
-pub mod BlockLemmas
 pub mod WritingLemmas
 pub mod FormatLemmas

@@ -1,3 +1,2 @@
 -- What private contracts cite.
-pub mod Block
 pub mod Steps

@@ -13,7 +13,3 @@ pub record ReaderState : Type 0 where
 -- nothing was read yet
 abbrev pub new_reader : Option (List ℕ) → ℕ → ReaderState
 new_reader remaining faults = record { remaining = remaining; ahead = []; at = 0; faults = faults; spent = false }
-
--- how many octets a reader takes from its source ahead of need at most: one block
-abbrev pub most_ahead : ℕ
-most_ahead = 65536

@@ -2,7 +2,6 @@
 //! octets spell.
 #![tactic(auto)]
 
-mod block;
 mod head;
 mod laws;
 mod reader;

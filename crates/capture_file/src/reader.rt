@@ -3,13 +3,14 @@ ghost use Rattle.std.specs.Prelude.{◌≡◌, ◌≤◌, ◌<◌, ◌+◌, ◌^
 ghost use Rattle.capture_file.specs.declared.reader.CapBad.TheVariants.{ReadFault};
 ghost use Rattle.outside_io.specs.Causes.{HasReadCause, fault_by};
 ghost use Rattle.outside_io.specs.Told.{Takes};
-ghost use Rattle.capture_file.specs.Reader.{ReaderState, new_reader, most_ahead};
+ghost use Rattle.block_source.specs.Block.{most_ahead};
+ghost use Rattle.capture_file.specs.Reader.{ReaderState, new_reader};
 ghost use Rattle.capture_file.specs.Reading.{ReadsNext, read_fault, offset_at, spent_by};
 ghost use Rattle.capture_file.specs.Inside.Steps.{ReadsName, ReadsHead, ReadsBody, Enters, ReadsRecord};
 
 use crate::Head;
-use crate::block::Block;
 use crate::head::head_of;
+use block_source::Block;
 use outside_io::{Failed, Source, read_full};
 use std::fmt::{self, Display, Formatter, Write};
 use std::marker::Model;

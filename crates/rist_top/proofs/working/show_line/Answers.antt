@@ -1,6 +1,7 @@
 -- The walk's end says what is shown, and its source comes back.
 use Rattle.std.proofs.Common.{subst}
-use Rattle.capture_file.specs.Reader.{ReaderState, most_ahead}
+use Rattle.block_source.specs.Block.{most_ahead}
+use Rattle.capture_file.specs.Reader.{ReaderState}
 use Rattle.capture_walk.specs.Leaves.{Leaves, passage}
 use Rattle.capture_walk.proofs.EndingLemmas.{given_back}
 use Rattle.rist_wire.specs.declared.session.Session.{Session}
