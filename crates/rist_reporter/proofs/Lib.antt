@@ -1,0 +1,3 @@
+pub mod LinksLemmas
+pub mod TickLemmas
+pub mod MediaLemmas

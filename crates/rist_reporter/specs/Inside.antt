@@ -1,0 +1,4 @@
+pub mod Noted
+pub mod Due
+pub mod Sound
+pub mod Changes

@@ -1,0 +1,5 @@
+pub mod Made
+pub mod Links
+pub mod Reporter
+pub mod OneMore
+pub mod Inside

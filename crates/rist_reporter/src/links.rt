@@ -1,0 +1,135 @@
+//! What a receiver keeps of its links: round-trip times, and when it reported and said that it is there.
+ghost use Rattle.std.specs.Prelude.{◌≡◌, ◌<◌, ◌^◌, [], None};
+ghost use Rattle.rist_rtt.specs.Echo.{echo_seen};
+ghost use Rattle.request_rules.specs.Steps.{longer};
+ghost use Rattle.request_rules.specs.Times.{has_passed_since};
+ghost use Rattle.rist_control.specs.When.{report_interval, keepalive_interval};
+ghost use Rattle.rist_reporter.specs.Links.{entry_at, longest_of};
+ghost use Rattle.rist_reporter.specs.Inside.Noted.{noted, sampled};
+
+use rist_rtt::{Echo, Rtt};
+use std::marker::Model;
+
+/// How many links there are at most.
+pub const LINKS: usize = 16;
+
+/// From one report of a link to its next: 100 ms, in ticks of 1/90,000 s.
+const REPORT_INTERVAL: u64 = 9_000;
+
+/// From one keepalive of a link to its next: a second, in ticks.
+const KEEPALIVE_INTERVAL: u64 = 90_000;
+
+/// The entries of sixteen links: the smoothed round-trip time of each, and the times of its last report and keepalive.
+#[derive(Drop)]
+pub struct Links {
+    rtts: [Rtt; 16],
+    reports: [Option<u64>; 16],
+    keepalives: [Option<u64>; 16],
+}
+
+impl Model for Links {
+    ghost use Rattle.rist_reporter.specs.Links.{LinksState};
+
+    ghost Value = { LinksState };
+
+    ghost view = { λ l. record { rtts = l.rtts; reports = l.reports; keepalives = l.keepalives } };
+}
+
+/// Whether so many ticks have passed since a time, if there is one.
+fn has_passed(interval: u64, at: u64, last: Option<u64>) -> bool
+    requires time { at < 2 ^ 61 }
+    ensures value { result ≡ has_passed_since interval at last }
+{
+    match last {
+        None => true,
+        Some(last) => last.saturating_add(interval) <= at,
+    }
+}
+
+/// Notes a tick of a link where the interval has passed.
+fn note(entries: &mut [Option<u64>; 16], interval: u64, at: u64, link: u8)
+    requires link { link < 16 }
+    requires time { at < 2 ^ 61 }
+    ensures value { entries.new ≡ noted interval at link entries.old }
+{
+    if has_passed(interval, at, entries[link as usize]) {
+        entries[link as usize] = Some(at);
+    }
+}
+
+/// The greater of a round-trip time, if it is known, and another.
+fn longer(rtt: &Rtt, longest: u64) -> u64
+    ensures value { result ≡ longer rtt.now longest }
+{
+    match rtt.value() {
+        None => longest,
+        Some(micros) => micros.max(longest),
+    }
+}
+
+impl Links {
+    ghost use Rattle.rist_reporter.specs.Links.{AreLinksAfter};
+
+    /// Nothing came yet.
+    pub(crate) fn new() -> Links
+        ensures state { AreLinksAfter result [] }
+    {
+        Links {
+            rtts: [Rtt::new(); 16],
+            reports: [None; 16],
+            keepalives: [None; 16],
+        }
+    }
+
+    /// The greatest round-trip time of all links in microseconds, and 0 where none is known.
+    pub(crate) fn longest(&self) -> u64
+        ensures value { result ≡ longest_of 16 self.now.rtts }
+    {
+        let mut longest = 0;
+        for link in 0..LINKS {
+            longest = longer(&self.rtts[link], longest);
+        }
+        longest
+    }
+
+    /// Whether a tick of a link at a time makes a report.
+    pub(crate) fn is_report_due(&self, link: u8, at: u64) -> bool
+        requires link { link < 16 }
+        requires time { at < 2 ^ 61 }
+        ensures value { result ≡ has_passed_since report_interval at (entry_at self.now.reports link) }
+    {
+        has_passed(REPORT_INTERVAL, at, self.reports[link as usize])
+    }
+
+    /// Whether it makes a keepalive.
+    pub(crate) fn is_keepalive_due(&self, link: u8, at: u64) -> bool
+        requires link { link < 16 }
+        requires time { at < 2 ^ 61 }
+        ensures value { result ≡ has_passed_since keepalive_interval at (entry_at self.now.keepalives link) }
+    {
+        has_passed(KEEPALIVE_INTERVAL, at, self.keepalives[link as usize])
+    }
+
+    /// A tick of a link at a time.
+    pub(crate) fn tick(&mut self, link: u8, at: u64)
+        requires link { link < 16 }
+        requires time { at < 2 ^ 61 }
+        ensures value { self.new ≡ record self.old {
+          reports = noted report_interval at link self.old.reports;
+          keepalives = noted keepalive_interval at link self.old.keepalives;
+        } }
+    {
+        note(&mut self.reports, REPORT_INTERVAL, at, link);
+        note(&mut self.keepalives, KEEPALIVE_INTERVAL, at, link);
+    }
+
+    /// A link's response to an RTT request, which came at a moment in microseconds.
+    pub(crate) fn sample(&mut self, link: u8, us: u64, response: &Echo<'_>)
+        requires link { link < 16 }
+        ensures value { self.new ≡ record self.old {
+          rtts = sampled link us (echo_seen response.now) self.old.rtts;
+        } }
+    {
+        self.rtts[link as usize].sample(us, response);
+    }
+}
