@@ -1,0 +1,8 @@
+pub mod KeptLemmas
+pub mod AgainLemmas
+pub mod SendLemmas
+pub mod GivenLemmas
+pub mod EventLemmas
+pub mod PutLemmas
+pub mod TurnLemmas
+mod Rows

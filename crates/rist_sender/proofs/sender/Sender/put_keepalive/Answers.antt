@@ -1,0 +1,44 @@
+use Rattle.std.proofs.Common.{◌≡◌, ◌∙◌, ℕ, ◌<◌, ◌++◌, Bool, false, true, List, Option, refl, sym, ap, subst, arith}
+use Rattle.psk_seal.specs.declared.sealer.Pair.{Pair}
+use Rattle.rist_wire.specs.Writing.{next_pair, is_spent}
+use Rattle.rist_wire.specs.Datagrams.{datagram_of}
+use Rattle.rist_wire.specs.declared.item.Kind.TheVariants as kinds
+use Rattle.rist_rtt.specs.Echo.{echo_seen, response_octets}
+use Rattle.keepalive_msg.specs.Keepalive.{spelling as keepalive_spelling}
+use Rattle.keepalive_msg.specs.Writing.{message_of as keepalive_of}
+use Rattle.rist_wire.specs.Packets.{media_octets}
+use Rattle.sender_rules.specs.Sendings.{Packet, Again}
+use Rattle.retransmit_store.specs.State.{IsStoreAfter}
+use Rattle.rist_sender.specs.declared.answer.Answer.TheVariants.{Took}
+use Rattle.rist_sender.specs.Messages.{Report, RttAnswer, Alive, Retransmission, report_octets, answer_octets, message_octets, message_datagram, media_of}
+use Rattle.rist_sender.specs.History.{is_down, packet_count, octet_count, sendings_of}
+use Rattle.rist_sender.specs.Calls.{status_at, after_write}
+use Rattle.rist_sender.specs.Sender.{SenderState, IsSenderAfter}
+use Rattle.rist_sender.specs.Inside.Puts.{PutsOn}
+use Rattle.rist_sender.proofs.EventLemmas.{report_after, rtt_after, alive_after, again_after}
+use Rattle.rist_sender.proofs.PutLemmas.{put_short, put_made, sealed_written, then_report, then_keepalive, status_same, does_some}
+use Rattle.rist_sender.proofs.sender.Sender.put_keepalive.Goals as goal
+
+pub returns-in-Err-clause-does : goal.returns-in-Err-clause-does
+returns-in-Err-clause-does g c = λ from stands fresh.
+    let few : c.args.link < 16 = omega arith in
+    does_some _ _ _ _ _ from _ _ _ Took true (put_short _ c.args.self.now c.seal_keepalive.new.self c.args.links.now c.args.links.now from c.args.self.now.time c.args.link Alive
+    stands (sym (stands.down c.args.link few) ∙ c.requires.up) (ap is_spent (sym stands.sealer) ∙ sym c.in-Err.ensures.spent) c.in-Err.ensures.same refl)
+
+pub returns-clause-does : goal.returns-clause-does
+returns-clause-does g c = λ from stands fresh.
+    let old = c.args.self.now in
+    let link = c.args.link in
+    let a = c.write.result in
+    let few : link < 16 = omega arith in
+    let up = sym (stands.down link few) ∙ c.requires.up in
+    let left = ap is_spent (sym stands.sealer) ∙ sym c.in-Ok.ensures.spent in
+    let done = sealed_written old c.seal_keepalive.new.self c.write.new.self link a c.in-Ok.ensures.state c.write.ensures.state in
+    let state = then_keepalive old c.write.new.self c.note_keepalive.new.self link a done c.note_keepalive.ensures.state in
+    let pair : next_pair old.sealer ≡ next_pair from.sealer = ap next_pair stands.sealer in
+    let spelled = c.in-Ok.ensures.datagram.octets ∙ ap (datagram_of old.session (next_pair old.sealer) kinds.Keepalive) (refl)
+    ∙ ap (λ (p : Option Pair). message_datagram old.flow old.session p Alive) pair in
+    does_some _ _ _ _ _ from _ _ _ a false (put_made _ old c.note_keepalive.new.self c.args.links.now c.write.new.links from old.time link Alive a _ _ up left fresh
+    (subst (λ (s : SenderState). IsSenderAfter s (after_write old.time (record { link = link; message = Alive }) a from)) (sym state)
+    (alive_after old from link a stands few))
+    c.write.ensures.writes c.in-Ok.ensures.datagram.channel spelled)

@@ -1,0 +1,19 @@
+//! The sending end of a flow, as pure steps over links that are handed in. A contract sees the history of the sender's
+//! calls: which packets it sent, and what became of each datagram that it wrote (`IsSenderAfter`).
+#![tactic(auto)]
+
+mod answer;
+mod control;
+mod media;
+mod numbers;
+mod on_link;
+mod send_bad;
+mod sender;
+mod settings;
+#[cfg(test)]
+mod tests;
+
+pub use answer::Answer;
+pub use send_bad::SendBad;
+pub use sender::Sender;
+pub use settings::Settings;
