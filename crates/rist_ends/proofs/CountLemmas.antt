@@ -6,8 +6,8 @@ use Rattle.receiver_rules.specs.declared.limits.Limits.{Limits}
 use Rattle.receiver_rules.specs.Steps.{Arrival}
 use Rattle.receiver_rules.specs.Seen.{seen}
 use Rattle.receiver_rules.specs.History.{verdict}
-use Rattle.receiver_rules.specs.ReceiverSteps.{ReceiverStep, buffer_history}
-use Rattle.receiver_rules.specs.ReceiverSteps as inputs
+use Rattle.request_rules.specs.Steps.{Step as ReceiverStep, buffer_history, control_input}
+use Rattle.request_rules.specs.Steps as inputs
 use Rattle.rist_ends.specs.declared.counts.Counts.{Counts}
 use Rattle.rist_ends.specs.declared.told.What.{What}
 use Rattle.rist_ends.specs.declared.told.What.TheVariants.{Media, Control, Keepalive, Refused, Tick, End}
@@ -61,18 +61,15 @@ silent_counted : (v : Option Verdict) (what : What) (c : Counts) (limits : Limit
     → AreCountsOf (counts_with None what c) limits (step ∷ h) → AreCountsOf (counts_with v what c) limits (step ∷ h)
 silent_counted v what c limits h step e a = subst (λ o. AreCountsOf (counts_with o what c) limits (step ∷ h)) (sym e) a
 
-zero_more : (c x : ℕ) → c ≡ capped x → capped (c + 0) ≡ capped (x + 0)
-zero_more c x e = omega (arith, e)
-
 -- the counts of what is told, with the verdict that its step says
-pub counted : (v : Option Verdict) (what : What) (c : Counts) (limits : Limits) (h : List ReceiverStep) (link tick : ℕ) → SaysVerdictOn v limits (buffer_history h) tick (input_of what) → AreCountsOf c limits h
-    → AreCountsOf (counts_with v what c) limits (record { link = link; tick = tick; input = input_of what } ∷ h)
-counted v (Media arrival) c limits h link tick e a = media_counted v (Media arrival) c limits h link tick (seen arrival) e a
-counted v Control c limits h link tick e a = silent_counted v Control c limits h (record { link = link; tick = tick; input = inputs.Control }) e (record { kept = same c.kept (verdict_count 0 limits h) a.kept; stranger = same c.stranger (verdict_count 1 limits h) a.stranger; exhausted = same c.exhausted (verdict_count 2 limits h) a.exhausted; late = same c.late (verdict_count 3 limits h) a.late; behind = same c.behind (verdict_count 4 limits h) a.behind; early = same c.early (verdict_count 5 limits h) a.early; twice = same c.twice (verdict_count 6 limits h) a.twice; span = same c.span (verdict_count 7 limits h) a.span; refused = zero_more c.refused (refused_count h) a.refused })
-counted v Keepalive c limits h link tick e a = silent_counted v Keepalive c limits h (record { link = link; tick = tick; input = inputs.Keepalive }) e (record { kept = same c.kept (verdict_count 0 limits h) a.kept; stranger = same c.stranger (verdict_count 1 limits h) a.stranger; exhausted = same c.exhausted (verdict_count 2 limits h) a.exhausted; late = same c.late (verdict_count 3 limits h) a.late; behind = same c.behind (verdict_count 4 limits h) a.behind; early = same c.early (verdict_count 5 limits h) a.early; twice = same c.twice (verdict_count 6 limits h) a.twice; span = same c.span (verdict_count 7 limits h) a.span; refused = zero_more c.refused (refused_count h) a.refused })
-counted v Tick c limits h link tick e a = silent_counted v Tick c limits h (record { link = link; tick = tick; input = inputs.Tick }) e (record { kept = same c.kept (verdict_count 0 limits h) a.kept; stranger = same c.stranger (verdict_count 1 limits h) a.stranger; exhausted = same c.exhausted (verdict_count 2 limits h) a.exhausted; late = same c.late (verdict_count 3 limits h) a.late; behind = same c.behind (verdict_count 4 limits h) a.behind; early = same c.early (verdict_count 5 limits h) a.early; twice = same c.twice (verdict_count 6 limits h) a.twice; span = same c.span (verdict_count 7 limits h) a.span; refused = zero_more c.refused (refused_count h) a.refused })
-counted v End c limits h link tick e a = silent_counted v End c limits h (record { link = link; tick = tick; input = inputs.End }) e (record { kept = same c.kept (verdict_count 0 limits h) a.kept; stranger = same c.stranger (verdict_count 1 limits h) a.stranger; exhausted = same c.exhausted (verdict_count 2 limits h) a.exhausted; late = same c.late (verdict_count 3 limits h) a.late; behind = same c.behind (verdict_count 4 limits h) a.behind; early = same c.early (verdict_count 5 limits h) a.early; twice = same c.twice (verdict_count 6 limits h) a.twice; span = same c.span (verdict_count 7 limits h) a.span; refused = zero_more c.refused (refused_count h) a.refused })
-counted v Refused c limits h link tick e a = silent_counted v Refused c limits h (record { link = link; tick = tick; input = inputs.Refused }) e (record { kept = same c.kept (verdict_count 0 limits h) a.kept; stranger = same c.stranger (verdict_count 1 limits h) a.stranger; exhausted = same c.exhausted (verdict_count 2 limits h) a.exhausted; late = same c.late (verdict_count 3 limits h) a.late; behind = same c.behind (verdict_count 4 limits h) a.behind; early = same c.early (verdict_count 5 limits h) a.early; twice = same c.twice (verdict_count 6 limits h) a.twice; span = same c.span (verdict_count 7 limits h) a.span; refused = one c.refused (refused_count h) a.refused })
+pub counted : (v : Option Verdict) (what : What) (c : Counts) (limits : Limits) (h : List ReceiverStep) (link tick us : ℕ) → SaysVerdictOn v limits (buffer_history h) tick (input_of us what) → AreCountsOf c limits h
+    → AreCountsOf (counts_with v what c) limits (record { link = link; tick = tick; input = input_of us what } ∷ h)
+counted v (Media arrival) c limits h link tick us e a = media_counted v (Media arrival) c limits h link tick (seen arrival) e a
+counted v (Control compound) c limits h link tick us e a = silent_counted v (Control compound) c limits h (record { link = link; tick = tick; input = control_input us compound.now }) e (record { kept = same c.kept (verdict_count 0 limits h) a.kept; stranger = same c.stranger (verdict_count 1 limits h) a.stranger; exhausted = same c.exhausted (verdict_count 2 limits h) a.exhausted; late = same c.late (verdict_count 3 limits h) a.late; behind = same c.behind (verdict_count 4 limits h) a.behind; early = same c.early (verdict_count 5 limits h) a.early; twice = same c.twice (verdict_count 6 limits h) a.twice; span = same c.span (verdict_count 7 limits h) a.span; refused = same c.refused (refused_count h) a.refused })
+counted v Keepalive c limits h link tick us e a = silent_counted v Keepalive c limits h (record { link = link; tick = tick; input = inputs.Keepalive }) e (record { kept = same c.kept (verdict_count 0 limits h) a.kept; stranger = same c.stranger (verdict_count 1 limits h) a.stranger; exhausted = same c.exhausted (verdict_count 2 limits h) a.exhausted; late = same c.late (verdict_count 3 limits h) a.late; behind = same c.behind (verdict_count 4 limits h) a.behind; early = same c.early (verdict_count 5 limits h) a.early; twice = same c.twice (verdict_count 6 limits h) a.twice; span = same c.span (verdict_count 7 limits h) a.span; refused = same c.refused (refused_count h) a.refused })
+counted v Tick c limits h link tick us e a = silent_counted v Tick c limits h (record { link = link; tick = tick; input = inputs.Tick us }) e (record { kept = same c.kept (verdict_count 0 limits h) a.kept; stranger = same c.stranger (verdict_count 1 limits h) a.stranger; exhausted = same c.exhausted (verdict_count 2 limits h) a.exhausted; late = same c.late (verdict_count 3 limits h) a.late; behind = same c.behind (verdict_count 4 limits h) a.behind; early = same c.early (verdict_count 5 limits h) a.early; twice = same c.twice (verdict_count 6 limits h) a.twice; span = same c.span (verdict_count 7 limits h) a.span; refused = same c.refused (refused_count h) a.refused })
+counted v End c limits h link tick us e a = silent_counted v End c limits h (record { link = link; tick = tick; input = inputs.End }) e (record { kept = same c.kept (verdict_count 0 limits h) a.kept; stranger = same c.stranger (verdict_count 1 limits h) a.stranger; exhausted = same c.exhausted (verdict_count 2 limits h) a.exhausted; late = same c.late (verdict_count 3 limits h) a.late; behind = same c.behind (verdict_count 4 limits h) a.behind; early = same c.early (verdict_count 5 limits h) a.early; twice = same c.twice (verdict_count 6 limits h) a.twice; span = same c.span (verdict_count 7 limits h) a.span; refused = same c.refused (refused_count h) a.refused })
+counted v Refused c limits h link tick us e a = silent_counted v Refused c limits h (record { link = link; tick = tick; input = inputs.Refused }) e (record { kept = same c.kept (verdict_count 0 limits h) a.kept; stranger = same c.stranger (verdict_count 1 limits h) a.stranger; exhausted = same c.exhausted (verdict_count 2 limits h) a.exhausted; late = same c.late (verdict_count 3 limits h) a.late; behind = same c.behind (verdict_count 4 limits h) a.behind; early = same c.early (verdict_count 5 limits h) a.early; twice = same c.twice (verdict_count 6 limits h) a.twice; span = same c.span (verdict_count 7 limits h) a.span; refused = one c.refused (refused_count h) a.refused })
 
 pub none_counted : (limits : Limits) → AreCountsOf no_counts limits []
 none_counted limits = record { kept = refl; stranger = refl; exhausted = refl; late = refl; behind = refl; early = refl; twice = refl; span = refl; refused = refl }

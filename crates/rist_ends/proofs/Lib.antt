@@ -1,3 +1,3 @@
 pub mod CountLemmas
 pub mod SteppingLemmas
-pub mod OutcomeLemmas
+pub mod ReportLemmas

@@ -1,5 +1,5 @@
 -- A step at the effective time is the step at its own tick.
-use Rattle.std.proofs.Common.{◌≡◌, ◌≢◌, ◌⊎◌, ◌||◌, ℕ, max, Bool, cond, List, refl, ◌∷◌, ◌++◌, sym, ap, subst, ◌∙◌, map, arith, Option, [], append_assoc, unwrap_or}
+use Rattle.std.proofs.Common.{◌≡◌, ◌≢◌, ◌⊎◌, ◌||◌, ℕ, max, Bool, cond, List, refl, ◌∷◌, ◌++◌, sym, ap, subst, ◌∙◌, map, arith, Option, [], append_assoc, unwrap_or, Bor}
 use Rattle.std.specs.Prelude.{IsTrue, ◌↔◌, false, Result, Ok, Err, OnErr}
 use Rattle.std.specs.List.{filter, concat}
 use Rattle.outside_io.proofs.ToldLemmas.{appends_both}
@@ -17,11 +17,11 @@ use Rattle.reorder_buffer.proofs.StateAfterLemmas.{still_open, shows_told}
 use mathlib.Core.Logic.{inl, inr}
 use Rattle.receiver_rules.specs.declared.arrival.Arrival.{Arrival as Offered}
 use Rattle.receiver_rules.specs.Seen.{seen}
-use Rattle.receiver_rules.specs.ReceiverSteps.{buffer_event, buffer_step}
+use Rattle.rtcp_compound.specs.Compound.{Content}
 use Rattle.rist_ends.specs.declared.told.Told.{Told}
 use Rattle.rist_ends.specs.declared.told.What.{What}
 use Rattle.rist_ends.specs.declared.told.What.TheVariants.{Media, Control, Keepalive, Refused, Tick, End}
-use Rattle.rist_ends.specs.Told.{input_of, step_of, end_at}
+use Rattle.rist_ends.specs.Told.{input_of, step_of, event_of, buffer_step, end_at}
 use Rattle.reorder_buffer.proofs.PhaseLemmas.{not_failed}
 
 -- a buffer that has not ended is open
@@ -121,25 +121,27 @@ end_part b history now tick at old new g w =
 -- ---- what is told
 
 -- with everything but a media packet and the end only time passes
-pub silent_event : (w : What) → (w ≡ Control) ⊎ ((w ≡ Keepalive) ⊎ ((w ≡ Refused) ⊎ (w ≡ Tick))) → buffer_event (input_of w) ≡ TimeOnly
-silent_event w (inl e) = ap (λ x. buffer_event (input_of x)) e
-silent_event w (inr (inl e)) = ap (λ x. buffer_event (input_of x)) e
-silent_event w (inr (inr (inl e))) = ap (λ x. buffer_event (input_of x)) e
-silent_event w (inr (inr (inr e))) = ap (λ x. buffer_event (input_of x)) e
+pub control_event : (us : ℕ) (w : What) (compound : Bor (List Content)) → w ≡ Control compound → event_of (input_of us w) ≡ TimeOnly
+control_event us w compound e = ap (λ x. event_of (input_of us x)) e
 
-step_by : (told : Told) (event : Event) → buffer_event (input_of told.what) ≡ event → buffer_step (step_of told) ≡ record { tick = tick_of told.us; event = event }
+pub silent_event : (us : ℕ) (w : What) → (w ≡ Keepalive) ⊎ ((w ≡ Refused) ⊎ (w ≡ Tick)) → event_of (input_of us w) ≡ TimeOnly
+silent_event us w (inl e) = ap (λ x. event_of (input_of us x)) e
+silent_event us w (inr (inl e)) = ap (λ x. event_of (input_of us x)) e
+silent_event us w (inr (inr e)) = ap (λ x. event_of (input_of us x)) e
+
+step_by : (told : Told) (event : Event) → event_of (input_of told.us told.what) ≡ event → buffer_step (step_of told) ≡ record { tick = tick_of told.us; event = event }
 step_by told event e = ap (λ (x : Event). record { tick = tick_of told.us; event = x }) e
 
 -- the step of a media packet
 pub media_told : (told : Told) (tick : ℕ) (arrival : Offered) → told.what ≡ Media arrival → tick ≡ tick_of told.us → buffer_step (step_of told) ≡ media_step tick (seen arrival)
-media_told told tick arrival what e = step_by told _ (ap (λ (w : What). buffer_event (input_of w)) what) ∙ ap (λ t. media_step t (seen arrival)) (sym e)
+media_told told tick arrival what e = step_by told _ (ap (λ (w : What). event_of (input_of told.us w)) what) ∙ ap (λ t. media_step t (seen arrival)) (sym e)
 
 -- that of the end
 pub end_told : (told : Told) (tick : ℕ) → told.what ≡ End → tick ≡ tick_of told.us → buffer_step (step_of told) ≡ end_at tick
-end_told told tick what e = step_by told _ (ap (λ (w : What). buffer_event (input_of w)) what) ∙ ap (λ t. end_at t) (sym e)
+end_told told tick what e = step_by told _ (ap (λ (w : What). event_of (input_of told.us w)) what) ∙ ap (λ t. end_at t) (sym e)
 
 -- that of anything else
-pub silent_told : (told : Told) (tick : ℕ) → buffer_event (input_of told.what) ≡ TimeOnly → tick ≡ tick_of told.us → buffer_step (step_of told) ≡ time_step tick
+pub silent_told : (told : Told) (tick : ℕ) → event_of (input_of told.us told.what) ≡ TimeOnly → tick ≡ tick_of told.us → buffer_step (step_of told) ≡ time_step tick
 silent_told told tick event e = step_by told _ event ∙ ap (λ t. time_step t) (sym e)
 
 -- ---- a failure handed on

@@ -4,10 +4,10 @@ use Rattle.receiver_rules.specs.declared.verdict.Verdict.{Verdict}
 use Rattle.receiver_rules.specs.declared.verdict.Verdict.TheVariants as verdicts
 use Rattle.receiver_rules.specs.declared.limits.Limits.{Limits}
 use Rattle.receiver_rules.specs.History.{verdict}
-use Rattle.receiver_rules.specs.ReceiverSteps.{Input, Media, Control, Keepalive, Refused, Tick, End, ReceiverStep, buffer_history}
+use Rattle.request_rules.specs.Steps.{Input, Media, Control, Keepalive, Refused, Tick, End, Step, buffer_history}
 use Rattle.rist_ends.specs.declared.counts.Counts.{Counts}
 use Rattle.rist_ends.specs.declared.told.What.{What}
-use Rattle.rist_ends.specs.Told.{input_of}
+use Rattle.rist_ends.specs.declared.told.What.TheVariants as whats
 
 -- the number of a verdict: 0 for a packet that is kept, else the place of its test
 abbrev pub verdict_number : Verdict → ℕ
@@ -25,30 +25,30 @@ abbrev pub is_of : ℕ → Verdict → ℕ
 is_of number v = if verdict_number v == number then 1 else 0
 
 -- one where a step brings a media packet with this verdict
-abbrev pub counted_verdict : ℕ → Limits → List ReceiverStep → ℕ → Input → ℕ
+abbrev pub counted_verdict : ℕ → Limits → List Step → ℕ → Input → ℕ
 counted_verdict number limits before tick (Media arrival) = is_of number (verdict limits (buffer_history before) tick arrival)
-counted_verdict number limits before tick Control = 0
+counted_verdict number limits before tick (Control sample request) = 0
 counted_verdict number limits before tick Keepalive = 0
 counted_verdict number limits before tick Refused = 0
-counted_verdict number limits before tick Tick = 0
+counted_verdict number limits before tick (Tick micros) = 0
 counted_verdict number limits before tick End = 0
 
 -- how many media packets of a history had the verdict of this number
-abbrev pub verdict_count : ℕ → Limits → List ReceiverStep → ℕ
+abbrev pub verdict_count : ℕ → Limits → List Step → ℕ
 verdict_count number limits [] = 0
 verdict_count number limits (step ∷ before) = verdict_count number limits before + counted_verdict number limits before step.tick step.input
 
 -- one where a step is of an item that was refused
 abbrev pub counted_refusal : Input → ℕ
 counted_refusal (Media arrival) = 0
-counted_refusal Control = 0
+counted_refusal (Control sample request) = 0
 counted_refusal Keepalive = 0
 counted_refusal Refused = 1
-counted_refusal Tick = 0
+counted_refusal (Tick micros) = 0
 counted_refusal End = 0
 
 -- how many items of a history were refused
-abbrev pub refused_count : List ReceiverStep → ℕ
+abbrev pub refused_count : List Step → ℕ
 refused_count [] = 0
 refused_count (step ∷ before) = refused_count before + counted_refusal step.input
 
@@ -57,7 +57,7 @@ abbrev pub capped : ℕ → ℕ
 capped n = min n (2 ^ 64 - 1)
 
 -- the counts are those of a history
-pub record AreCountsOf (c : Counts) (limits : Limits) (history : List ReceiverStep) : Type 0 where
+pub record AreCountsOf (c : Counts) (limits : Limits) (history : List Step) : Type 0 where
   pub kept : c.kept ≡ capped (verdict_count 0 limits history)
   pub stranger : c.stranger ≡ capped (verdict_count 1 limits history)
   pub exhausted : c.exhausted ≡ capped (verdict_count 2 limits history)
@@ -89,7 +89,16 @@ one_more verdicts.Span c = record c { span = capped (c.span + 1) }
 abbrev pub one_refused : Counts → Counts
 one_refused c = record c { refused = capped (c.refused + 1) }
 
+-- the counts after one more step without a verdict
+abbrev pub counts_after : What → Counts → Counts
+counts_after (whats.Media arrival) c = c
+counts_after (whats.Control compound) c = c
+counts_after whats.Keepalive c = c
+counts_after whats.Refused c = one_refused c
+counts_after whats.Tick c = c
+counts_after whats.End c = c
+
 -- the counts after one more step
 abbrev pub counts_with : Option Verdict → What → Counts → Counts
 counts_with (Some v) what c = one_more v c
-counts_with None what c = record c { refused = capped (c.refused + counted_refusal (input_of what)) }
+counts_with None what c = counts_after what c

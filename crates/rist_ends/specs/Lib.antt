@@ -1,5 +1,6 @@
+pub mod Settings
 pub mod Counts
 pub mod Told
 pub mod Inside
-pub mod Receiver
 pub mod Outcome
+pub mod Receiver

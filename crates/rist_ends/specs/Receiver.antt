@@ -1,54 +1,78 @@
 -- What a contract sees of a receiver.
-use Rattle.std.specs.Prelude.{◌≡◌, ◌≢◌, ℕ, ◌*◌, ◌^◌, ◌<◌, List, [], ◌∷◌, Option}
-use Rattle.receiver_rules.specs.declared.limits.Limits.{Limits}
-use Rattle.receiver_rules.specs.ReceiverSteps.{ReceiverStep, buffer_history}
+use Rattle.std.specs.Prelude.{◌≡◌, ◌≢◌, ℕ, ◌≤◌, ◌^◌, ◌<◌, List, [], ◌∷◌, Option, option_map}
+use Rattle.receiver_rules.specs.History.{released_bytes}
+use Rattle.outside_io.specs.Told.{Writes, WritesPart}
 use Rattle.reorder_buffer.specs.State.{State}
 use Rattle.reorder_buffer.specs.StateAfter.{IsStateAfter}
 use Rattle.reorder_buffer.specs.declared.phase.Phase.TheVariants.{Open, Failed}
+use Rattle.request_rules.specs.Steps.{Step, buffer_history}
+use Rattle.rist_control.specs.Control.{ControlSettings}
+use Rattle.rist_reporter.specs.Reporter.{ReporterState, IsReporterAfter, settings_with}
+use Rattle.rist_reporter.specs.OneMore.{AnswersAfter, step_answered}
 use Rattle.rist_ends.specs.declared.counts.Counts.{Counts}
-use Rattle.rist_ends.specs.declared.settings.Settings.{Settings}
-use Rattle.rist_ends.specs.Counts.{AreCountsOf}
-use Rattle.outside_io.specs.Told.{Writes, WritesPart}
-use Rattle.receiver_rules.specs.History.{released_bytes}
 use Rattle.rist_ends.specs.declared.outcome.Outcome.{Outcome}
-use Rattle.rist_ends.specs.Outcome.{Answers}
+use Rattle.rist_ends.specs.declared.told.Told.{Told}
+use Rattle.rist_ends.specs.Counts.{AreCountsOf}
+use Rattle.rist_ends.specs.Outcome.{HasVerdict, verdict_in, result_of}
+use Rattle.rist_ends.specs.Told.{step_of}
 
--- its buffer, and how many arrivals had each verdict
+-- its buffer, how many arrivals had each verdict, and what sends datagrams back
 pub record ReceiverState : Type 0 where
   pub buffer : State
   pub counts : Counts
+  pub reporter : ReporterState
 
--- the limits of its buffer, in ticks and packets
-abbrev pub limits_of : Settings → Limits
-limits_of settings = record { playout_delay = 90 * settings.delay; capacity = settings.span }
+-- what it is set to, in ticks
+abbrev pub settings_of : ReceiverState → ControlSettings
+settings_of r = settings_with r.buffer.limits r.reporter
 
 -- what it keeps is that of the history of its steps, the newest first. After a failed write nothing is said but that it has ended
-pub record IsReceiverAfter (r : ReceiverState) (history : List ReceiverStep) : Type 0 where
+pub record IsReceiverAfter (r : ReceiverState) (history : List Step) : Type 0 where
   pub buffer : IsStateAfter r.buffer (buffer_history history)
   pub counts : r.buffer.phase ≢ Failed → AreCountsOf r.counts r.buffer.limits history
+  pub reporter : r.buffer.phase ≡ Open → IsReporterAfter r.reporter r.buffer.limits history
 
--- the effective time that it keeps is its buffer's
-pub record IsOnTime (b : State) (now : ℕ) : Type 0 where
-  pub time : b.phase ≡ Open → b.time ≡ now
+-- what holds of each receiver: its time is its buffer's, and its reporter knows its buffer's span and highest number
+pub record IsInStep (r : ReceiverState) (now : ℕ) : Type 0 where
+  pub time : r.buffer.phase ≡ Open → r.buffer.time ≡ now
   pub tick : now < 2 ^ 61
+  pub delay : 1 ≤ r.buffer.limits.playout_delay
+  pub span : r.buffer.limits.capacity ≡ r.reporter.timer.span
+  pub told : r.buffer.phase ≡ Open → option_map (λ h. h.number) r.buffer.highest ≡ r.reporter.timer.high
 
 -- ---- one more step, for each history that the receiver stands for
 
--- the outcome is that of the step
-abbrev pub AnswersStep : ReceiverState → ReceiverStep → Outcome → Type 0
-AnswersStep r step outcome = (history : List ReceiverStep) → IsReceiverAfter r history → Answers outcome r.buffer.limits history step
+-- a media packet has the verdict of the history, and nothing else has one
+abbrev pub AnswersStep : ReceiverState → Step → Outcome → Type 0
+AnswersStep r step outcome =
+    (history : List Step) → IsReceiverAfter r history
+    → HasVerdict (verdict_in outcome) r.buffer.limits history step.tick step.input
+
+-- the datagrams that the history makes by the step were made, opened in the session, or too few pairs are left for them
+abbrev pub MakesStep : ReceiverState → Step → Outcome → Type 0
+MakesStep r step outcome =
+    (history : List Step) → IsReceiverAfter r history
+    → AnswersAfter (settings_of r) r.reporter.shutter history step (result_of outcome)
+
+-- the step that was made: where too few pairs were left, a keepalive that came
+abbrev pub step_made : Told → Outcome → Step
+step_made told outcome = step_answered (step_of told) (result_of outcome)
 
 -- the new receiver stands for the history with the step
-abbrev pub GoesOn : ReceiverState → ReceiverState → ReceiverStep → Type 0
-GoesOn old new step = (history : List ReceiverStep) → IsReceiverAfter old history → IsReceiverAfter new (step ∷ history)
+abbrev pub GoesOn : ReceiverState → ReceiverState → Step → Type 0
+GoesOn old new step = (history : List Step) → IsReceiverAfter old history → IsReceiverAfter new (step ∷ history)
 
 -- the sink has gained what the step plays out
-abbrev pub Plays : ReceiverState → ReceiverStep → Option (List ℕ) → Option (List ℕ) → Type 0
-Plays r step old new = (history : List ReceiverStep) → IsReceiverAfter r history → Writes old new (released_bytes r.buffer.limits (buffer_history history)) (released_bytes r.buffer.limits (buffer_history (step ∷ history)))
+abbrev pub Plays : ReceiverState → Step → Option (List ℕ) → Option (List ℕ) → Type 0
+Plays r step old new =
+    (history : List Step) → IsReceiverAfter r history
+    → Writes old new (released_bytes r.buffer.limits (buffer_history history)) (released_bytes r.buffer.limits (buffer_history (step ∷ history)))
 
 -- it has gained a front part of that
-abbrev pub PlaysPart : ReceiverState → ReceiverStep → Option (List ℕ) → Option (List ℕ) → Type 0
-PlaysPart r step old new = (history : List ReceiverStep) → IsReceiverAfter r history → WritesPart old new (released_bytes r.buffer.limits (buffer_history history)) (released_bytes r.buffer.limits (buffer_history (step ∷ history)))
+abbrev pub PlaysPart : ReceiverState → Step → Option (List ℕ) → Option (List ℕ) → Type 0
+PlaysPart r step old new =
+    (history : List Step) → IsReceiverAfter r history
+    → WritesPart old new (released_bytes r.buffer.limits (buffer_history history)) (released_bytes r.buffer.limits (buffer_history (step ∷ history)))
 
 -- after a failed write nothing waits
 pub record HasFailed (b : State) : Type 0 where

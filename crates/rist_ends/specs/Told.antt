@@ -1,31 +1,32 @@
 -- What a receiver is told, as a step of its history.
 use Rattle.std.specs.Prelude.{ℕ, ◌<◌, ◌≤◌, length}
 use Rattle.seq_unwrap.specs.Nearest.{cycle_of}
-use Rattle.receiver_rules.specs.Steps.{Step, tick_of}
+use Rattle.receiver_rules.specs.Steps.{Step, Event, tick_of}
 use Rattle.receiver_rules.specs.Steps as buffer
 use Rattle.receiver_rules.specs.Seen.{seen}
 use Rattle.receiver_rules.specs.declared.arrival.Arrival.{Arrival}
 use Rattle.reorder_buffer.specs.declared.ring.TheConstants.{MAX_PAYLOAD}
-use Rattle.receiver_rules.specs.ReceiverSteps.{Input, ReceiverStep}
-use Rattle.receiver_rules.specs.ReceiverSteps as inputs
+use Rattle.receiver_rules.specs.ReceiverSteps as receiver
+use Rattle.request_rules.specs.Steps.{Input, Step as ReceiverStep, control_input, receiver_input}
+use Rattle.request_rules.specs.Steps as inputs
 use Rattle.reorder_buffer.specs.declared.phase.Phase.{Phase}
 use Rattle.reorder_buffer.specs.declared.phase.Phase.TheVariants.{Open, Ended}
 use Rattle.rist_ends.specs.declared.told.Told.{Told}
 use Rattle.rist_ends.specs.declared.told.What.{What}
 use Rattle.rist_ends.specs.declared.told.What.TheVariants.{Media, Control, Keepalive, Refused, Tick, End}
 
--- what comes with a step, as the rules see it
-abbrev pub input_of : What → Input
-input_of (Media arrival) = inputs.Media (seen arrival)
-input_of Control = inputs.Control
-input_of Keepalive = inputs.Keepalive
-input_of Refused = inputs.Refused
-input_of Tick = inputs.Tick
-input_of End = inputs.End
+-- what comes with a step at a moment in microseconds, as the rules see it
+abbrev pub input_of : ℕ → What → Input
+input_of us (Media arrival) = inputs.Media (seen arrival)
+input_of us (Control compound) = control_input us compound.now
+input_of us Keepalive = inputs.Keepalive
+input_of us Refused = inputs.Refused
+input_of us Tick = inputs.Tick us
+input_of us End = inputs.End
 
 -- what is told as a step of a history: its moment in whole ticks
 abbrev pub step_of : Told → ReceiverStep
-step_of told = record { link = told.link; tick = tick_of told.us; input = input_of told.what }
+step_of told = record { link = told.link; tick = tick_of told.us; input = input_of told.us told.what }
 
 -- a word is one of its width, and a payload has no more octets than a block
 pub record IsFitArrival (arrival : Arrival) : Type 0 where
@@ -35,7 +36,7 @@ pub record IsFitArrival (arrival : Arrival) : Type 0 where
 -- what is told is of its form
 abbrev pub IsFitWhat : What → Type 0
 IsFitWhat (Media arrival) = IsFitArrival arrival
-IsFitWhat Control = Unit {0}
+IsFitWhat (Control compound) = Unit {0}
 IsFitWhat Keepalive = Unit {0}
 IsFitWhat Refused = Unit {0}
 IsFitWhat Tick = Unit {0}
@@ -49,7 +50,7 @@ pub record IsFit (told : Told) : Type 0 where
 -- an end ends the receiver, and nothing else does
 abbrev pub phase_after : What → Phase
 phase_after (Media arrival) = Open
-phase_after Control = Open
+phase_after (Control compound) = Open
 phase_after Keepalive = Open
 phase_after Refused = Open
 phase_after Tick = Open
@@ -62,3 +63,11 @@ ended_at told = phase_after told.what
 -- the end of the stream, as the buffer sees it
 abbrev pub end_at : ℕ → Step
 end_at tick = record { tick = tick; event = buffer.End }
+
+-- what comes with a step, as the buffer sees it
+abbrev pub event_of : Input → Event
+event_of input = receiver.buffer_event (receiver_input input)
+
+-- a step, as the buffer sees it
+abbrev pub buffer_step : ReceiverStep → Step
+buffer_step step = record { tick = step.tick; event = event_of step.input }

@@ -1,6 +1,7 @@
 ghost use Rattle.std.specs.Prelude.{◌≡◌, ◌+◌};
 ghost use Rattle.rist_ends.specs.Counts.{capped};
 
+use crate::told::What;
 use receiver_rules::Verdict;
 
 /// How many media packets had each verdict, and how many items were refused. Each count stays at its greatest value.
@@ -20,7 +21,7 @@ pub struct Counts {
 
 impl Counts {
     ghost use Rattle.std.specs.Prelude.{◌≡◌};
-    ghost use Rattle.rist_ends.specs.Counts.{no_counts, one_more, one_refused};
+    ghost use Rattle.rist_ends.specs.Counts.{no_counts, one_more, one_refused, counts_with};
 
     pub(crate) fn none() -> Counts
         ensures value { result ≡ no_counts }
@@ -51,6 +52,19 @@ impl Counts {
             Verdict::Early => raise(&mut self.early),
             Verdict::Twice => raise(&mut self.twice),
             Verdict::Span => raise(&mut self.span),
+        }
+    }
+
+    /// Counts a step with its verdict, where it has one.
+    pub(crate) fn count(&mut self, what: &What<'_>, verdict: Option<Verdict>)
+        ensures value { self.new ≡ counts_with verdict what.now self.old }
+    {
+        match verdict {
+            Some(verdict) => self.add(verdict),
+            None => match what {
+                What::Refused => self.refuse(),
+                What::Media(_) | What::Control(_) | What::Keepalive | What::Tick | What::End => {}
+            },
         }
     }
 

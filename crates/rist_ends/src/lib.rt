@@ -5,6 +5,7 @@
 mod counts;
 mod outcome;
 mod receiver;
+mod reporting;
 mod settings;
 mod stepping;
 #[cfg(test)]
@@ -14,5 +15,6 @@ mod told;
 pub use counts::Counts;
 pub use outcome::Outcome;
 pub use receiver::Receiver;
+pub use rist_reporter::{Out, Outs};
 pub use settings::Settings;
 pub use told::{Told, What};

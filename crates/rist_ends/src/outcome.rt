@@ -1,7 +1,8 @@
 use receiver_rules::Verdict;
+use rist_reporter::Outs;
 
 /// What a step of a receiver came to.
-#[derive(Clone, Copy, Debug, PartialEq, Eq)]
+#[derive(Debug, Drop)]
 pub enum Outcome {
     /// An earlier step was an end, or a write failed in it. Nothing was done.
     Stopped,
@@ -9,6 +10,10 @@ pub enum Outcome {
     WriteFault,
     /// What became of a media packet.
     Verdict(Verdict),
+    /// Fewer pairs are left than the datagrams that were due take. None was made; what was due to be played out was written.
+    Spent,
+    /// The datagrams that were made, for the link of the step.
+    Made(Outs),
     /// The step was made, and there is nothing to say of it.
     Nothing,
 }

@@ -1,13 +1,14 @@
-ghost use Rattle.std.specs.Prelude.{◌≡◌, ◌<◌};
-
 use crate::counts::Counts;
 use crate::outcome::Outcome;
+use crate::reporting::report;
 use crate::settings::Settings;
 use crate::stepping::step_buffer;
-use crate::told::{Told, What};
+use crate::told::Told;
 use outside_io::{NoMemory, Sink};
-use receiver_rules::Verdict;
+use psk_seal::Sealer;
 use reorder_buffer::Buffer;
+use rist_reporter::Reporter;
+use rist_wire::Session;
 use std::alloc::Global;
 use std::marker::Model;
 
@@ -18,41 +19,63 @@ pub struct Receiver {
     buffer: Buffer,
     time: u64,
     counts: Counts,
+    reporter: Reporter,
 }
 
 impl Model for Receiver {
-    ghost use Rattle.rist_ends.specs.Receiver.{ReceiverState, IsOnTime};
+    ghost use Rattle.rist_ends.specs.Receiver.{ReceiverState, IsInStep};
 
     ghost Value = { ReceiverState };
 
-    ghost view = { λ r. record { buffer = r.buffer; counts = r.counts } };
+    ghost view = { λ r. record { buffer = r.buffer; counts = r.counts; reporter = r.reporter } };
 
-    ghost invariant = { λ r. IsOnTime r.buffer r.time };
+    ghost invariant = { λ r. IsInStep (record { buffer = r.buffer; counts = r.counts; reporter = r.reporter }) r.time };
 }
 
 impl Receiver {
-    ghost use Rattle.std.specs.Prelude.{◌≡◌, ◌≢◌, ◌≤◌, [], IfOk};
+    ghost use Rattle.std.specs.Prelude.{◌≡◌, ◌≢◌, ◌≤◌, ◌<◌, ◌^◌, [], Some, None, true, false, is_some, IfOk, option_map};
     ghost use Rattle.outside_io.specs.Causes.{RoseWhere};
     ghost use Rattle.reorder_buffer.specs.declared.phase.Phase.TheVariants.{Open};
-    ghost use Rattle.rist_ends.specs.Receiver.{IsReceiverAfter, HasFailed, AnswersStep, GoesOn, Plays, PlaysPart, limits_of};
+    ghost use Rattle.rist_wire.specs.Session.{IsSession};
+    ghost use Rattle.rist_wire.specs.Writing.{pairs_left};
+    ghost use Rattle.rist_reporter.specs.Reporter.{IsPaired};
+    ghost use Rattle.rist_reporter.specs.OneMore.{TakesPairs, answer_count};
+    ghost use Rattle.rist_ends.specs.Settings.{IsInRange, control_settings};
+    ghost use Rattle.rist_ends.specs.Receiver.{IsReceiverAfter, HasFailed, AnswersStep, MakesStep, GoesOn, Plays, PlaysPart, settings_of, step_made};
     ghost use Rattle.rist_ends.specs.Told.{IsFit, step_of, ended_at};
-    ghost use Rattle.rist_ends.specs.Outcome.{IfStepped, outcome_of, is_write_fault};
-    ghost use Rattle.rist_ends.specs.Counts.{counts_with};
+    ghost use Rattle.rist_ends.specs.Outcome.{IfStepped, verdict_in, result_of, is_write_fault};
     ghost use Rattle.rist_ends.specs.declared.outcome.Outcome.TheVariants.{Stopped, WriteFault};
 
-    /// A receiver that was told nothing yet.
-    pub fn with(alloc: Global, settings: &Settings) -> Result<Receiver, NoMemory>
-        requires span { (1 ≤ settings.now.span) × (settings.now.span ≤ 16384) }
-        requires delay { (1 ≤ settings.now.delay) × (settings.now.delay ≤ 30000) }
-        ensures limits { IfOk result (λ r. r.buffer.limits ≡ limits_of settings.now) }
+    /// A receiver that was told nothing yet. It answers in this session; a muted one sends nothing back, and needs no sealer.
+    pub fn with(
+        alloc: Global,
+        settings: &Settings,
+        session: &Session,
+        sealer: Option<Sealer>,
+    ) -> Result<Receiver, NoMemory>
+        requires settings { IsInRange settings.now }
+        requires session { IsSession session.now }
+        requires paired { IsPaired settings.now.muted (record { session = session.now; sealer = sealer }) }
+        ensures settings { IfOk result (λ r. settings_of r ≡ control_settings settings.now session.now) }
+        ensures shutter { IfOk result (λ r. r.reporter.shutter ≡ record { session = session.now; sealer = sealer }) }
         ensures running { IfOk result (λ r. r.buffer.phase ≡ Open) }
         ensures state { IfOk result (λ r. IsReceiverAfter r []) }
     {
         let buffer = Buffer::with_limits(alloc, settings.span, settings.delay)?;
+        let reporter = Reporter::with(
+            alloc,
+            settings.span,
+            settings.timer(),
+            settings.own,
+            settings.muted,
+            session,
+            sealer,
+        )?;
         Ok(Receiver {
             buffer,
             time: 0,
             counts: Counts::none(),
+            reporter,
         })
     }
 
@@ -65,14 +88,18 @@ impl Receiver {
         ensures ended { self.old.buffer.phase ≢ Open → result ≡ Stopped }
 
         // A media packet has the verdict of the history, and nothing else has one.
-        ensures verdict { AnswersStep self.old (step_of told.now) result }
+        ensures verdict { IfStepped result (AnswersStep self.old (step_of told.now) result) }
+
+        // The datagrams that the history makes were made; Spent exactly where fewer pairs are left than they take.
+        ensures made { IfStepped result (MakesStep self.old (step_of told.now) result) }
+        ensures pairs { TakesPairs (answer_count (result_of result)) self.old.reporter.shutter self.new.reporter.shutter }
 
         // A step that was made is one more of the history, and the sink has gained what it releases.
-        ensures state { IfStepped result (GoesOn self.old self.new (step_of told.now)) }
+        ensures state { IfStepped result (GoesOn self.old self.new (step_made told.now result)) }
         ensures sink { IfStepped result
             (Plays self.old (step_of told.now) (K.contents sink.old) (K.contents sink.new)) }
         ensures phase { IfStepped result (self.new.buffer.phase ≡ ended_at told.now) }
-        ensures limits { self.new.buffer.limits ≡ self.old.buffer.limits }
+        ensures settings { settings_of self.new ≡ settings_of self.old }
 
         // After a failed write it has ended, the step isn't counted, and the sink has gained a front part.
         ensures failed { result ≡ WriteFault → HasFailed self.new.buffer }
@@ -85,31 +112,14 @@ impl Receiver {
         if self.buffer.ended() {
             return Outcome::Stopped;
         }
+        let before = self.buffer.high();
         match step_buffer(&mut self.buffer, self.time, told, sink) {
             Ok(stepped) => {
                 self.time = stepped.at;
-                self.count(&told.what, stepped.verdict)
+                self.counts.count(&told.what, stepped.verdict);
+                report(&mut self.reporter, &self.buffer, told, &stepped, before)
             }
             Err(_) => Outcome::WriteFault,
-        }
-    }
-
-    /// Counts a step, and says what it came to.
-    fn count(&mut self, what: &What<'_>, verdict: Option<Verdict>) -> Outcome
-        ensures outcome { result ≡ outcome_of verdict }
-        ensures counts { self.new ≡ record { buffer = self.old.buffer; counts = counts_with verdict what.now self.old.counts } }
-    {
-        match verdict {
-            Some(verdict) => {
-                self.counts.add(verdict);
-                Outcome::Verdict(verdict)
-            }
-            None => {
-                if matches!(what, What::Refused) {
-                    self.counts.refuse();
-                }
-                Outcome::Nothing
-            }
         }
     }
 
@@ -118,5 +128,12 @@ impl Receiver {
         ensures value { result ≡ self.now.counts }
     {
         self.counts
+    }
+
+    /// How many datagrams its sealer still allows, where there is one.
+    pub fn left(&self) -> Option<u64>
+        ensures value { result ≡ pairs_left self.now.reporter.shutter.sealer }
+    {
+        self.reporter.left()
     }
 }

@@ -1,15 +1,15 @@
 //! A receiver's steps on its buffer: at each first what is due is written, and then comes the event.
-ghost use Rattle.std.specs.Prelude.{◌≡◌, ◌<◌, ◌^◌, List, Some, None, IfOk, OnOk, OnErr};
+ghost use Rattle.std.specs.Prelude.{◌≡◌, ◌<◌, ◌^◌, List, Some, None, true, is_some, IfOk, OnOk, OnErr};
 ghost use Rattle.outside_io.specs.Causes.{HasCause};
 ghost use Rattle.receiver_rules.specs.Steps.{Step, media_step, time_step, tick_of};
 ghost use Rattle.receiver_rules.specs.History.{verdict};
-ghost use Rattle.receiver_rules.specs.ReceiverSteps.{buffer_step};
 ghost use Rattle.receiver_rules.specs.Seen.{seen};
 ghost use Rattle.reorder_buffer.specs.StateAfter.{IsStateAfter};
 ghost use Rattle.reorder_buffer.specs.OneMore.{StandsAfter, Releases, ReleasesPart};
 ghost use Rattle.reorder_buffer.specs.declared.phase.Phase.TheVariants.{Open, Ended};
-ghost use Rattle.rist_ends.specs.Told.{IsFit, IsFitArrival, step_of, ended_at, end_at};
-ghost use Rattle.rist_ends.specs.Inside.Stepping.{IsMoved, SaysVerdict};
+ghost use Rattle.rist_ends.specs.Told.{IsFit, IsFitArrival, step_of, buffer_step, ended_at, end_at};
+ghost use Rattle.rist_ends.specs.Inside.Stepping.{IsMoved, SaysVerdict, IsJudged, IsHigh};
+ghost use Rattle.reorder_buffer.specs.State.{IsNoLower};
 ghost use Rattle.rist_ends.specs.Receiver.{HasFailed};
 
 use crate::told::{Told, What};
@@ -38,6 +38,8 @@ pub fn step_buffer<K: Sink>(
     ensures moved { IfOk result (λ s. IsMoved buffer.old buffer.new s.at (ended_at told.now)) }
     ensures verdict { IfOk result (λ s. (history : List Step) → IsStateAfter buffer.old history
         → SaysVerdict s.verdict buffer.old.limits history (step_of told.now)) }
+    ensures judged { IfOk result (λ s. IsJudged told.now.what s.verdict) }
+    ensures high { OnOk result (IsHigh told.now.what buffer.old.highest buffer.new.highest) }
     ensures state { OnOk result (StandsAfter buffer.old buffer.new (buffer_step (step_of told.now))) }
     ensures sink { OnOk result
         (Releases buffer.old (buffer_step (step_of told.now)) (K.contents sink.old) (K.contents sink.new)) }
@@ -51,7 +53,7 @@ pub fn step_buffer<K: Sink>(
     match &told.what {
         What::Media(arrival) => step_media(buffer, now, tick, arrival, sink),
         What::End => step_end(buffer, now, tick, sink),
-        What::Control | What::Keepalive | What::Refused | What::Tick => {
+        What::Control(_) | What::Keepalive | What::Refused | What::Tick => {
             step_time(buffer, now, tick, sink)
         }
     }
@@ -72,6 +74,8 @@ fn step_media<K: Sink>(
     ensures moved { IfOk result (λ s. IsMoved buffer.old buffer.new s.at Open) }
     ensures verdict { IfOk result (λ s. (history : List Step) → IsStateAfter buffer.old history
         → s.verdict ≡ Some (verdict buffer.old.limits history tick (seen arrival.now))) }
+    ensures judged { IfOk result (λ s. is_some s.verdict ≡ true) }
+    ensures high { OnOk result (IsNoLower buffer.old.highest buffer.new.highest) }
     ensures state { OnOk result (StandsAfter buffer.old buffer.new (media_step tick (seen arrival.now))) }
     ensures sink { OnOk result
         (Releases buffer.old (media_step tick (seen arrival.now)) (K.contents sink.old) (K.contents sink.new)) }
@@ -98,6 +102,7 @@ fn step_time<K: Sink>(
     requires tick { (now < 2 ^ 61) × (tick < 2 ^ 61) }
     ensures moved { IfOk result (λ s. IsMoved buffer.old buffer.new s.at Open) }
     ensures silent { IfOk result (λ s. s.verdict ≡ None) }
+    ensures high { OnOk result (buffer.new.highest ≡ buffer.old.highest) }
     ensures state { OnOk result (StandsAfter buffer.old buffer.new (time_step tick)) }
     ensures sink { OnOk result (Releases buffer.old (time_step tick) (K.contents sink.old) (K.contents sink.new)) }
     ensures limits { buffer.new.limits ≡ buffer.old.limits }

@@ -1,27 +1,71 @@
-//! Worked runs on a receiver, its counts, and how it stops.
-ghost use Rattle.std.specs.Prelude.{◌<◌, ◌≤◌, ◌^◌, length};
+//! Worked runs on a receiver, its counts, how it stops, and what it sends back.
+ghost use Rattle.std.specs.Prelude.{◌≡◌, ◌<◌, ◌≤◌, ◌^◌, None, false, length};
+ghost use Rattle.rist_wire.specs.Session.{IsSession};
+ghost use Rattle.rist_ends.specs.Settings.{IsInRange};
 ghost use Rattle.std.specs.List.{All};
 ghost use Rattle.rist_ends.specs.Told.{IsFit};
 
 use super::*;
-use outside_io::Store8;
+use outside_io::{Profile, Store8, Words};
+use psk_keys::Phrase;
+use psk_seal::{MAX_PAIRS, Sealer};
 use receiver_rules::{Arrival, Verdict};
+use request_rules::NackKind;
+use rist_wire::{Item, Opener, Session};
+use rtcp_compound::Compound;
 use seq_unwrap::Width;
 use std::alloc::Global;
 use std::test::Fail;
 
-const KEPT: Outcome = Outcome::Verdict(Verdict::Kept);
+const KEPT: Reply = Reply::Verdict(Verdict::Kept);
 
-const LATE: Outcome = Outcome::Verdict(Verdict::Late);
+const LATE: Reply = Reply::Verdict(Verdict::Late);
 
-const TWICE: Outcome = Outcome::Verdict(Verdict::Twice);
+const TWICE: Reply = Reply::Verdict(Verdict::Twice);
 
-const STRANGER: Outcome = Outcome::Verdict(Verdict::Stranger);
+const STRANGER: Reply = Reply::Verdict(Verdict::Stranger);
+
+/// An outcome without what was made.
+#[derive(Clone, Copy, PartialEq, Eq)]
+enum Reply {
+    Stopped,
+    WriteFault,
+    Verdict(Verdict),
+    Spent,
+    Made,
+    Nothing,
+}
+
+fn reply_of(outcome: &Outcome) -> Reply {
+    match outcome {
+        Outcome::Stopped => Reply::Stopped,
+        Outcome::WriteFault => Reply::WriteFault,
+        Outcome::Verdict(verdict) => Reply::Verdict(*verdict),
+        Outcome::Spent => Reply::Spent,
+        Outcome::Made(_) => Reply::Made,
+        Outcome::Nothing => Reply::Nothing,
+    }
+}
+
+/// The session of RIST's Simple Profile.
+fn simple() -> Session
+    ensures session { IsSession result }
+    ensures clear { result.pass ≡ None }
+{
+    Session {
+        profile: Profile::Simple,
+        port: 1968,
+        pass: None,
+        bits: 128,
+        nulls: false,
+        width: Width::W16,
+    }
+}
 
 /// What a receiver answered, counted and wrote.
 #[derive(Drop)]
 struct Played {
-    outcomes: Vec<Outcome>,
+    outcomes: Vec<Reply>,
     counts: Counts,
     sink: Store8,
 }
@@ -30,15 +74,11 @@ struct Played {
 fn play(alloc: Global, steps: &[Told<'_>], sink: Store8) -> Result<Played, Fail>
     requires { All IsFit steps.now }
 {
-    let settings = Settings {
-        delay: 1000,
-        span: 8,
-    };
-    let mut receiver = Receiver::with(alloc, &settings)?;
+    let mut receiver = Receiver::with(alloc, &Settings::muted(1000, 8), &simple(), None)?;
     let mut outcomes = Vec::new(alloc);
     let mut sink = sink;
     for told in steps {
-        outcomes.push(receiver.step(told, &mut sink))?;
+        outcomes.push(reply_of(&receiver.step(told, &mut sink)))?;
     }
     Ok(Played {
         outcomes,
@@ -48,12 +88,7 @@ fn play(alloc: Global, steps: &[Told<'_>], sink: Store8) -> Result<Played, Fail>
 }
 
 /// Whether a receiver gives these outcomes, and writes these payloads one after another.
-fn answers(
-    alloc: Global,
-    steps: &[Told<'_>],
-    want: &[Outcome],
-    written: &[u8],
-) -> Result<bool, Fail>
+fn answers(alloc: Global, steps: &[Told<'_>], want: &[Reply], written: &[u8]) -> Result<bool, Fail>
     requires { All IsFit steps.now }
 {
     let played = play(alloc, steps, Store8::with(alloc, 64, &[])?)?;
@@ -128,7 +163,7 @@ fn a_lost_packet_is_written_once_from_its_retransmissions(rt: HostRuntime) -> Re
     let want = [KEPT, KEPT, TWICE, LATE];
     assert!(rt; answers(alloc, &[first, again, twice], &want[..3], b"")?);
     assert!(rt; answers(alloc, &[first, again, twice, late], &want, b"AB")?);
-    let ended = [KEPT, KEPT, TWICE, LATE, Outcome::Nothing];
+    let ended = [KEPT, KEPT, TWICE, LATE, Reply::Nothing];
     assert!(rt; answers(alloc, &[first, again, twice, late, ends()], &ended, b"AB")?);
     Ok(())
 }
@@ -140,8 +175,8 @@ fn a_retransmission_is_kept_up_to_its_deadline(rt: HostRuntime) -> Result<(), Fa
     // Ticks 90,899 and 90,900.
     let in_time = brings(1_009_989, 11, b"B");
     let late = brings(1_010_000, 11, b"B");
-    let kept = [KEPT, KEPT, KEPT, Outcome::Nothing];
-    let missed = [KEPT, KEPT, LATE, Outcome::Nothing];
+    let kept = [KEPT, KEPT, KEPT, Reply::Nothing];
+    let missed = [KEPT, KEPT, LATE, Reply::Nothing];
     assert!(rt; answers(alloc, &[first, third, in_time], &kept[..3], b"A")?);
     assert!(rt; answers(alloc, &[first, third, in_time, ends()], &kept, b"ABC")?);
     assert!(rt; answers(alloc, &[first, third, late], &missed[..3], b"A")?);
@@ -166,12 +201,12 @@ fn what_came_is_counted_until_the_end(rt: HostRuntime) -> Result<(), Fail> {
     let want = [
         KEPT,
         STRANGER,
-        Outcome::Nothing,
+        Reply::Nothing,
         TWICE,
-        Outcome::Nothing,
-        Outcome::Stopped,
-        Outcome::Stopped,
-        Outcome::Stopped,
+        Reply::Nothing,
+        Reply::Stopped,
+        Reply::Stopped,
+        Reply::Stopped,
     ];
     assert!(rt; played.outcomes.as_slice() == want.as_slice());
     assert_eq!(rt; played.sink.octets(), b"A".as_slice());
@@ -204,9 +239,9 @@ fn a_failed_write_stops_the_receiver(rt: HostRuntime) -> Result<(), Fail> {
     let want = [
         KEPT,
         KEPT,
-        Outcome::WriteFault,
-        Outcome::Stopped,
-        Outcome::Stopped,
+        Reply::WriteFault,
+        Reply::Stopped,
+        Reply::Stopped,
     ];
     assert!(rt; played.outcomes.as_slice() == want.as_slice());
     assert_eq!(rt; played.sink.octets(), b"A".as_slice());
@@ -220,28 +255,333 @@ fn a_failed_write_stops_the_receiver(rt: HostRuntime) -> Result<(), Fail> {
 fn time_alone_plays_out_what_is_due(rt: HostRuntime) -> Result<(), Fail> {
     let alloc = rt.alloc();
     let (first, second) = (brings(0, 10, b"A"), brings(100, 11, b"B"));
-    let want = [KEPT, KEPT, Outcome::Nothing];
+    let want = [KEPT, KEPT, Reply::Nothing];
     // Ticks 89,999 and 90,000.
     assert!(rt; answers(alloc, &[first, second, ticks(999_999)], &want, b"")?);
     assert!(rt; answers(alloc, &[first, second, ticks(1_000_000)], &want, b"A")?);
     assert!(rt; answers(alloc, &[first, second, refuses(1_000_000)], &want, b"A")?);
     // A moment that goes back counts as the one before it.
-    let back = [KEPT, Outcome::Nothing, LATE];
+    let back = [KEPT, Reply::Nothing, LATE];
     assert!(rt; answers(alloc, &[first, ticks(1_010_000), second], &back, b"A")?);
     Ok(())
 }
 
 #[test]
-fn control_and_keepalives_move_the_time(rt: HostRuntime) -> Result<(), Fail> {
+fn keepalives_and_refusals_move_the_time(rt: HostRuntime) -> Result<(), Fail> {
     let alloc = rt.alloc();
-    let want = [KEPT, Outcome::Nothing];
-    for what in [What::Control, What::Keepalive] {
+    let want = [KEPT, Reply::Nothing];
+    for what in [What::Keepalive, What::Refused] {
         let told = Told {
             link: 15,
             us: 1_000_000,
             what,
         };
         assert!(rt; answers(alloc, &[brings(0, 10, b"A"), told], &want, b"A")?);
+    }
+    Ok(())
+}
+
+/// A receiver with SSRC 7, a delay of a second, a span of 8, a tolerance of 25 ms and eight tries.
+fn asking(nack: NackKind, least: u64) -> Settings
+    requires { (5 ≤ least) × (least ≤ 1000) }
+    ensures range { IsInRange result }
+    ensures speaks { result.muted ≡ false }
+{
+    Settings {
+        delay: 1000,
+        span: 8,
+        reorder: 25,
+        least,
+        tries: 8,
+        nack,
+        own: 7,
+        muted: false,
+    }
+}
+
+/// The octets that the last of some steps made, one datagram after another.
+fn made(
+    alloc: Global,
+    settings: &Settings,
+    session: &Session,
+    steps: &[Told<'_>],
+) -> Result<Vec<u8>, Fail>
+    requires settings { IsInRange settings.now }
+    requires session { IsSession session.now }
+    requires clear { session.now.pass ≡ None }
+    requires fits { All IsFit steps.now }
+{
+    let mut receiver = Receiver::with(alloc, settings, session, None)?;
+    let mut sink = Store8::with(alloc, 64, &[])?;
+    let mut octets = Vec::new(alloc);
+    for told in steps {
+        octets = Vec::new(alloc);
+        if let Outcome::Made(outs) = receiver.step(told, &mut sink) {
+            octets.extend_from_slice(outs.first.octets())?;
+            if let Some(second) = &outs.second {
+                octets.extend_from_slice(second.octets())?;
+            }
+        }
+    }
+    Ok(octets)
+}
+
+fn ticks_on(link: u8, us: u64) -> Told<'static>
+    requires { link < 16 }
+    ensures { IsFit result }
+{
+    Told {
+        link,
+        us,
+        what: What::Tick,
+    }
+}
+
+fn brings_control<'a>(link: u8, us: u64, compound: &'a Compound<'a>) -> Told<'a>
+    requires { link < 16 }
+    ensures { IsFit result }
+{
+    Told {
+        link,
+        us,
+        what: What::Control(compound),
+    }
+}
+
+// A receiver's report and a source description of SSRC 7.
+const OPENING: [u8; 24] = [
+    0x80, 0xC9, 0, 1, 0, 0, 0, 7, 0x81, 0xCA, 0, 3, 0, 0, 0, 7, 1, 4, b'r', b'i', b's', b't', 0, 0,
+];
+
+#[test]
+fn reports_and_keepalives_come_when_they_are_due(rt: HostRuntime) -> Result<(), Fail> {
+    let alloc = rt.alloc();
+    let settings = asking(NackKind::Range, 50);
+    // A tick before any media: no round-trip time is asked for.
+    let first = made(alloc, &settings, &simple(), &[ticks(0)])?;
+    assert!(rt; first.as_slice() == OPENING.as_slice());
+    // Ticks 8,999 and 9,000.
+    let early = made(alloc, &settings, &simple(), &[ticks(0), ticks(99_999)])?;
+    assert!(rt; early.is_empty());
+    let next = made(alloc, &settings, &simple(), &[ticks(0), ticks(100_000)])?;
+    assert!(rt; next.as_slice() == OPENING.as_slice());
+    // Another link has reports of its own.
+    let other = made(alloc, &settings, &simple(), &[ticks(0), ticks_on(1, 0)])?;
+    assert!(rt; other.as_slice() == OPENING.as_slice());
+    Ok(())
+}
+
+#[test]
+fn keepalives_come_each_second_in_the_main_profile(rt: HostRuntime) -> Result<(), Fail> {
+    let alloc = rt.alloc();
+    let settings = asking(NackKind::Range, 50);
+    let session = Session {
+        profile: Profile::Main,
+        port: 1968,
+        pass: None,
+        bits: 128,
+        nulls: false,
+        width: Width::W16,
+    };
+    let both = [
+        0, 0, 0x88, 0xB6, 0x07, 0xB1, 0x07, 0xB1, 0x80, 0xC9, 0, 1, 0, 0, 0, 7, 0x81, 0xCA, 0, 3,
+        0, 0, 0, 7, 1, 4, b'r', b'i', b's', b't', 0, 0, 0, 0, 0x88, 0xB5, 2, 0, 0, 0, 0, 7, 0, 0,
+    ];
+    // Ticks 0, 89,999 and 90,000.
+    let first = made(alloc, &settings, &session, &[ticks(0)])?;
+    assert!(rt; first.as_slice() == both.as_slice());
+    let early = made(alloc, &settings, &session, &[ticks(0), ticks(999_999)])?;
+    assert!(rt; early.as_slice() == &both[..32]);
+    let alone = made(
+        alloc,
+        &settings,
+        &session,
+        &[ticks(0), ticks(999_999), ticks(1_000_000)],
+    )?;
+    assert!(rt; alone.as_slice() == &both[32..]);
+    Ok(())
+}
+
+#[test]
+fn what_is_missing_is_asked_for_and_again(rt: HostRuntime) -> Result<(), Fail> {
+    let alloc = rt.alloc();
+    // 10 at tick 0 and 15 at tick 100: 11 to 14 are missing. The first tick reports.
+    let (first, sixth) = (brings(0, 10, b"A"), brings(1_112, 15, b"F"));
+    let report = ticks(1_112);
+    // Ticks 2,349, 2,350, 6,849 and 6,850.
+    let (early, due) = (ticks(26_100), ticks(26_112));
+    let (soon, again) = (ticks(76_100), ticks(76_112));
+    let range = [
+        0x80, 0xC9, 0, 1, 0, 0, 0, 7, 0x81, 0xCA, 0, 3, 0, 0, 0, 7, 1, 4, b'r', b'i', b's', b't',
+        0, 0, 0x80, 0xCC, 0, 3, 0x10, 0x20, 0x30, 0x40, b'R', b'I', b'S', b'T', 0, 11, 0, 3,
+    ];
+    let mask = [
+        0x80, 0xC9, 0, 1, 0, 0, 0, 7, 0x81, 0xCA, 0, 3, 0, 0, 0, 7, 1, 4, b'r', b'i', b's', b't',
+        0, 0, 0x81, 0xCD, 0, 3, 0, 0, 0, 7, 0x10, 0x20, 0x30, 0x40, 0, 11, 0, 7,
+    ];
+    let session = simple();
+    let settings = asking(NackKind::Range, 50);
+    let none = made(alloc, &settings, &session, &[first, sixth, report, early])?;
+    assert!(rt; none.is_empty());
+    let asked = made(
+        alloc,
+        &settings,
+        &session,
+        &[first, sixth, report, early, due],
+    )?;
+    assert!(rt; asked.as_slice() == range.as_slice());
+    let none = made(
+        alloc,
+        &settings,
+        &session,
+        &[first, sixth, report, due, soon],
+    )?;
+    assert!(rt; none.is_empty());
+    let asked = made(
+        alloc,
+        &settings,
+        &session,
+        &[first, sixth, report, due, soon, again],
+    )?;
+    assert!(rt; asked.as_slice() == range.as_slice());
+    let masked = made(
+        alloc,
+        &asking(NackKind::Mask, 50),
+        &session,
+        &[first, sixth, report, due],
+    )?;
+    assert!(rt; masked.as_slice() == mask.as_slice());
+    Ok(())
+}
+
+#[test]
+fn the_longest_round_trip_time_of_two_links_counts(rt: HostRuntime) -> Result<(), Fail> {
+    let alloc = rt.alloc();
+    // A report and a response with the stamp 0.
+    let octets = [
+        0x80, 0xC9, 0, 1, 0, 0, 0, 9, 0x83, 0xCC, 0, 5, 0x10, 0x20, 0x30, 0x40, b'R', b'I', b'S',
+        b'T', 0, 0, 0, 0, 0, 0, 0, 0, 0, 0, 0, 0,
+    ];
+    let compound = Compound::read(&octets).ok().ok_or("a compound")?;
+    let (first, sixth) = (brings(0, 10, b"A"), brings(1_112, 15, b"F"));
+    let (report, due) = (ticks(1_112), ticks(26_112));
+    // 8,000 and then 16,000 microseconds on link 0 are 9,000, so 810 ticks: 3,159 and 3,160.
+    let (one, two) = (
+        brings_control(0, 8_000, &compound),
+        brings_control(0, 16_000, &compound),
+    );
+    let (soon, again) = (ticks(35_111), ticks(35_112));
+    let session = simple();
+    let settings = asking(NackKind::Range, 5);
+    let none = made(
+        alloc,
+        &settings,
+        &session,
+        &[first, sixth, report, one, two, due, soon],
+    )?;
+    assert!(rt; none.is_empty());
+    let asked = made(
+        alloc,
+        &settings,
+        &session,
+        &[first, sixth, report, one, two, due, again],
+    )?;
+    assert!(rt; asked.len() == 40);
+    // 20,000 microseconds on link 1 are longer.
+    let other = brings_control(1, 20_000, &compound);
+    let none = made(
+        alloc,
+        &settings,
+        &session,
+        &[first, sixth, report, one, two, other, due, again],
+    )?;
+    assert!(rt; none.is_empty());
+    Ok(())
+}
+
+#[test]
+fn a_request_is_answered_on_its_link_under_a_passphrase(rt: HostRuntime) -> Result<(), Fail> {
+    let alloc = rt.alloc();
+    // A report, and a request at one second with a delay that isn't read.
+    let octets = [
+        0x80, 0xC9, 0, 1, 0, 0, 0, 9, 0x82, 0xCC, 0, 5, 0x10, 0x20, 0x30, 0x40, b'R', b'I', b'S',
+        b'T', 0, 0, 0, 0, 0, 0x0F, 0x42, 0x40, 1, 2, 3, 4,
+    ];
+    let compound = Compound::read(&octets).ok().ok_or("a compound")?;
+    let session = Session {
+        profile: Profile::Main,
+        port: 1968,
+        pass: Some(Phrase::of(b"a secret")),
+        bits: 128,
+        nulls: false,
+        width: Width::W16,
+    };
+    let mut words = Words::with(
+        alloc,
+        &[1, 2, 3, 4, 5, 6, 7, 8, 9, 10, 11, 12, 13, 14, 15, 16],
+        &[],
+    )?;
+    let sealer = Sealer::with(&mut words).ok().ok_or("a sealer")?;
+    let settings = asking(NackKind::Range, 50);
+    let mut receiver = Receiver::with(alloc, &settings, &session, Some(sealer))?;
+    let mut sink = Store8::with(alloc, 64, &[])?;
+    let told = brings_control(3, 5, &compound);
+    let Outcome::Made(outs) = receiver.step(&told, &mut sink) else {
+        return Err(Fail::new("an answer"));
+    };
+    assert!(rt; receiver.left() == Some(MAX_PAIRS - 1));
+    let mut block = [0; 2048];
+    let sent = outs.first.octets();
+    let into = &mut block[..sent.len()];
+    into.copy_from_slice(sent);
+    let mut opener = Opener::with(alloc, &session)?;
+    let Ok(Item::Control(answer)) = opener.take(outs.first.channel(), into) else {
+        return Err(Fail::new("a compound"));
+    };
+    assert!(rt; answer.packets().count() == 3);
+    Ok(())
+}
+
+fn brings_wide(us: u64, word: u32, stamp: u32) -> Told<'static>
+    ensures { IsFit result }
+{
+    Told {
+        link: 0,
+        us,
+        what: What::Media(Arrival {
+            flow: 0x1020_3040,
+            width: Width::W32,
+            word,
+            stamp,
+            payload: b"A",
+        }),
+    }
+}
+
+#[test]
+fn wide_requests_stand_on_both_sides_of_a_boundary(rt: HostRuntime) -> Result<(), Fail> {
+    let alloc = rt.alloc();
+    let settings = asking(NackKind::Range, 50);
+    let (report, due) = (ticks(0), ticks(25_000));
+    // 65,535 and 65,537 are missing; then the same numbers around 2^32.
+    for (low, upper) in [(65_534, [0, 0, 0, 1]), (0xFFFF_FFFE, [0xFF, 0xFF, 0, 0])] {
+        let [high, first, next, last] = upper;
+        let steps = [
+            brings_wide(0, low, 0),
+            brings_wide(0, low.wrapping_add(2), 900),
+            brings_wide(0, low.wrapping_add(4), 1_800),
+            report,
+            due,
+        ];
+        let want = [
+            0x81, 0xCC, 0, 3, 0x10, 0x20, 0x30, 0x40, b'R', b'I', b'S', b'T', high, first, 0, 0,
+            0x80, 0xCC, 0, 3, 0x10, 0x20, 0x30, 0x40, b'R', b'I', b'S', b'T', 0xFF, 0xFF, 0, 0,
+            0x81, 0xCC, 0, 3, 0x10, 0x20, 0x30, 0x40, b'R', b'I', b'S', b'T', next, last, 0, 0,
+            0x80, 0xCC, 0, 3, 0x10, 0x20, 0x30, 0x40, b'R', b'I', b'S', b'T', 0, 1, 0, 0,
+        ];
+        let asked = made(alloc, &settings, &simple(), &steps)?;
+        assert!(rt; asked.len() == 88);
+        assert!(rt; asked.as_slice().ends_with(&want));
     }
     Ok(())
 }

@@ -1,4 +1,5 @@
 use receiver_rules::Arrival;
+use rtcp_compound::Compound;
 
 /// What a receiver is told: an item, a tick of its clock or the end, on one of its links.
 #[derive(Clone, Copy)]
@@ -17,7 +18,7 @@ pub enum What<'a> {
     /// A media packet, its null packets restored.
     Media(Arrival<'a>),
     /// An RTCP compound.
-    Control,
+    Control(&'a Compound<'a>),
     /// A keepalive.
     Keepalive,
     /// A datagram that is no item of the session.

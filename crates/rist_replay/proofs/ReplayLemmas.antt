@@ -1,5 +1,5 @@
 -- A record is one more step of the receiver.
-use Rattle.std.proofs.Common.{◌≡◌, ℕ, List, [], ◌∷◌, ◌++◌, map, reverse, Option, Bool, true, false, ◌||◌, refl, sym, ap, ◌∙◌, append-nil}
+use Rattle.std.proofs.Common.{◌≡◌, ℕ, List, [], ◌∷◌, ◌++◌, map, reverse, Option, Bool, true, false, ◌||◌, refl, sym, ap, ◌∙◌, arith, append-nil}
 use mathlib.Core.List.{reverse-cons}
 use Rattle.std.specs.Prelude.{OnOk, OnErr, IsErrOf, Result, Ok, Err}
 use Rattle.capture_walk.specs.declared.visitor.VisitBad.TheVariants as bads
@@ -10,11 +10,23 @@ use Rattle.outside_io.proofs.ToldLemmas.{appends_none}
 use Rattle.capture_file.specs.Capture.{Record}
 use Rattle.receiver_rules.specs.declared.limits.Limits.{Limits}
 use Rattle.receiver_rules.specs.Steps.{Step, end_step, is_end, has_ended}
-use Rattle.receiver_rules.specs.ReceiverSteps.{ReceiverStep, buffer_history, buffer_step, buffer_event}
+use Rattle.request_rules.specs.Steps.{Step as ReceiverStep, buffer_history}
+use Rattle.request_rules.specs.Steps as inputs
+use Rattle.reorder_buffer.specs.declared.phase.Phase.TheVariants.{Open}
+use Rattle.rist_ends.specs.declared.told.What.{What}
+use Rattle.rist_ends.specs.declared.told.What.TheVariants as whats
+use Rattle.rist_ends.specs.Told.{input_of, buffer_step, event_of, phase_after}
 use Rattle.receiver_rules.specs.Packets.{Packet}
 use Rattle.receiver_rules.specs.History.{played_out_packets, released_bytes}
 use Rattle.receiver_rules.proofs.HistoryLemmas.{played_out_grows}
 use Rattle.rist_wire.specs.declared.session.Session.{Session}
+use Rattle.std.specs.Prelude.{nat_lt, if◌then◌else◌, length, Some, None}
+use Rattle.psk_seal.specs.declared.sealer.Spent.{Spent as NoPairs}
+use Rattle.rist_wire.specs.Writing.{ShutterState, pairs_left}
+use Rattle.request_rules.specs.Steps.{effective_time}
+use Rattle.rist_control.specs.Control.{ControlSettings, Datagram, datagrams_of, input_datagrams}
+use Rattle.rist_reporter.specs.declared.out.Outs.{Outs}
+use Rattle.rist_reporter.specs.OneMore.{is_short, AnswersAfter, step_answered}
 use Rattle.rist_ends.specs.declared.outcome.Outcome.{Outcome}
 use Rattle.rist_ends.specs.declared.outcome.Outcome.TheVariants as outcomes
 use Rattle.rist_ends.specs.Outcome.{IfStepped}
@@ -42,7 +54,7 @@ ended_both (x ∷ xs) ys = ap (λ b. is_end (buffer_step x).event || b) (ended_b
 no_end : (session : Session) (r : Record) → is_end (buffer_step (step_of session r)).event ≡ false
 no_end session r = by_item (item_of session r.channel r.octets)
   where
-    by_item : (item : Result Item WireBad) → is_end (buffer_event (input_read item)) ≡ false
+    by_item : (item : Result Item WireBad) → is_end (event_of (input_read r.us item)) ≡ false
     by_item (Ok (items.Media media)) = refl
     by_item (Ok (items.Control compound)) = refl
     by_item (Ok (items.Keepalive keepalive)) = refl
@@ -70,6 +82,8 @@ pub on_made : (o : Outcome) (P Q : Type 0) → IfStepped o Q → (Q → P) → (
 on_made outcomes.Stopped P Q made to stopped = stopped refl
 on_made outcomes.WriteFault P Q made to stopped = tt
 on_made (outcomes.Verdict v) P Q made to stopped = to made
+on_made outcomes.Spent P Q made to stopped = to made
+on_made (outcomes.Made outs) P Q made to stopped = to made
 on_made outcomes.Nothing P Q made to stopped = to made
 
 -- where none was made
@@ -77,6 +91,8 @@ pub on_refused : (o : Outcome) (P : Type 0) → (o ≡ outcomes.WriteFault → P
 on_refused outcomes.Stopped P fault = tt
 on_refused outcomes.WriteFault P fault = fault refl
 on_refused (outcomes.Verdict v) P fault = tt
+on_refused outcomes.Spent P fault = tt
+on_refused (outcomes.Made outs) P fault = tt
 on_refused outcomes.Nothing P fault = tt
 
 -- a step takes no memory
@@ -84,6 +100,8 @@ pub no_memory : (o : Outcome) (P : Type 0) → IsErrOf (answer_of o) bads.Memory
 no_memory outcomes.Stopped P is = cc
 no_memory outcomes.WriteFault P is = cc
 no_memory (outcomes.Verdict v) P is = cc
+no_memory outcomes.Spent P is = cc
+no_memory (outcomes.Made outs) P is = cc
 no_memory outcomes.Nothing P is = cc
 
 -- a step with this record's item is the record's step
@@ -100,3 +118,46 @@ wrote_nothing limits session done r told =
     ap (released_bytes limits) (sym (pushed session done r (step_of session r) refl))
     ∙ ap (λ ps. concat (map (λ (p : Packet). p.payload) ps)) grows.1 ∙ concat-map-append (played_out_packets limits (history_of session done)) grows.0 in
     ([], appends_none told, (more, whole ∙ ap (λ l. l ++ more) (sym (append-nil (released_so_far session limits done)))))
+
+-- ---- a muted receiver makes nothing
+
+not_short : (left : Option ℕ) → is_short left 0 ≡ false
+not_short None = refl
+not_short (Some n) = lt-ltb-none n
+  where
+    lt-ltb-none : (n : ℕ) → nat_lt n 0 ≡ false
+    lt-ltb-none n = grind arith
+
+pub muted_step : (settings : ControlSettings) (shutter : ShutterState) (before : List ReceiverStep) (step : ReceiverStep) (result : Result (Option Outs) NoPairs) → settings.is_muted ≡ true → AnswersAfter settings shutter before step result → step_answered step result ≡ step
+muted_step settings shutter before step (Ok made) muted a = refl
+muted_step settings shutter before step (Err spent) muted a =
+    let none : datagrams_of settings before step ≡ [] = ap (λ (m : Bool). if m then [] else input_datagrams settings before step.link (effective_time (step ∷ before)) step.input) muted in
+    absurd (lost (a.spent ∙ ap (λ (ds : List Datagram). is_short (pairs_left shutter.sealer) (length ds)) none ∙ not_short (pairs_left shutter.sealer)))
+  where
+    lost : true ≡ false → ⊥
+    lost e = cc
+
+-- ---- clauses of a step that was made
+
+pub both_made : (o : Outcome) (P Q : Type 0) → IfStepped o P → IfStepped o Q → IfStepped o (P × Q)
+both_made outcomes.Stopped P Q p q = tt
+both_made outcomes.WriteFault P Q p q = tt
+both_made (outcomes.Verdict v) P Q p q = (p, q)
+both_made outcomes.Spent P Q p q = (p, q)
+both_made (outcomes.Made outs) P Q p q = (p, q)
+both_made outcomes.Nothing P Q p q = (p, q)
+
+-- no record ends the receiver
+pub goes_on : (us : ℕ) (w : What) (item : Result Item WireBad) → input_of us w ≡ input_read us item → phase_after w ≡ Open
+goes_on us (whats.Media arrival) item e = refl
+goes_on us (whats.Control compound) item e = refl
+goes_on us whats.Keepalive item e = refl
+goes_on us whats.Refused item e = refl
+goes_on us whats.Tick item e = refl
+goes_on us whats.End item e = absurd (no_ending item e)
+  where
+    no_ending : (item : Result Item WireBad) → inputs.End ≡ input_read us item → ⊥
+    no_ending (Ok (items.Media media)) e = cc
+    no_ending (Ok (items.Control compound)) e = cc
+    no_ending (Ok (items.Keepalive keepalive)) e = cc
+    no_ending (Err bad) e = cc

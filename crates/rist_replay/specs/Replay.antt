@@ -1,11 +1,12 @@
 -- What a replay writes of the records of a capture.
-use Rattle.std.specs.Prelude.{ℕ, ◌≤◌, List, ◌∷◌}
+use Rattle.std.specs.Prelude.{◌≡◌, ℕ, true, List, ◌∷◌}
 use Rattle.capture_file.specs.Capture.{Record}
 use Rattle.receiver_rules.specs.declared.limits.Limits.{Limits}
 use Rattle.receiver_rules.specs.Steps.{end_step}
 use Rattle.receiver_rules.specs.History.{released_bytes}
 use Rattle.rist_wire.specs.declared.session.Session.{Session}
 use Rattle.rist_ends.specs.declared.settings.Settings.{Settings}
+use Rattle.rist_ends.specs.Settings.{IsInRange}
 use Rattle.rist_replay.specs.Steps.{history_of}
 
 -- the octets that these records have released
@@ -16,9 +17,7 @@ released_so_far session limits rs = released_bytes limits (history_of session rs
 abbrev pub replayed : Session → Limits → List Record → List ℕ
 replayed session limits rs = released_bytes limits (end_step ∷ history_of session rs)
 
--- a delay of 1 to 30,000 ms, and a span of 1 to 16,384 packets
+-- settings in their ranges, of a receiver that sends nothing back
 pub record AreSettings (settings : Settings) : Type 0 where
-  pub some_delay : 1 ≤ settings.delay
-  pub delay : settings.delay ≤ 30000
-  pub some_span : 1 ≤ settings.span
-  pub span : settings.span ≤ 16384
+  pub in_range : IsInRange settings
+  pub muted : settings.muted ≡ true

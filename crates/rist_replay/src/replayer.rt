@@ -1,5 +1,5 @@
 //! A receiver as a visitor of a capture's records.
-ghost use Rattle.std.specs.Prelude.{◌≡◌, ◌≤◌, ◌<◌, length};
+ghost use Rattle.std.specs.Prelude.{◌≡◌, ◌≤◌, ◌<◌, ℕ, length};
 ghost use Rattle.receiver_rules.specs.Seen.{seen};
 ghost use Rattle.seq_unwrap.specs.Nearest.{cycle_of};
 ghost use Rattle.rist_wire.specs.Media.{content_of};
@@ -55,13 +55,13 @@ fn arrival_in<'a>(media: &Media<'a>, block: &'a mut [u8; BLOCK_LEN]) -> Arrival<
 }
 
 // What a receiver is told of a datagram.
-fn what_of<'a>(item: &Result<Item<'a>, WireBad>, block: &'a mut [u8; BLOCK_LEN]) -> What<'a>
-    ensures value { input_of result ≡ input_read item.now }
+fn what_of<'a>(item: &'a Result<Item<'a>, WireBad>, block: &'a mut [u8; BLOCK_LEN]) -> What<'a>
+    ensures value { (us : ℕ) → input_of us result ≡ input_read us item.now }
     ensures fits { IsFitWhat result }
 {
     match item {
         Ok(Item::Media(media)) => What::Media(arrival_in(media, block)),
-        Ok(Item::Control(_)) => What::Control,
+        Ok(Item::Control(compound)) => What::Control(compound),
         Ok(Item::Keepalive(_)) => What::Keepalive,
         Err(_) => What::Refused,
     }
@@ -73,7 +73,11 @@ fn answer_of(outcome: Outcome) -> Result<(), VisitBad>
 {
     match outcome {
         Outcome::WriteFault => Err(VisitBad::WriteFault),
-        Outcome::Stopped | Outcome::Verdict(_) | Outcome::Nothing => Ok(()),
+        Outcome::Stopped
+        | Outcome::Verdict(_)
+        | Outcome::Spent
+        | Outcome::Made(_)
+        | Outcome::Nothing => Ok(()),
     }
 }
 

@@ -5,7 +5,7 @@ ghost use Rattle.capture_walk.specs.Causes.{walk_fault};
 ghost use Rattle.capture_walk.specs.Leaves.{Leaves, passage};
 ghost use Rattle.capture_walk.specs.declared.walk_bad.WalkBad.TheVariants.{ReadFault, WriteFault, Memory};
 ghost use Rattle.rist_wire.specs.Session.{IsSession};
-ghost use Rattle.rist_ends.specs.Receiver.{limits_of};
+ghost use Rattle.rist_ends.specs.Settings.{limits_of};
 ghost use Rattle.rist_replay.specs.Replay.{released_so_far, replayed, AreSettings};
 
 use crate::replayer::Replayer;
@@ -45,7 +45,7 @@ pub fn replay<S: Source, K: Sink>(
         Ok(opener) => opener,
         Err(_) => return Err(WalkBad::Memory),
     };
-    let receiver = match Receiver::with(alloc, settings) {
+    let receiver = match Receiver::with(alloc, settings, session, None) {
         Ok(receiver) => receiver,
         Err(_) => return Err(WalkBad::Memory),
     };

@@ -74,10 +74,7 @@ fn leaves<S: Source + Drop>(
 ) -> Result<bool, Fail>
     requires { IsSession session.now }
 {
-    let settings = Settings {
-        delay: 1000,
-        span: 8,
-    };
+    let settings = Settings::muted(1000, 8);
     let mut reader = Reader::over(source);
     let mut sink = sink;
     let result = replay(alloc, session, &settings, &mut reader, &mut sink);

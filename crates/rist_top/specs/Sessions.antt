@@ -6,7 +6,7 @@ use Rattle.rist_wire.specs.declared.session.Session.{Session}
 use Rattle.rist_words.specs.CommandLine.{ReplayCommand, PackCommand}
 use Rattle.rist_pack.specs.declared.settings.PackSettings.{PackSettings}
 use Rattle.rist_words.specs.CommandLine as lines
-use Rattle.rist_ends.specs.Receiver.{limits_of}
+use Rattle.rist_ends.specs.Settings.{limits_of, muted_settings}
 
 -- a session whose datagrams are written with null packets deleted, or with numbers of 32 bits
 abbrev pub session_with : lines.Session → Bool → Bool → Session
@@ -19,7 +19,7 @@ session_read s = session_with s false false
 
 -- the limits of a replay's receiver, in ticks and packets
 abbrev pub replay_limits : ReplayCommand → Limits
-replay_limits c = limits_of (record { delay = c.delay; span = c.span })
+replay_limits c = limits_of (muted_settings c.delay c.span)
 
 -- the flow that a source is packed as
 abbrev pub pack_settings : PackCommand → PackSettings

@@ -56,10 +56,7 @@ pub fn replay_line<S: Source, K: Sink>(
     ensures write { HasWriteCause (fault_of result.status) (K.faults sink) (K.faults result.sink) }
 {
     let session = session_of(&line.session, false, false);
-    let settings = Settings {
-        delay: line.delay,
-        span: line.span,
-    };
+    let settings = Settings::muted(line.delay, line.span);
     let mut reader = Reader::over(source);
     let end = replay(alloc, &session, &settings, &mut reader, &mut sink);
     Worked {

@@ -6,6 +6,8 @@ use Rattle.capture_walk.specs.Leaves.{Leaves, passage}
 use Rattle.capture_walk.proofs.EndingLemmas.{given_back}
 use Rattle.rist_wire.specs.declared.session.Session.{Session}
 use Rattle.rist_words.specs.Shown.{shown_replay}
+use Rattle.rist_ends.specs.declared.settings.Settings.{Settings}
+use Rattle.rist_ends.specs.Settings.{limits_of}
 use Rattle.rist_replay.specs.Replay.{released_so_far, replayed}
 use Rattle.rist_top.specs.Sessions.{session_read, replay_limits}
 use Rattle.rist_top.proofs.working.replay_line.Goals as goal
@@ -19,5 +21,7 @@ returns-clause-work g c = (
       (subst (λ (r : ReaderState). Leaves (released_so_far (session_read (shown_replay c.args.line.now).session) (replay_limits (shown_replay c.args.line.now))) (replayed (session_read (shown_replay c.args.line.now).session) (replay_limits (shown_replay c.args.line.now))) 0 (passage r c.replay-end.new.reader (g.K.Sink.contents c.args.sink) (g.K.Sink.contents c.replay-end.new.sink)) c.replay-end.result)
       c.over-reader.ensures.value
       (subst (λ (s : Session). Leaves (released_so_far s (replay_limits (shown_replay c.args.line.now))) (replayed s (replay_limits (shown_replay c.args.line.now))) 0 (passage c.over-reader.result c.replay-end.new.reader (g.K.Sink.contents c.args.sink) (g.K.Sink.contents c.replay-end.new.sink)) c.replay-end.result)
-      c.session_of-session.ensures.value c.replay-end.ensures.work)),
+      c.session_of-session.ensures.value
+      (subst (λ (x : Settings). Leaves (released_so_far c.session_of-session.result (limits_of x)) (replayed c.session_of-session.result (limits_of x)) 0 (passage c.over-reader.result c.replay-end.new.reader (g.K.Sink.contents c.args.sink) (g.K.Sink.contents c.replay-end.new.sink)) c.replay-end.result)
+      c.muted-settings.ensures.value c.replay-end.ensures.work))),
 )

@@ -4,7 +4,7 @@ use Rattle.std.specs.Prelude.{OnOk, OnErr}
 use Rattle.capture_file.specs.Capture.{Record}
 use Rattle.capture_file.specs.Heads.{record_of}
 use Rattle.receiver_rules.specs.Steps.{tick_of}
-use Rattle.receiver_rules.specs.ReceiverSteps.{Input, ReceiverStep, buffer_history}
+use Rattle.request_rules.specs.Steps.{Input, Step as ReceiverStep, buffer_history}
 use Rattle.receiver_rules.specs.History.{released_bytes}
 use Rattle.outside_io.specs.Told.{Writes, WritesPart}
 use Rattle.rist_ends.specs.Told.{input_of}
@@ -12,7 +12,14 @@ use Rattle.rist_replay.specs.Steps.{step_of, input_read, receiver_history, histo
 use Rattle.rist_replay.specs.Inside.Visiting.{HasReplayed}
 use Rattle.rist_replay.specs.Replay.{released_so_far}
 use Rattle.rist_ends.specs.Receiver.{IsReceiverAfter}
-use Rattle.rist_replay.proofs.ReplayLemmas.{on_made, on_refused, no_memory, pushed}
+use Rattle.rist_wire.specs.declared.session.Session.{Session}
+use Rattle.rist_reporter.specs.OneMore.{step_answered}
+use Rattle.rist_control.specs.Control.{ControlSettings}
+use Rattle.rist_ends.specs.Receiver.{MakesStep, GoesOn, settings_of}
+use Rattle.rist_ends.specs.Outcome.{result_of}
+use Rattle.rist_ends.specs.Told.{phase_after}
+use Rattle.rist_wire.specs.Item.{item_of}
+use Rattle.rist_replay.proofs.ReplayLemmas.{on_made, on_refused, no_memory, pushed, history_push, both_made, goes_on, muted_step}
 use Rattle.rist_replay.proofs.replayer.ReplayerVisitor.record.Goals as goal
 
 pub returns-clause-sink : goal.returns-clause-sink
@@ -20,8 +27,8 @@ returns-clause-sink g c =
     let session = c.args.self.now.opener in
     let limits = c.args.self.now.receiver.buffer.limits in
     let r : Record = record_of c.args.head.now c.args.octets.now in
-    let step : ReceiverStep = record { link = c.args.head.now.link; tick = tick_of c.args.head.now.us; input = input_of c.what_of.result } in
-    let is : step ≡ step_of session r = ap (λ (i : Input). record { link = c.args.head.now.link; tick = tick_of c.args.head.now.us; input = i }) (c.what_of.ensures.value ∙ ap input_read c.take-item.ensures.value) in
+    let step : ReceiverStep = record { link = c.args.head.now.link; tick = tick_of c.args.head.now.us; input = input_of c.args.head.now.us c.what_of.result } in
+    let is : step ≡ step_of session r = ap (λ (i : Input). record { link = c.args.head.now.link; tick = tick_of c.args.head.now.us; input = i }) (c.what_of.ensures.value c.args.head.now.us ∙ ap (input_read c.args.head.now.us) c.take-item.ensures.value) in
     let P : Type 0 = (done : List Record) → HasReplayed session c.args.self.now.receiver done → Writes (g.K.Sink.contents c.args.sink.now) (g.K.Sink.contents c.step.new.sink) (released_so_far session limits done) (released_so_far session limits (done ++ r ∷ [])) in
     let Q : Type 0 = (history : List ReceiverStep) → IsReceiverAfter c.args.self.now.receiver history → Writes (g.K.Sink.contents c.args.sink.now) (g.K.Sink.contents c.step.new.sink) (released_bytes limits (buffer_history history)) (released_bytes limits (buffer_history (step ∷ history))) in
     subst (λ o. OnOk o P) (sym c.answer_of.ensures.value)
@@ -35,8 +42,8 @@ returns-clause-part g c =
     let session = c.args.self.now.opener in
     let limits = c.args.self.now.receiver.buffer.limits in
     let r : Record = record_of c.args.head.now c.args.octets.now in
-    let step : ReceiverStep = record { link = c.args.head.now.link; tick = tick_of c.args.head.now.us; input = input_of c.what_of.result } in
-    let is : step ≡ step_of session r = ap (λ (i : Input). record { link = c.args.head.now.link; tick = tick_of c.args.head.now.us; input = i }) (c.what_of.ensures.value ∙ ap input_read c.take-item.ensures.value) in
+    let step : ReceiverStep = record { link = c.args.head.now.link; tick = tick_of c.args.head.now.us; input = input_of c.args.head.now.us c.what_of.result } in
+    let is : step ≡ step_of session r = ap (λ (i : Input). record { link = c.args.head.now.link; tick = tick_of c.args.head.now.us; input = i }) (c.what_of.ensures.value c.args.head.now.us ∙ ap (input_read c.args.head.now.us) c.take-item.ensures.value) in
     let P : Type 0 = (done : List Record) → HasReplayed session c.args.self.now.receiver done → WritesPart (g.K.Sink.contents c.args.sink.now) (g.K.Sink.contents c.step.new.sink) (released_so_far session limits done) (released_so_far session limits (done ++ r ∷ [])) in
     subst (λ o. OnErr o P) (sym c.answer_of.ensures.value)
     (on_refused c.step.result P
@@ -44,3 +51,30 @@ returns-clause-part g c =
 
 pub returns-clause-none : goal.returns-clause-none
 returns-clause-none g c is = no_memory c.step.result (g.K.Sink.contents c.step.new.sink ≡ g.K.Sink.contents c.args.sink.now) (sym c.answer_of.ensures.value ∙ is)
+
+pub returns-clause-seen : goal.returns-clause-seen
+returns-clause-seen g c =
+    let session = c.args.self.now.opener in
+    let old = c.args.self.now.receiver in
+    let new = c.step.new.self in
+    let us = c.args.head.now.us in
+    let r : Record = record_of c.args.head.now c.args.octets.now in
+    let step : ReceiverStep = record { link = c.args.head.now.link; tick = tick_of us; input = input_of us c.what_of.result } in
+    let read = c.what_of.ensures.value us ∙ ap (input_read us) c.take-item.ensures.value in
+    let is : step ≡ step_of session r = ap (λ (i : Input). record { link = c.args.head.now.link; tick = tick_of us; input = i }) read in
+    let P : Type 0 = (done : List Record) → HasReplayed session old done → HasReplayed c.take-item.new.self new (done ++ r ∷ []) in
+    let Q : Type 0 = GoesOn old new (step_answered step (result_of c.step.result)) × (MakesStep old step c.step.result × (new.buffer.phase ≡ phase_after c.what_of.result)) in
+    subst (λ o. OnOk o P) (sym c.answer_of.ensures.value)
+    (on_made c.step.result P Q
+    (both_made c.step.result _ _ c.step.ensures.state (both_made c.step.result _ _ c.step.ensures.made c.step.ensures.phase))
+    (λ q done has.
+    let h = receiver_history session done in
+    let made = muted_step (settings_of old) old.reporter.shutter h step (result_of c.step.result) has.muted (q.1.0 h has.state) in
+    let here : IsReceiverAfter new (step ∷ h) = subst (λ (st : ReceiverStep). IsReceiverAfter new (st ∷ h)) made (q.0 h has.state) in
+    let grown : step ∷ h ≡ receiver_history session (done ++ r ∷ []) = ap (λ (st : ReceiverStep). st ∷ h) is ∙ sym (history_push session done r) in
+    record {
+      state = subst (λ (x : Session). IsReceiverAfter new (receiver_history x (done ++ r ∷ []))) (sym c.take-item.ensures.same) (subst (λ (l : List ReceiverStep). IsReceiverAfter new l) grown here);
+      running = q.1.1 ∙ goes_on us c.what_of.result (item_of session r.channel r.octets) read;
+      muted = ap (λ (s : ControlSettings). s.is_muted) c.step.ensures.settings ∙ has.muted;
+    })
+    (λ over done has. absurd (c.step.ensures.stopped over has.running)))

@@ -1,0 +1,32 @@
+-- What comes of a step that the buffer has made, for each history.
+use Rattle.std.specs.Prelude.{◌≡◌, List, ◌∷◌, Option}
+use Rattle.receiver_rules.specs.declared.verdict.Verdict.{Verdict}
+use Rattle.reorder_buffer.specs.State.{State}
+use Rattle.reorder_buffer.specs.StateAfter.{IsStateAfter}
+use Rattle.reorder_buffer.specs.declared.phase.Phase.TheVariants.{Open}
+use Rattle.request_rules.specs.Steps.{Step, buffer_history}
+use Rattle.rist_reporter.specs.Reporter.{ReporterState, IsReporterAfter, settings_with}
+use Rattle.rist_reporter.specs.OneMore.{AnswersAfter, step_answered}
+use Rattle.rist_ends.specs.declared.outcome.Outcome.{Outcome}
+use Rattle.rist_ends.specs.declared.told.Told.{Told}
+use Rattle.rist_ends.specs.Outcome.{result_of}
+use Rattle.rist_ends.specs.Told.{step_of}
+use Rattle.rist_ends.specs.Inside.Stepping.{SaysVerdict}
+
+-- the reporter stands before the step, and the buffer after it, with this verdict
+pub record IsBetween (r : ReporterState) (b : State) (told : Told) (verdict : Option Verdict) (history : List Step) : Type 0 where
+  pub reporter : IsReporterAfter r b.limits history
+  pub buffer : IsStateAfter b (buffer_history (step_of told ∷ history))
+  pub says : SaysVerdict verdict b.limits (buffer_history history) (step_of told)
+
+-- what the step makes was made
+abbrev pub ReportsStep : ReporterState → State → Told → Option Verdict → Outcome → Type 0
+ReportsStep r b told verdict outcome =
+    (history : List Step) → IsBetween r b told verdict history
+    → AnswersAfter (settings_with b.limits r) r.shutter history (step_of told) (result_of outcome)
+
+-- the reporter stands after it
+abbrev pub StandsAfterStep : ReporterState → ReporterState → State → Told → Option Verdict → Outcome → Type 0
+StandsAfterStep old new b told verdict outcome =
+    (history : List Step) → IsBetween old b told verdict history → b.phase ≡ Open
+    → IsReporterAfter new b.limits (step_answered (step_of told) (result_of outcome) ∷ history)

@@ -1,0 +1,45 @@
+-- What a receiver is set to.
+use Rattle.std.specs.Prelude.{ℕ, ◌≤◌, ◌*◌, true}
+use Rattle.receiver_rules.specs.declared.limits.Limits.{Limits}
+use Rattle.nack_timer.specs.declared.settings.Settings.{Settings as TimerSettings}
+use Rattle.nack_timer.specs.State.{policy_of}
+use Rattle.rist_wire.specs.declared.session.Session.{Session}
+use Rattle.rist_control.specs.Control.{ControlSettings}
+use Rattle.rist_reporter.specs.Reporter.{is_main}
+use Rattle.request_rules.specs.declared.policy.NackKind.TheVariants.{Range}
+use Rattle.rist_ends.specs.declared.settings.Settings.{Settings}
+
+-- each setting is in its range
+pub record IsInRange (settings : Settings) : Type 0 where
+  pub some_delay : 1 ≤ settings.delay
+  pub delay : settings.delay ≤ 30000
+  pub some_span : 1 ≤ settings.span
+  pub span : settings.span ≤ 16384
+  pub reorder : settings.reorder ≤ 1000
+  pub some_least : 5 ≤ settings.least
+  pub least : settings.least ≤ 1000
+  pub tries : settings.tries ≤ 32
+
+-- the limits of its buffer, in ticks and packets
+abbrev pub limits_of : Settings → Limits
+limits_of settings = record { playout_delay = 90 * settings.delay; capacity = settings.span }
+
+-- when it asks
+abbrev pub timer_settings : Settings → TimerSettings
+timer_settings settings = record { reorder = settings.reorder; least = settings.least; tries = settings.tries; nack = settings.nack }
+
+-- all that the rules of what it sends back know of it, in a session
+abbrev pub control_settings : Settings → Session → ControlSettings
+control_settings settings session =
+    record {
+      limits = limits_of settings;
+      policy = policy_of (timer_settings settings);
+      own = settings.own;
+      has_keepalives = is_main session.profile;
+      is_muted = settings.muted;
+    }
+
+-- a receiver that plays out and sends nothing back
+abbrev pub muted_settings : ℕ → ℕ → Settings
+muted_settings delay span =
+    record { delay = delay; span = span; reorder = 25; least = 50; tries = 0; nack = Range; own = 7; muted = true }
