@@ -1,6 +1,6 @@
 -- Which packets are sent again, number by number.
-use Rattle.std.proofs.Common.{rules, ◌≡◌, ◌∙◌, ℕ, zero, suc, ◌+◌, ◌<◌, ◌≤◌, Bool, true, false, List, [], ◌∷◌, ◌++◌, map, take, Option, None, Some, Result, Ok, Err, refl, sym, ap, subst, arith}
-use Rattle.std.specs.Prelude.{◌==◌, not, nat_le, if◌then◌else◌}
+use Rattle.std.proofs.Common.{rules, ◌≡◌, ◌∙◌, ℕ, zero, suc, ◌+◌, ◌≤◌, Bool, true, false, List, [], ◌∷◌, map, take, Option, None, Some, Result, Ok, Err, refl, sym, ap, subst, arith}
+use Rattle.std.specs.Prelude.{◌==◌, not, if◌then◌else◌}
 use Rattle.std.specs.List.{filter, filter_map}
 use Rattle.std.proofs.lemmas.Bool.{eq-eqb, ne_eqb, eqb-true}
 use Rattle.std.proofs.lemmas.Bool.Decides.{nat_tests}
@@ -43,13 +43,13 @@ left_out hold tick history number (q ∷ ps) tired =
     elim (q.number == number) as (λ (x : Bool). (q.number == number) ≡ x
     → filter f (if not x then q ∷ without number ps else without number ps) ≡ filter f (q ∷ ps)) [
       | true ↦ λ yes.
-      let rests : f q ≡ false = ap (λ (n : ℕ). has_passed hold tick (last_sent_again history n)) (eqb-true q.number number yes) ∙ tired in
-      left_out hold tick history number ps tired ∙ sym (step f q ps false rests)
+          let rests : f q ≡ false = ap (λ (n : ℕ). has_passed hold tick (last_sent_again history n)) (eqb-true q.number number yes) ∙ tired in
+          left_out hold tick history number ps tired ∙ sym (step f q ps false rests)
       | false ↦ λ other.
-      elim (f q) as (λ (y : Bool). f q ≡ y → filter f (q ∷ without number ps) ≡ filter f (q ∷ ps)) [
-        | true ↦ λ is. step f q (without number ps) true is ∙ ap (λ qs. q ∷ qs) (left_out hold tick history number ps tired) ∙ sym (step f q ps true is)
-        | false ↦ λ is. step f q (without number ps) false is ∙ left_out hold tick history number ps tired ∙ sym (step f q ps false is)
-      ] refl
+          elim (f q) as (λ (y : Bool). f q ≡ y → filter f (q ∷ without number ps) ≡ filter f (q ∷ ps)) [
+            | true ↦ λ is. step f q (without number ps) true is ∙ ap (λ qs. q ∷ qs) (left_out hold tick history number ps tired) ∙ sym (step f q ps true is)
+            | false ↦ λ is. step f q (without number ps) false is ∙ left_out hold tick history number ps tired ∙ sym (step f q ps false is)
+          ] refl
     ] refl
 
 just_sent : (hold tick : ℕ) → 1 ≤ hold → has_passed hold tick (Some tick) ≡ false
@@ -72,17 +72,17 @@ now_left_out hold tick history number (q ∷ ps) some =
     elim (q.number == number) as (λ (x : Bool). (q.number == number) ≡ x
     → filter f (if not x then q ∷ without number ps else without number ps) ≡ filter g (q ∷ ps)) [
       | true ↦ λ yes.
-      let e : q.number ≡ number = eqb-true q.number number yes in
-      let same : (number == q.number) ≡ true = eq-eqb number q.number (sym e) in
-      let rests : g q ≡ false = ap (λ (b : Bool). has_passed hold tick (if b then Some tick else last_sent_again history q.number)) same ∙ just_sent hold tick some in
-      now_left_out hold tick history number ps some ∙ sym (step g q ps false rests)
+          let e : q.number ≡ number = eqb-true q.number number yes in
+          let same : (number == q.number) ≡ true = eq-eqb number q.number (sym e) in
+          let rests : g q ≡ false = ap (λ (b : Bool). has_passed hold tick (if b then Some tick else last_sent_again history q.number)) same ∙ just_sent hold tick some in
+          now_left_out hold tick history number ps some ∙ sym (step g q ps false rests)
       | false ↦ λ other.
-      let differ : (number == q.number) ≡ false = ne_eqb number q.number (λ (e : number ≡ q.number). cc (eq-eqb q.number number (sym e))) in
-      let on : g q ≡ f q = ap (λ (b : Bool). has_passed hold tick (if b then Some tick else last_sent_again history q.number)) differ in
-      elim (f q) as (λ (y : Bool). f q ≡ y → filter f (q ∷ without number ps) ≡ filter g (q ∷ ps)) [
-        | true ↦ λ is. step f q (without number ps) true is ∙ ap (λ qs. q ∷ qs) (now_left_out hold tick history number ps some) ∙ sym (step g q ps true (on ∙ is))
-        | false ↦ λ is. step f q (without number ps) false is ∙ now_left_out hold tick history number ps some ∙ sym (step g q ps false (on ∙ is))
-      ] refl
+          let differ : (number == q.number) ≡ false = ne_eqb number q.number (λ (e : number ≡ q.number). cc (eq-eqb q.number number (sym e))) in
+          let on : g q ≡ f q = ap (λ (b : Bool). has_passed hold tick (if b then Some tick else last_sent_again history q.number)) differ in
+          elim (f q) as (λ (y : Bool). f q ≡ y → filter f (q ∷ without number ps) ≡ filter g (q ∷ ps)) [
+            | true ↦ λ is. step f q (without number ps) true is ∙ ap (λ qs. q ∷ qs) (now_left_out hold tick history number ps some) ∙ sym (step g q ps true (on ∙ is))
+            | false ↦ λ is. step f q (without number ps) false is ∙ now_left_out hold tick history number ps some ∙ sym (step g q ps false (on ∙ is))
+          ] refl
     ] refl
 
 abbrev found_by : List Packet → AskedNumber → Option Packet

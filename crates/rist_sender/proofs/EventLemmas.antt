@@ -1,21 +1,20 @@
 -- What a sender keeps after one more event.
-use Rattle.std.proofs.Common.{rules, ◌≡◌, ◌≢◌, ◌∙◌, ℕ, ◌+◌, ◌%◌, ◌^◌, ◌<◌, Bool, true, false, List, [], ◌∷◌, ◌++◌, length, set, get_or, Option, None, Some, refl, sym, ap, subst, arith}
+use Rattle.std.proofs.Common.{◌≡◌, ◌≢◌, ◌∙◌, ℕ, ◌+◌, ◌%◌, ◌^◌, ◌<◌, Bool, true, false, List, ◌∷◌, length, set, get_or, Option, None, Some, refl, sym, ap, subst, arith}
 use Rattle.std.specs.Prelude.{◌==◌, ◌||◌, ◌&&◌, max, if◌then◌else◌}
 use Rattle.std.proofs.lemmas.List.{get_or-set_other, get_or-set_same, length-set}
-use Rattle.std.proofs.lemmas.Bool.{eq-eqb, ne_eqb, eqb-true}
+use Rattle.std.proofs.lemmas.Bool.{eq-eqb, eqb-true}
 use Rattle.receiver_rules.specs.Steps.{tick_of}
-use Rattle.sender_rules.specs.Sendings.{Packet, Sending, First, Again, sent_packets}
+use Rattle.sender_rules.specs.Sendings.{Packet, First, Again}
 use Rattle.retransmit_store.specs.State.{StoreState, IsStoreAfter}
 use Rattle.rist_rtt.specs.Echo.{EchoOf}
 use Rattle.psk_seal.specs.declared.sealer.Pair.{Pair}
-use Rattle.psk_seal.specs.Sealer.{SealerState}
-use Rattle.rist_wire.specs.Writing.{next_pair, after_pair, is_spent}
+use Rattle.rist_wire.specs.Writing.{after_pair}
 use Rattle.rist_sender.specs.declared.answer.Answer.{Answer}
 use Rattle.rist_sender.specs.declared.answer.Answer.TheVariants.{Took, NoPeer, Failed}
 use Rattle.rist_sender.specs.Links.{is_failed}
-use Rattle.rist_sender.specs.Messages.{Message, Original, Retransmission, Report, RttAnswer, Alive, Status}
-use Rattle.rist_sender.specs.History.{Write, Event, Called, Sent, Wrote, effective_time, sendings_of, packet_count, octet_count, is_down, is_report, is_alive, last_time}
-use Rattle.rist_sender.specs.Calls.{Work, Due, called_at, without_pair, written_as, after_write, after_due, after_sent, with_event}
+use Rattle.rist_sender.specs.Messages.{Original, Retransmission, Report, RttAnswer, Alive, Status}
+use Rattle.rist_sender.specs.History.{Wrote, sendings_of, is_down, is_report, is_alive, last_time}
+use Rattle.rist_sender.specs.Calls.{Work, called_at, without_pair, written_as, after_write, after_sent, with_event}
 use Rattle.rist_sender.specs.Sender.{SenderState, IsSenderAfter}
 use Rattle.rist_sender.specs.Inside.Kept.{down_with}
 
@@ -42,11 +41,11 @@ down_noted link NoPeer down h long few had l lt = had l lt ∙ sym (ap (λ b. b 
 down_noted link Failed down h long few had l lt =
     elim (link == l) as (λ (x : Bool). (link == l) ≡ x → get_or (set down link true) l false ≡ ((x && true) || h l)) [
       | true ↦ λ yes.
-      let here : link ≡ l = eqb-true link l yes in
-      subst (λ (k : ℕ). get_or (set down link true) k false ≡ true) here (get_or-set_same down link true false (omega (arith, long, few)))
+          let here : link ≡ l = eqb-true link l yes in
+          subst (λ (k : ℕ). get_or (set down link true) k false ≡ true) here (get_or-set_same down link true false (omega (arith, long, few)))
       | false ↦ λ no.
-      let other : l ≢ link = λ (e : l ≡ link). cc (eq-eqb link l (sym e)) in
-      get_or-set_other down link l true false other ∙ had l lt
+          let other : l ≢ link = λ (e : l ≡ link). cc (eq-eqb link l (sym e)) in
+          get_or-set_other down link l true false other ∙ had l lt
     ] refl
 
 -- ---- when links last had something
@@ -57,11 +56,11 @@ pub time_noted : (link t : ℕ) (times : List (Option ℕ)) (h : ℕ → Option 
 time_noted link t times h long few had l lt =
     elim (link == l) as (λ (x : Bool). (link == l) ≡ x → get_or (set times link (Some t)) l None ≡ (if x && true then Some t else h l)) [
       | true ↦ λ yes.
-      let here : link ≡ l = eqb-true link l yes in
-      subst (λ (k : ℕ). get_or (set times link (Some t)) k None ≡ Some t) here (get_or-set_same times link (Some t) None (omega (arith, long, few)))
+          let here : link ≡ l = eqb-true link l yes in
+          subst (λ (k : ℕ). get_or (set times link (Some t)) k None ≡ Some t) here (get_or-set_same times link (Some t) None (omega (arith, long, few)))
       | false ↦ λ no.
-      let other : l ≢ link = λ (e : l ≡ link). cc (eq-eqb link l (sym e)) in
-      get_or-set_other times link l (Some t) None other ∙ had l lt
+          let other : l ≢ link = λ (e : l ≡ link). cc (eq-eqb link l (sym e)) in
+          get_or-set_other times link l (Some t) None other ∙ had l lt
     ] refl
 
 pub time_left : (link t : ℕ) (times : List (Option ℕ)) (h : ℕ → Option ℕ)

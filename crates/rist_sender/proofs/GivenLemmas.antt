@@ -1,10 +1,10 @@
 -- What links were given, one datagram after another.
-use Rattle.std.proofs.Common.{rules, ◌≡◌, ◌≢◌, ◌∙◌, ℕ, ◌<◌, Bool, true, false, List, [], ◌∷◌, ◌++◌, length, get_or, Option, None, Some, option_map, refl, sym, ap, subst, arith, append_assoc, append-nil}
+use Rattle.std.proofs.Common.{◌≡◌, ◌≢◌, ◌∙◌, ℕ, Bool, true, false, List, [], ◌∷◌, ◌++◌, length, get_or, Option, None, Some, option_map, refl, sym, ap, subst, arith, append_assoc, append-nil}
 use Rattle.std.specs.Prelude.{◌==◌, ◌||◌, if◌then◌else◌}
 use Rattle.std.specs.List.{AllByRecursion, list_any}
 use Rattle.std.proofs.lemmas.List.Folds.{list_any-append}
-use Rattle.std.proofs.lemmas.Bool.{eq-eqb, ne_eqb, eqb-true}
-use Rattle.outside_io.specs.Causes.{Rose, RoseWhere}
+use Rattle.std.proofs.lemmas.Bool.{eq-eqb, eqb-true}
+use Rattle.outside_io.specs.Causes.{RoseWhere}
 use Rattle.outside_io.specs.declared.channel.Channel.{Channel}
 use Rattle.outside_net.specs.Links.{Datagram}
 use Rattle.rist_wire.specs.declared.session.Session.{Session}
@@ -96,18 +96,18 @@ given_one {L} line flow session history w tried was is seen writes link d among 
     elim (w.link == link) as (λ (x : Bool). (w.link == link) ≡ x → IsGiven line (tried_on (tried_as flow session) link history)
     (tried_on (tried_as flow session) link history ++ (if x then tried_as flow session w ∷ [] else [])) (get_or was link d) (get_or is link d)) [
       | true ↦ λ yes.
-      let here : w.link ≡ link = eqb-true w.link link yes in
-      record {
-        gained = tried_as flow session w ∷ [];
-        more = refl;
-        delivers = subst (λ (t : Tried). Delivers line (t ∷ []) (get_or was link d) (get_or is link d)) seen
-            (subst (λ (k : ℕ). Delivers line (tried ∷ []) (get_or was k d) (get_or is k d)) here (writes.here d));
-      }
+          let here : w.link ≡ link = eqb-true w.link link yes in
+          record {
+            gained = tried_as flow session w ∷ [];
+            more = refl;
+            delivers = subst (λ (t : Tried). Delivers line (t ∷ []) (get_or was link d) (get_or is link d)) seen
+                (subst (λ (k : ℕ). Delivers line (tried ∷ []) (get_or was k d) (get_or is k d)) here (writes.here d));
+          }
       | false ↦ λ no.
-      let other : link ≢ w.link = λ (e : link ≡ w.link). cc (eq-eqb w.link link (sym e)) in
-      record {
-        gained = [];
-        more = refl;
-        delivers = subst (λ (x : L). Delivers line [] (get_or was link d) x) (sym (writes.others link d other)) (delivers_none line (get_or was link d));
-      }
+          let other : link ≢ w.link = λ (e : link ≡ w.link). cc (eq-eqb w.link link (sym e)) in
+          record {
+            gained = [];
+            more = refl;
+            delivers = subst (λ (x : L). Delivers line [] (get_or was link d) x) (sym (writes.others link d other)) (delivers_none line (get_or was link d));
+          }
     ] refl

@@ -1,8 +1,8 @@
 -- What a sender keeps true of the packets that it stores.
-use Rattle.std.proofs.Common.{rules, ◌≡◌, ◌∙◌, ℕ, zero, suc, ◌+◌, ◌%◌, ◌<◌, ◌≤◌, Bool, true, false, List, [], ◌∷◌, map, take, Option, None, Some, option_map, refl, sym, ap, subst, arith}
-use Rattle.std.specs.Prelude.{◌==◌, nat_le, if◌then◌else◌, IsSome}
-use Rattle.std.specs.List.{AllByRecursion, find}
-use Rattle.std.proofs.lemmas.Bool.{eq-eqb, ne_eqb, eqb-true}
+use Rattle.std.proofs.Common.{◌≡◌, ◌∙◌, ℕ, zero, suc, ◌+◌, ◌%◌, ◌<◌, ◌≤◌, Bool, true, false, List, [], ◌∷◌, take, Option, None, Some, option_map, refl, sym, ap, subst, arith}
+use Rattle.std.specs.Prelude.{◌==◌, if◌then◌else◌, IsSome}
+use Rattle.std.specs.List.{AllByRecursion}
+use Rattle.std.proofs.lemmas.Bool.{eq-eqb, eqb-true}
 use Rattle.std.proofs.lemmas.Bool.Decides.{nat_tests}
 use Rattle.std.proofs.lemmas.Grind.{common_steps}
 use Rattle.sender_rules.specs.Retransmissions.{has_passed}
@@ -44,16 +44,16 @@ word_found history (q ∷ ps) width word p is =
     elim (q.number % cycle_of width == word) as (λ (x : Bool). (if x then Some q else packet_for ps width word) ≡ Some p
     → IsSome (packet_with (q ∷ ps) p.number) × (stored_mark history (packet_with (q ∷ ps) p.number) ≡ last_sent_again history p.number)) [
       | true ↦ λ here.
-      let e : q ≡ p = cc here in
-      let same : (q.number == p.number) ≡ true = eq-eqb q.number p.number (ap (λ (x : Packet). x.number) e) in
-      rw same (refl, ap (λ (x : Packet). last_sent_again history x.number) e)
+          let e : q ≡ p = cc here in
+          let same : (q.number == p.number) ≡ true = eq-eqb q.number p.number (ap (λ (x : Packet). x.number) e) in
+          rw same (refl, ap (λ (x : Packet). last_sent_again history x.number) e)
       | false ↦ λ there.
-      let on = word_found history ps width word p there in
-      elim (q.number == p.number) as (λ (y : Bool). (q.number == p.number) ≡ y
-      → IsSome (if y then Some q else packet_with ps p.number) × (stored_mark history (if y then Some q else packet_with ps p.number) ≡ last_sent_again history p.number)) [
-        | true ↦ λ yes. (refl, ap (last_sent_again history) (eqb-true q.number p.number yes))
-        | false ↦ λ no. on
-      ] refl
+          let on = word_found history ps width word p there in
+          elim (q.number == p.number) as (λ (y : Bool). (q.number == p.number) ≡ y
+          → IsSome (if y then Some q else packet_with ps p.number) × (stored_mark history (if y then Some q else packet_with ps p.number) ≡ last_sent_again history p.number)) [
+            | true ↦ λ yes. (refl, ap (last_sent_again history) (eqb-true q.number p.number yes))
+            | false ↦ λ no. on
+          ] refl
     ] is
 
 -- the number of what was found
@@ -113,16 +113,16 @@ word_with (q ∷ ps) width word p is =
     elim (q.number % cycle_of width == word) as (λ (x : Bool). (q.number % cycle_of width == word) ≡ x → (if x then Some q else packet_for ps width word) ≡ Some p
     → packet_with (q ∷ ps) p.number ≡ Some p) [
       | true ↦ λ yes here.
-      let e : q ≡ p = cc here in
-      let same : (q.number == p.number) ≡ true = eq-eqb q.number p.number (ap (λ (x : Packet). x.number) e) in
-      rw same (ap Some e)
+          let e : q ≡ p = cc here in
+          let same : (q.number == p.number) ≡ true = eq-eqb q.number p.number (ap (λ (x : Packet). x.number) e) in
+          rw same (ap Some e)
       | false ↦ λ no there.
-      elim (q.number == p.number) as (λ (y : Bool). (q.number == p.number) ≡ y → (if y then Some q else packet_with ps p.number) ≡ Some p) [
-        | true ↦ λ yes.
-        let e : q.number ≡ p.number = eqb-true q.number p.number yes in
-        let right = found_word ps width word p there in
-        let wrong : (p.number % cycle_of width == word) ≡ false = subst (λ (n : ℕ). (n % cycle_of width == word) ≡ false) e no in
-        cc
-        | false ↦ λ other. word_with ps width word p there
-      ] refl
+          elim (q.number == p.number) as (λ (y : Bool). (q.number == p.number) ≡ y → (if y then Some q else packet_with ps p.number) ≡ Some p) [
+            | true ↦ λ yes.
+                let e : q.number ≡ p.number = eqb-true q.number p.number yes in
+                let right = found_word ps width word p there in
+                let wrong : (p.number % cycle_of width == word) ≡ false = subst (λ (n : ℕ). (n % cycle_of width == word) ≡ false) e no in
+                cc
+            | false ↦ λ other. word_with ps width word p there
+          ] refl
     ] refl is

@@ -5,4 +5,5 @@ pub mod GivenLemmas
 pub mod EventLemmas
 pub mod PutLemmas
 pub mod TurnLemmas
+pub mod LawLemmas
 mod Rows

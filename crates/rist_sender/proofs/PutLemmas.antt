@@ -1,5 +1,5 @@
 -- One datagram that was due, on a link that is up.
-use Rattle.std.proofs.Common.{rules, ◌≡◌, ◌∙◌, ℕ, ◌%◌, ◌^◌, ◌<◌, Bool, true, false, List, ◌∷◌, ◌++◌, length, set, get_or, Option, Some, refl, sym, ap, subst, arith}
+use Rattle.std.proofs.Common.{◌≡◌, ◌∙◌, ℕ, ◌%◌, ◌^◌, ◌<◌, Bool, true, false, List, ◌∷◌, ◌++◌, set, Option, Some, refl, sym, ap, subst, arith}
 use Rattle.outside_io.specs.declared.channel.Channel.{Channel}
 use Rattle.rtcp_compound.specs.Writing.{sr_octets, sdes_octets}
 use Rattle.psk_seal.specs.declared.sealer.Pair.{Pair}
@@ -11,9 +11,9 @@ use Rattle.rist_sender.specs.declared.answer.Answer.TheVariants.{Took}
 use Rattle.rist_wire.specs.declared.session.Session.{Session}
 use Rattle.rist_sender.specs.Links.{Line, Tried, WritesOn, is_failed}
 use Rattle.rist_sender.specs.Messages.{Message, Original, message_channel, message_datagram, report_octets, seconds_of, fraction_of, rtp_time_of}
-use Rattle.rist_sender.specs.History.{Event, Wrote, is_down, tried_as}
+use Rattle.rist_sender.specs.History.{Wrote, is_down, tried_as}
 use Rattle.rist_sender.specs.Calls.{Work, Due, Rules, with_event, without_pair, written_as, after_write, after_due, after_copy, is_settled, IfElse, Spreads}
-use Rattle.rist_sender.specs.Sender.{SenderState, IsSenderAfter, StaysSet, AreGiven, Does, rules_of}
+use Rattle.rist_sender.specs.Sender.{SenderState, IsSenderAfter, StaysSet, AreGiven, Does}
 use Rattle.rist_sender.specs.Inside.Puts.{PutsWith, PutsOn, IsPacketIn, CopiesOn}
 use Rattle.rist_sender.specs.Inside.Kept.{down_with}
 use Rattle.rist_sender.proofs.GivenLemmas.{given_none, given_one}
@@ -130,7 +130,7 @@ pub spread_on : (one : Bool) (tick : ℕ) (pair : Option Pair) (message : Messag
 spread_on one tick pair message link links from to last copies spreads = (
   copies.answer,
   subst (λ (b : Bool). IfElse b (last ≡ after_copy tick pair message link copies.answer from) (Spreads one tick pair message links (after_copy tick pair message link copies.answer from) last))
-  (sym copies.settles) (subst (λ (w : Work). Spreads one tick pair message links w last) copies.is spreads),
+      (sym copies.settles) (subst (λ (w : Work). Spreads one tick pair message links w last) copies.is spreads),
 )
 
 pub spread_end : (one : Bool) (tick : ℕ) (pair : Option Pair) (message : Message) (link : ℕ) (links : List ℕ) (from to : Work) → CopiesOn one tick pair message link true from to
@@ -138,7 +138,7 @@ pub spread_end : (one : Bool) (tick : ℕ) (pair : Option Pair) (message : Messa
 spread_end one tick pair message link links from to copies = (
   copies.answer,
   subst (λ (b : Bool). IfElse b (to ≡ after_copy tick pair message link copies.answer from) (Spreads one tick pair message links (after_copy tick pair message link copies.answer from) to))
-  (sym copies.settles) copies.is,
+      (sym copies.settles) copies.is,
 )
 
 -- another sender of the same flow and session

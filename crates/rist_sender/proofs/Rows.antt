@@ -1,5 +1,5 @@
 -- Worked runs, by the definitions.
-use Rattle.std.proofs.Common.{◌≡◌, ℕ, List, [], ◌∷◌, map, true, false, None, refl}
+use Rattle.std.proofs.Common.{◌≡◌, List, [], ◌∷◌, map, true, false, None, refl}
 use Rattle.std.specs.List.{range_with_len}
 use Rattle.sender_rules.specs.Bonding.{Duplicate, Share}
 use Rattle.rist_sender.specs.declared.answer.Answer.TheVariants.{Took, NoPeer, Failed}

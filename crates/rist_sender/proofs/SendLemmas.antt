@@ -1,5 +1,5 @@
 -- A payload's number, and its links.
-use Rattle.std.proofs.Common.{rules, ◌≡◌, ◌∙◌, ℕ, ◌+◌, ◌-◌, ◌%◌, ◌^◌, ◌<◌, ◌≤◌, Bool, true, false, List, [], ◌∷◌, ◌++◌, length, Option, None, Some, Err, Result, refl, sym, ap, subst, arith, append-nil}
+use Rattle.std.proofs.Common.{rules, ◌≡◌, ◌∙◌, ℕ, ◌+◌, ◌%◌, ◌^◌, ◌<◌, ◌≤◌, Bool, true, false, List, [], length, Option, Err, refl, sym, ap, subst, arith, append-nil}
 use Rattle.std.specs.Prelude.{◌||◌, nat_le}
 use Rattle.std.specs.List.{range_with_len}
 use Rattle.psk_seal.specs.declared.sealer.Pair.{Pair}
@@ -7,7 +7,6 @@ use Rattle.sender_rules.specs.Sendings.{Packet}
 use Rattle.sender_rules.specs.Bonding.{Bonding, Duplicate, Share, link_count, links_from}
 use Rattle.bond_links.specs.declared.plan.Plan.TheVariants.{All, One}
 use Rattle.bond_links.specs.Plans.{plan_of}
-use Rattle.retransmit_store.specs.State.{StoreState}
 use Rattle.rist_wire.specs.declared.session.Session.{Session}
 use Rattle.rist_wire.specs.Writing.{next_pair, after_pair, is_spent}
 use Rattle.rist_sender.specs.declared.send_bad.SendBad.{SendBad}
@@ -16,7 +15,7 @@ use Rattle.rist_sender.specs.Links.{Line}
 use Rattle.rist_sender.specs.Messages.{Message, Original}
 use Rattle.rist_sender.specs.History.{packet_count, effective_time}
 use Rattle.rist_sender.specs.Calls.{Work, Rules, without_pair, after_sent, is_ended, is_sharing, links_tried, packet_for, IfElse, Spreads, SendsPacket, SendsNext, IsAnswer}
-use Rattle.rist_sender.specs.Sender.{SenderState, IsSenderAfter, AreGiven, Does, rules_of}
+use Rattle.rist_sender.specs.Sender.{SenderState, AreGiven, Does}
 use Rattle.rist_sender.specs.Inside.Puts.{SpreadsOver}
 
 -- ---- the plan

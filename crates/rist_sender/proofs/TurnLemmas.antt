@@ -1,12 +1,12 @@
 -- Parts of calls, one after another.
-use Rattle.std.proofs.Common.{rules, ◌≡◌, ◌∙◌, ℕ, suc, ◌+◌, ◌-◌, ◌<◌, Bool, true, false, List, [], ◌∷◌, ◌++◌, length, refl, sym, ap, subst, arith}
+use Rattle.std.proofs.Common.{rules, ◌≡◌, ◌∙◌, ℕ, suc, ◌+◌, ◌-◌, ◌<◌, Bool, true, false, List, [], ◌∷◌, length, refl, sym, ap, subst, arith}
 use Rattle.std.specs.List.{range_with_len}
 use Rattle.rist_wire.specs.declared.session.Session.{Session}
 use Rattle.rist_wire.specs.Writing.{is_spent}
 use Rattle.rist_sender.specs.declared.answer.Answer.TheVariants.{Took}
 use Rattle.rist_sender.specs.Links.{Line}
 use Rattle.rist_sender.specs.History.{is_down, effective_time}
-use Rattle.rist_sender.specs.Calls.{Work, Due, Rules, called_at, without_pair, after_due, WritesInTurn, on_link, report_due, keepalive_due, TicksOn, TicksInTurn}
+use Rattle.rist_sender.specs.Calls.{Work, Due, Rules, called_at, without_pair, after_due, WritesInTurn, on_link, report_due, keepalive_due, TicksInTurn}
 use Rattle.rist_sender.specs.Sender.{SenderState, IsSenderAfter, StaysSet, AreGiven, Does, rules_of}
 use Rattle.rist_sender.proofs.GivenLemmas.{given_none, given_then}
 

@@ -1,13 +1,13 @@
 -- What a sender did, event by event. A history is a list of events, the newest first: in `event ∷ before`, `before` is all that
 -- came before.
-use Rattle.std.specs.Prelude.{ℕ, ◌+◌, max, List, [], ◌∷◌, ◌++◌, length, Bool, true, false, not, ◌&&◌, ◌||◌, ◌==◌, if◌then◌else◌, Option, None, Some}
+use Rattle.std.specs.Prelude.{ℕ, ◌+◌, max, List, [], ◌∷◌, ◌++◌, length, Bool, true, false, ◌&&◌, ◌||◌, ◌==◌, if◌then◌else◌, Option, None, Some}
 use Rattle.receiver_rules.specs.Steps.{tick_of}
 use Rattle.sender_rules.specs.Sendings.{Packet, Sending, First, Again, sent_packets}
 use Rattle.psk_seal.specs.declared.sealer.Pair.{Pair}
 use Rattle.rist_wire.specs.declared.session.Session.{Session}
 use Rattle.rist_sender.specs.declared.answer.Answer.{Answer}
 use Rattle.rist_sender.specs.Links.{Tried, is_failed}
-use Rattle.rist_sender.specs.Messages.{Message, Original, Retransmission, Report, RttAnswer, Alive, Status, message_channel, message_datagram}
+use Rattle.rist_sender.specs.Messages.{Message, Original, Retransmission, Report, RttAnswer, Alive, message_channel, message_datagram}
 
 -- a datagram that was written: its link, what it says, the pair under which it is enciphered if it is, the effective time of its
 -- call in ticks, and what became of it

@@ -1,6 +1,6 @@
 -- What a sender's datagrams say (RFC 3550, sections 5.1 and 6.4.1; VSF TR-06-1 for retransmissions; the answer to an RTT
 -- request and the keepalive are this profile's).
-use Rattle.std.specs.Prelude.{ℕ, ◌*◌, ◌/◌, ◌%◌, ◌^◌, Bool, true, false, not, List, [], ◌∷◌, ◌++◌, Option, None, Some}
+use Rattle.std.specs.Prelude.{ℕ, ◌*◌, ◌/◌, ◌%◌, ◌^◌, Bool, true, false, not, List, [], ◌∷◌, ◌++◌, Option}
 use Rattle.std.specs.List.{find}
 use Rattle.std.specs.Int.{w32, to_be_bytes}
 use Rattle.outside_io.specs.declared.channel.Channel.{Channel}

@@ -1,5 +1,5 @@
 -- Worked runs of a sender of flow 10203040 that stores 32 packets and holds each for 20 ms. Histories have the newest first.
-use Rattle.std.specs.Prelude.{ℕ, ◌+◌, zero, suc, List, [], ◌∷◌, map, Option, None, Some, Bool, false}
+use Rattle.std.specs.Prelude.{ℕ, ◌+◌, zero, suc, List, [], ◌∷◌, map, None, false}
 use Rattle.sender_rules.specs.Bonding.{Duplicate}
 use Rattle.sender_rules.specs.Sendings.{Packet}
 use Rattle.rtcp_compound.specs.Compound.{Content, receiver_report, feedback}

@@ -1,12 +1,11 @@
 -- What a contract sees of a sender.
-use Rattle.std.specs.Prelude.{◌≡◌, ◌<◌, ℕ, ◌+◌, ◌*◌, ◌%◌, ◌^◌, List, [], ◌++◌, slice_index_or, length, Option, None, Bool, true, false, not, ◌==◌}
+use Rattle.std.specs.Prelude.{◌≡◌, ◌<◌, ℕ, ◌%◌, ◌^◌, List, ◌++◌, slice_index_or, length, Option, None, Bool, true, false}
 use Rattle.outside_io.specs.declared.profile.Profile.{Profile}
 use Rattle.outside_io.specs.declared.profile.Profile.TheVariants as profiles
 use Rattle.sender_rules.specs.Bonding.{Bonding}
 use Rattle.retransmit_store.specs.State.{StoreState, IsStoreAfter}
 use Rattle.psk_seal.specs.Sealer.{SealerState}
 use Rattle.rist_wire.specs.declared.session.Session.{Session}
-use Rattle.rist_sender.specs.declared.settings.Settings.{Settings}
 use Rattle.rist_sender.specs.Links.{Line, Tried, Delivers}
 use Rattle.rist_sender.specs.History.{Event, effective_time, sendings_of, packet_count, octet_count, is_down, is_report, is_alive, last_time, tried_as, tried_on}
 use Rattle.rist_sender.specs.Calls.{Work, Rules}

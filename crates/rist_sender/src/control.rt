@@ -30,8 +30,10 @@ fn rtp_time_of(micros: u64) -> u32
 /// A report and a source description of the flow, at a moment in microseconds, after so many packets and octets of
 /// payload.
 pub(crate) fn report_of(flow: u32, micros: u64, packets: u64, octets: u32) -> CompoundOut
-    ensures packets { result.packets ≡ report_packets flow (record { micros = micros; packets = packets; octets = octets }) }
-    ensures octets { result.octets ≡ report_octets flow (record { micros = micros; packets = packets; octets = octets }) }
+    ensures packets { result.packets ≡ report_packets flow
+        (record { micros = micros; packets = packets; octets = octets }) }
+    ensures octets { result.octets ≡ report_octets flow
+        (record { micros = micros; packets = packets; octets = octets }) }
 {
     let mut out = CompoundOut::new();
     let sent = (packets % (1 << 32)) as u32;
@@ -60,10 +62,10 @@ pub(crate) fn answer_of(
     octets: u32,
     echo: &Echo<'_>,
 ) -> CompoundOut
-    ensures packets { result.packets ≡ answer_packets flow (record { micros = micros; packets = packets; octets = octets })
-        (echo_seen echo.now) }
-    ensures octets { result.octets ≡ answer_octets flow (record { micros = micros; packets = packets; octets = octets })
-        (echo_seen echo.now) }
+    ensures packets { result.packets ≡ answer_packets flow
+        (record { micros = micros; packets = packets; octets = octets }) (echo_seen echo.now) }
+    ensures octets { result.octets ≡ answer_octets flow
+        (record { micros = micros; packets = packets; octets = octets }) (echo_seen echo.now) }
 {
     let mut out = report_of(flow, micros, packets, octets);
     if put_answer(&mut out, echo, 0).is_err() {

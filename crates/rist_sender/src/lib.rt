@@ -4,6 +4,7 @@
 
 mod answer;
 mod control;
+pub mod laws;
 mod media;
 mod numbers;
 mod on_link;

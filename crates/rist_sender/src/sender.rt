@@ -16,8 +16,8 @@ use outside_net::Link;
 use psk_seal::{Sealer, Spent};
 use receiver_rules::tick_of;
 use retransmit_store::{Sent, Store};
-use rist_wire::{Session, Shutter};
 use rist_rtt::Echo;
+use rist_wire::{Session, Shutter};
 use rtcp_compound::Compound;
 use sender_rules::MAX_SENT_AGAIN;
 use std::alloc::{AllocError, Global};
@@ -106,8 +106,8 @@ impl Sender {
     ghost use Rattle.retransmit_store.specs.State.{packets_in, IsStoreAfter};
     ghost use Rattle.rist_sender.specs.declared.answer.Answer.{Answer};
 
-    /// A sender that was not called yet. All memory is taken here. A sealer is handed in exactly where the session has a
-    /// passphrase.
+    /// A sender that was not called yet. All memory is taken here. A sealer is handed in exactly where the session has
+    /// a passphrase.
     pub fn with(
         alloc: Global,
         settings: Settings,
@@ -119,9 +119,11 @@ impl Sender {
         requires hold { (1 ≤ settings.hold) × (settings.hold ≤ 1000) }
         requires session { IsSession session.now }
         requires paired { is_some sealer ≡ is_some session.now.pass }
-        ensures set { IfOk result (λ s. (s.flow ≡ settings.flow) × (s.first ≡ settings.first) × (s.hold ≡ 90 * settings.hold)
-            × (s.store.size ≡ settings.store) × (s.bonding ≡ settings.bond) × (s.session ≡ session.now)) }
-        ensures state { IfOk result (λ s. IsSenderAfter s (record { history = []; sealer = sealer; is_short = false })) }
+        ensures set { IfOk result (λ s. (s.flow ≡ settings.flow) × (s.first ≡ settings.first)
+            × (s.hold ≡ 90 * settings.hold) × (s.store.size ≡ settings.store)
+            × (s.bonding ≡ settings.bond) × (s.session ≡ session.now)) }
+        ensures state { IfOk result (λ s.
+            IsSenderAfter s (record { history = []; sealer = sealer; is_short = false })) }
     {
         let store = Store::with_size(alloc, settings.store)?;
         Ok(Sender {
@@ -232,14 +234,11 @@ impl Sender {
     }
 
     // Makes the datagram of a packet that is sent for the first time.
-    fn seal_first(
-        &mut self,
-        sent: &Sent,
-        out: &mut [u8; 2048],
-    ) -> Result<(Channel, usize), Spent>
+    fn seal_first(&mut self, sent: &Sent, out: &mut [u8; 2048]) -> Result<(Channel, usize), Spent>
         requires sendable { IsSendable self.old.session.nulls sent.now }
         ensures datagram { IfOk result (λ made. IsDatagram self.old.session (next_pair self.old.sealer) kinds.Media
-            (media_octets self.old.session.width (media_of self.old.flow false sent.now)) made.0 (take made.1 out.new)) }
+            (media_octets self.old.session.width (media_of self.old.flow false sent.now))
+            made.0 (take made.1 out.new)) }
         ensures within { IfOk result (λ made. made.1 ≤ 2048) }
         ensures state { OnOk result (self.new ≡ record self.old { sealer = after_pair self.old.sealer }) }
         ensures spent { is_err result ≡ is_spent self.old.sealer }
@@ -249,11 +248,7 @@ impl Sender {
     }
 
     // Makes the datagram of a stored packet that is sent again.
-    fn seal_again(
-        &mut self,
-        number: u64,
-        out: &mut [u8; 2048],
-    ) -> Result<(Channel, usize), Spent>
+    fn seal_again(&mut self, number: u64, out: &mut [u8; 2048]) -> Result<(Channel, usize), Spent>
         requires stored { IsSome (packet_with (packets_in self.old.store) number) }
         ensures datagram { (packet : Packet) → packet_with (packets_in self.old.store) number ≡ Some packet
             → IfOk result (λ made. IsDatagram self.old.session (next_pair self.old.sealer) kinds.Media
@@ -319,7 +314,8 @@ impl Sender {
         requires few { length links.old ≤ 16 }
         requires up { slice_index_or self.old.down link false ≡ false }
         ensures set { StaysSet self.old self.new }
-        ensures does { (from : Work) → IsSenderAfter self.old from → from.is_short ≡ false → Does (record { taken = L.taken; knows = L.knows; faults = L.faults; reads = L.reads; ends = L.ends; })
+        ensures does { (from : Work) → IsSenderAfter self.old from → from.is_short ≡ false → Does
+            (record { taken = L.taken; knows = L.knows; faults = L.faults; reads = L.reads; ends = L.ends })
             self.old self.new links.old links.new from (PutsOn self.old.time link
             (Report (status_at us from.history)) (is_err result) from) }
     {
@@ -341,7 +337,8 @@ impl Sender {
         requires up { slice_index_or self.old.down link false ≡ false }
         requires main { has_keepalives self.old.session.profile ≡ true }
         ensures set { StaysSet self.old self.new }
-        ensures does { (from : Work) → IsSenderAfter self.old from → from.is_short ≡ false → Does (record { taken = L.taken; knows = L.knows; faults = L.faults; reads = L.reads; ends = L.ends; })
+        ensures does { (from : Work) → IsSenderAfter self.old from → from.is_short ≡ false → Does
+            (record { taken = L.taken; knows = L.knows; faults = L.faults; reads = L.reads; ends = L.ends })
             self.old self.new links.old links.new from (PutsOn self.old.time link Alive (is_err result) from) }
     {
         let mut out = [0; 2048];
@@ -366,7 +363,8 @@ impl Sender {
         requires few { length links.old ≤ 16 }
         requires up { slice_index_or self.old.down link false ≡ false }
         ensures set { StaysSet self.old self.new }
-        ensures does { (from : Work) → IsSenderAfter self.old from → from.is_short ≡ false → Does (record { taken = L.taken; knows = L.knows; faults = L.faults; reads = L.reads; ends = L.ends; })
+        ensures does { (from : Work) → IsSenderAfter self.old from → from.is_short ≡ false → Does
+            (record { taken = L.taken; knows = L.knows; faults = L.faults; reads = L.reads; ends = L.ends })
             self.old self.new links.old links.new from (PutsOn self.old.time link
             (RttAnswer (status_at us from.history) (echo_seen echo.now)) (is_err result) from) }
     {
@@ -393,7 +391,8 @@ impl Sender {
         requires stored { IsSome (packet_with (packets_in self.old.store) number) }
         ensures set { StaysSet self.old self.new }
         ensures does { (from : Work) (packet : Packet) → IsSenderAfter self.old from → from.is_short ≡ false
-            → packet_with (packets_in self.old.store) number ≡ Some packet → packet.number ≡ number → Does (record { taken = L.taken; knows = L.knows; faults = L.faults; reads = L.reads; ends = L.ends; })
+            → packet_with (packets_in self.old.store) number ≡ Some packet → packet.number ≡ number → Does
+            (record { taken = L.taken; knows = L.knows; faults = L.faults; reads = L.reads; ends = L.ends })
             self.old self.new links.old links.new from (PutsAgain self.old.time link packet result from) }
     {
         let mut out = [0; 2048];
@@ -419,11 +418,14 @@ impl Sender {
         requires among { link < length links.old }
         requires few { length links.old ≤ 16 }
         ensures set { StaysSet self.old self.new }
-        ensures does { (from : Work) → IsSenderAfter self.old from → from.is_short ≡ false → Does (record { taken = L.taken; knows = L.knows; faults = L.faults; reads = L.reads; ends = L.ends; })
+        ensures does { (from : Work) → IsSenderAfter self.old from → from.is_short ≡ false → Does
+            (record { taken = L.taken; knows = L.knows; faults = L.faults; reads = L.reads; ends = L.ends })
             self.old self.new links.old links.new from (WritesDues (effective_time from.history)
             (on_link link (report_due us from.history link)) (is_err result) from) }
     {
-        if self.is_down(link) || !has_passed(REPORT_INTERVAL, self.time, self.reports[usize::from(link)]) {
+        if self.is_down(link)
+            || !has_passed(REPORT_INTERVAL, self.time, self.reports[usize::from(link)])
+        {
             return Ok(());
         }
         self.put_report(us, link, links)
@@ -434,11 +436,20 @@ impl Sender {
         requires among { link < length links.old }
         requires few { length links.old ≤ 16 }
         ensures set { StaysSet self.old self.new }
-        ensures does { (from : Work) → IsSenderAfter self.old from → from.is_short ≡ false → Does (record { taken = L.taken; knows = L.knows; faults = L.faults; reads = L.reads; ends = L.ends; })
+        ensures does { (from : Work) → IsSenderAfter self.old from → from.is_short ≡ false → Does
+            (record { taken = L.taken; knows = L.knows; faults = L.faults; reads = L.reads; ends = L.ends })
             self.old self.new links.old links.new from (WritesDues (effective_time from.history)
-            (on_link link (keepalive_due (has_keepalives self.old.session.profile) from.history link)) (is_err result) from) }
+            (on_link link (keepalive_due (has_keepalives self.old.session.profile) from.history link))
+            (is_err result) from) }
     {
-        if !self.alive || self.is_down(link) || !has_passed(KEEPALIVE_INTERVAL, self.time, self.keepalives[usize::from(link)]) {
+        if !self.alive
+            || self.is_down(link)
+            || !has_passed(
+                KEEPALIVE_INTERVAL,
+                self.time,
+                self.keepalives[usize::from(link)],
+            )
+        {
             return Ok(());
         }
         self.put_keepalive(link, links)
@@ -449,8 +460,10 @@ impl Sender {
         requires among { link < length links.old }
         requires few { length links.old ≤ 16 }
         ensures set { StaysSet self.old self.new }
-        ensures does { (from : Work) → IsSenderAfter self.old from → from.is_short ≡ false → Does (record { taken = L.taken; knows = L.knows; faults = L.faults; reads = L.reads; ends = L.ends; })
-            self.old self.new links.old links.new from (TicksLink (has_keepalives self.old.session.profile) us link (is_err result) from) }
+        ensures does { (from : Work) → IsSenderAfter self.old from → from.is_short ≡ false → Does
+            (record { taken = L.taken; knows = L.knows; faults = L.faults; reads = L.reads; ends = L.ends })
+            self.old self.new links.old links.new from
+            (TicksLink (has_keepalives self.old.session.profile) us link (is_err result) from) }
     {
         match self.tick_report(us, link, links) {
             Ok(()) => self.tick_keepalive(link, links),
@@ -462,7 +475,8 @@ impl Sender {
     fn tick_links<L: Link>(&mut self, us: u64, links: &mut [L]) -> Result<(), Spent>
         requires few { length links.old ≤ 16 }
         ensures set { StaysSet self.old self.new }
-        ensures does { (from : Work) → IsSenderAfter self.old from → from.is_short ≡ false → Does (record { taken = L.taken; knows = L.knows; faults = L.faults; reads = L.reads; ends = L.ends; })
+        ensures does { (from : Work) → IsSenderAfter self.old from → from.is_short ≡ false → Does
+            (record { taken = L.taken; knows = L.knows; faults = L.faults; reads = L.reads; ends = L.ends })
             self.old self.new links.old links.new from (TicksLinks (has_keepalives self.old.session.profile) us
             (range_with_len 0 (length links.old)) (is_err result) from) }
     {
@@ -495,7 +509,8 @@ impl Sender {
     pub fn tick<L: Link>(&mut self, us: u64, links: &mut [L]) -> Result<(), SendBad>
         requires links { length links.old ≡ link_count self.old.bonding }
         requires few { length links.old ≤ MAX_LINKS }
-        ensures work { (from : Work) → IsSenderAfter self.old from → Does (record { taken = L.taken; knows = L.knows; faults = L.faults; reads = L.reads; ends = L.ends; })
+        ensures work { (from : Work) → IsSenderAfter self.old from → Does
+            (record { taken = L.taken; knows = L.knows; faults = L.faults; reads = L.reads; ends = L.ends })
             self.old self.new links.old links.new from (Ticks (rules_of self.old) (length links.old) us result from) }
         ensures set { StaysSet self.old self.new }
     {
@@ -517,7 +532,8 @@ impl Sender {
         requires among { link < length links.old }
         requires few { length links.old ≤ 16 }
         ensures set { StaysSet self.old self.new }
-        ensures does { (from : Work) → IsSenderAfter self.old from → from.is_short ≡ false → Does (record { taken = L.taken; knows = L.knows; faults = L.faults; reads = L.reads; ends = L.ends; })
+        ensures does { (from : Work) → IsSenderAfter self.old from → from.is_short ≡ false → Does
+            (record { taken = L.taken; knows = L.knows; faults = L.faults; reads = L.reads; ends = L.ends })
             self.old self.new links.old links.new from (WritesDues (effective_time from.history)
             (on_link link (rtt_answer (status_at us from.history) (first_request compound.now))) (is_err result) from) }
     {
@@ -542,7 +558,8 @@ impl Sender {
         requires few { length links.old ≤ 16 }
         requires up { slice_index_or self.old.down link false ≡ false }
         ensures set { StaysSet self.old self.new }
-        ensures does { (from : Work) → IsSenderAfter self.old from → from.is_short ≡ false → Does (record { taken = L.taken; knows = L.knows; faults = L.faults; reads = L.reads; ends = L.ends; })
+        ensures does { (from : Work) → IsSenderAfter self.old from → from.is_short ≡ false → Does
+            (record { taken = L.taken; knows = L.knows; faults = L.faults; reads = L.reads; ends = L.ends })
             self.old self.new links.old links.new from (AnswersNumber self.old.store.size self.old.hold
             (effective_time from.history) link (number_seen asked) result from) }
     {
@@ -565,7 +582,8 @@ impl Sender {
         requires among { link < length links.old }
         requires few { length links.old ≤ 16 }
         ensures set { StaysSet self.old self.new }
-        ensures does { (from : Work) → IsSenderAfter self.old from → from.is_short ≡ false → Does (record { taken = L.taken; knows = L.knows; faults = L.faults; reads = L.reads; ends = L.ends; })
+        ensures does { (from : Work) → IsSenderAfter self.old from → from.is_short ≡ false → Does
+            (record { taken = L.taken; knows = L.knows; faults = L.faults; reads = L.reads; ends = L.ends })
             self.old self.new links.old links.new from (SendsAll (effective_time from.history)
             (on_link link (map Retransmission (packets_again (rules_of self.old) from.history compound.now)))
             result (is_err result) from) }
@@ -600,7 +618,8 @@ impl Sender {
         requires among { link < length links.old }
         requires few { length links.old ≤ 16 }
         ensures set { StaysSet self.old self.new }
-        ensures does { (from : Work) → IsSenderAfter self.old from → from.is_short ≡ false → Does (record { taken = L.taken; knows = L.knows; faults = L.faults; reads = L.reads; ends = L.ends; })
+        ensures does { (from : Work) → IsSenderAfter self.old from → from.is_short ≡ false → Does
+            (record { taken = L.taken; knows = L.knows; faults = L.faults; reads = L.reads; ends = L.ends })
             self.old self.new links.old links.new from (AnswersAll (rules_of self.old) us link compound.now
             result (is_err result) from) }
     {
@@ -610,11 +629,11 @@ impl Sender {
         }
     }
 
-    /// A compound came on a link, and is answered there, unless that link is down. First comes the answer to its first RTT
-    /// request. Then the stored packets that it asks for are sent again, in the order of its requests: of its first 65,536
-    /// numbers, each packet once and at most 256, but for those that were sent again within the hold time. The answer is
-    /// how many were sent again. `Spent` where the sealer had no pair for the next datagram, and else `LinksDown` where
-    /// every link is down.
+    /// A compound came on a link, and is answered there, unless that link is down. First comes the answer to its first
+    /// RTT request. Then the stored packets that it asks for are sent again, in the order of its requests: of its
+    /// first 65,536 numbers, each packet once and at most 256, but for those that were sent again within the hold
+    /// time. The answer is how many were sent again. `Spent` where the sealer had no pair for the next datagram, and
+    /// else `LinksDown` where every link is down.
     pub fn feedback<L: Link>(
         &mut self,
         us: u64,
@@ -625,7 +644,8 @@ impl Sender {
         requires among { link < length links.old }
         requires links { length links.old ≡ link_count self.old.bonding }
         requires few { length links.old ≤ MAX_LINKS }
-        ensures work { (from : Work) → IsSenderAfter self.old from → Does (record { taken = L.taken; knows = L.knows; faults = L.faults; reads = L.reads; ends = L.ends; })
+        ensures work { (from : Work) → IsSenderAfter self.old from → Does
+            (record { taken = L.taken; knows = L.knows; faults = L.faults; reads = L.reads; ends = L.ends })
             self.old self.new links.old links.new from
             (FeedsBack (rules_of self.old) (length links.old) us link compound.now result from) }
         ensures set { StaysSet self.old self.new }
@@ -655,8 +675,10 @@ impl Sender {
         ensures set { StaysSet self.old self.new }
         ensures time { self.new.time ≡ self.old.time }
         ensures does { (from : Work) (packet : Packet) (pair : Option Pair) → IsSenderAfter self.old from
-            → IsPacketIn self.old pair packet channel octets.now → Does (record { taken = L.taken; knows = L.knows; faults = L.faults; reads = L.reads; ends = L.ends; })
-            self.old self.new links.old links.new from (CopiesOn one self.old.time pair (Original packet) link result from) }
+            → IsPacketIn self.old pair packet channel octets.now → Does
+            (record { taken = L.taken; knows = L.knows; faults = L.faults; reads = L.reads; ends = L.ends })
+            self.old self.new links.old links.new from
+            (CopiesOn one self.old.time pair (Original packet) link result from) }
     {
         if self.is_down(link) {
             return false;
@@ -681,7 +703,8 @@ impl Sender {
         ensures set { StaysSet self.old self.new }
         ensures time { self.new.time ≡ self.old.time }
         ensures does { (from : Work) (packet : Packet) (pair : Option Pair) → IsSenderAfter self.old from
-            → IsPacketIn self.old pair packet channel octets.now → Does (record { taken = L.taken; knows = L.knows; faults = L.faults; reads = L.reads; ends = L.ends; })
+            → IsPacketIn self.old pair packet channel octets.now → Does
+            (record { taken = L.taken; knows = L.knows; faults = L.faults; reads = L.reads; ends = L.ends })
             self.old self.new links.old links.new from (SpreadsPart one self.old.time pair (Original packet)
             (range_with_len start (end - start)) result from) }
     {
@@ -699,7 +722,8 @@ impl Sender {
         requires few { length links.old ≤ 16 }
         ensures set { StaysSet self.old self.new }
         ensures does { (from : Work) (packet : Packet) (pair : Option Pair) → IsSenderAfter self.old from
-            → IsPacketIn self.old pair packet channel octets.now → Does (record { taken = L.taken; knows = L.knows; faults = L.faults; reads = L.reads; ends = L.ends; })
+            → IsPacketIn self.old pair packet channel octets.now → Does
+            (record { taken = L.taken; knows = L.knows; faults = L.faults; reads = L.reads; ends = L.ends })
             self.old self.new links.old links.new from (SpreadsAll (is_sharing self.old.bonding) self.old.time pair
             (Original packet) (links_tried self.old.bonding k) from) }
     {
@@ -722,7 +746,8 @@ impl Sender {
         requires links { length links.old ≡ link_count self.old.bonding }
         requires few { length links.old ≤ 16 }
         ensures set { StaysSet self.old self.new }
-        ensures does { (from : Work) → IsSenderAfter self.old from → from.is_short ≡ false → Does (record { taken = L.taken; knows = L.knows; faults = L.faults; reads = L.reads; ends = L.ends; })
+        ensures does { (from : Work) → IsSenderAfter self.old from → from.is_short ≡ false → Does
+            (record { taken = L.taken; knows = L.knows; faults = L.faults; reads = L.reads; ends = L.ends })
             self.old self.new links.old links.new from (SendsOne (rules_of self.old) payload.now (is_err result) from) }
     {
         let k = self.count;
@@ -742,20 +767,16 @@ impl Sender {
     }
 
     /// Sends a payload of at most 1,500 octets under the next number, with the effective time as its timestamp, and
-    /// stores it. Its datagram is made once, and goes on each link that isn't down, or on the one that its turn is; where
-    /// that is down, or its write fails, the next links are tried cyclically, each once. `Spent` where the sealer has no
-    /// pair left or the number would be 2^62: then nothing is written or stored. Else `LinksDown` where every link is
-    /// down: the payload counts as sent all the same.
-    pub fn send<L: Link>(
-        &mut self,
-        us: u64,
-        payload: &[u8],
-        links: &mut [L],
-    ) -> Result<(), SendBad>
+    /// stores it. Its datagram is made once, and goes on each link that isn't down, or on the one whose turn it is;
+    /// where that is down, or its write fails, the next links are tried cyclically, each once. `Spent` where the
+    /// sealer has no pair left or the number would be 2^62: then nothing is written or stored. Else `LinksDown` where
+    /// every link is down: the payload counts as sent all the same.
+    pub fn send<L: Link>(&mut self, us: u64, payload: &[u8], links: &mut [L]) -> Result<(), SendBad>
         requires payload { length payload.now ≤ 1500 }
         requires links { length links.old ≡ link_count self.old.bonding }
         requires few { length links.old ≤ MAX_LINKS }
-        ensures work { (from : Work) → IsSenderAfter self.old from → Does (record { taken = L.taken; knows = L.knows; faults = L.faults; reads = L.reads; ends = L.ends; })
+        ensures work { (from : Work) → IsSenderAfter self.old from → Does
+            (record { taken = L.taken; knows = L.knows; faults = L.faults; reads = L.reads; ends = L.ends })
             self.old self.new links.old links.new from
             (Sends (rules_of self.old) (length links.old) us payload.now result from) }
         ensures set { StaysSet self.old self.new }

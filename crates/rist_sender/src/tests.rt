@@ -126,13 +126,25 @@ fn a_compound_gets_what_it_asks_for_once_in_the_hold_time(rt: HostRuntime) -> Re
         assert_eq!(rt; flow.send(0, &[*letter]), Ok(()));
     }
     assert_eq!(rt; flow.feedback(0, 0, &ASKS_FOR_THREE)?, 2);
-    assert_eq!(rt; flow.took(0, 11), Some((Channel::Media, AGAIN_100.as_slice())));
-    assert_eq!(rt; flow.took(0, 12), Some((Channel::Media, AGAIN_101.as_slice())));
+    assert_eq!(rt;
+        flow.took(0, 11),
+        Some((Channel::Media, AGAIN_100.as_slice()))
+    );
+    assert_eq!(rt;
+        flow.took(0, 12),
+        Some((Channel::Media, AGAIN_101.as_slice()))
+    );
     assert_eq!(rt; flow.feedback(5_000, 0, &ASKS_FOR_THREE)?, 0);
     assert_eq!(rt; flow.took(0, 13), None);
     assert_eq!(rt; flow.feedback(20_000, 0, &ASKS_FOR_THREE)?, 2);
-    assert_eq!(rt; flow.took(0, 13), Some((Channel::Media, AGAIN_100.as_slice())));
-    assert_eq!(rt; flow.took(0, 14), Some((Channel::Media, AGAIN_101.as_slice())));
+    assert_eq!(rt;
+        flow.took(0, 13),
+        Some((Channel::Media, AGAIN_100.as_slice()))
+    );
+    assert_eq!(rt;
+        flow.took(0, 14),
+        Some((Channel::Media, AGAIN_101.as_slice()))
+    );
     assert_eq!(rt; flow.took(0, 15), None);
     Ok(())
 }
@@ -179,10 +191,14 @@ fn a_tick_reports_and_says_that_it_is_there(rt: HostRuntime) -> Result<(), Fail>
     assert_eq!(rt; flow.send(0, b"DE"), Ok(()));
     assert_eq!(rt; flow.tick(1_500_000), Ok(()));
     let report = [
-        0x80, 0xC8, 0, 6, 0x10, 0x20, 0x30, 0x40, 0, 0, 0, 1, 0x80, 0, 0, 0, 0, 2, 0x0F, 0x58, 0, 0, 0,
-        2, 0, 0, 0, 5, 0x81, 0xCA, 0, 3, 0x10, 0x20, 0x30, 0x40, 1, 4, 0x72, 0x69, 0x73, 0x74, 0, 0,
+        0x80, 0xC8, 0, 6, 0x10, 0x20, 0x30, 0x40, 0, 0, 0, 1, 0x80, 0, 0, 0, 0, 2, 0x0F, 0x58, 0,
+        0, 0, 2, 0, 0, 0, 5, 0x81, 0xCA, 0, 3, 0x10, 0x20, 0x30, 0x40, 1, 4, 0x72, 0x69, 0x73,
+        0x74, 0, 0,
     ];
-    assert_eq!(rt; flow.took(0, 2), Some((Channel::Control, report.as_slice())));
+    assert_eq!(rt;
+        flow.took(0, 2),
+        Some((Channel::Control, report.as_slice()))
+    );
     assert_eq!(rt; flow.tick(1_599_999), Ok(()));
     assert_eq!(rt; flow.took(0, 3), None);
     assert_eq!(rt; flow.tick(1_600_000), Ok(()));
@@ -190,7 +206,10 @@ fn a_tick_reports_and_says_that_it_is_there(rt: HostRuntime) -> Result<(), Fail>
     let mut flow = alone(rt.alloc(), Profile::Main, 0)?;
     assert_eq!(rt; flow.tick(0), Ok(()));
     let keepalive = [0, 0, 0x88, 0xB5, 2, 0, 0x10, 0x20, 0x30, 0x40, 0, 0];
-    assert_eq!(rt; flow.took(0, 1), Some((Channel::Tunnel, keepalive.as_slice())));
+    assert_eq!(rt;
+        flow.took(0, 1),
+        Some((Channel::Tunnel, keepalive.as_slice()))
+    );
     assert_eq!(rt; flow.took(0, 2), None);
     Ok(())
 }
@@ -201,15 +220,18 @@ fn a_request_for_the_round_trip_time_is_answered_first(rt: HostRuntime) -> Resul
     assert_eq!(rt; flow.send(0, b"A"), Ok(()));
     // A range NACK of 100, and then an RTT request at one second.
     let compound = [
-        0x80, 0xC9, 0, 1, 0, 0, 0, 7, 0x80, 0xCC, 0, 3, 0x10, 0x20, 0x30, 0x40, 0x52, 0x49, 0x53, 0x54, 0,
-        100, 0, 0, 0x82, 0xCC, 0, 5, 0x10, 0x20, 0x30, 0x40, 0x52, 0x49, 0x53, 0x54, 0, 0, 0, 0, 0, 0x0F,
-        0x42, 0x40, 0, 0, 0, 0,
+        0x80, 0xC9, 0, 1, 0, 0, 0, 7, 0x80, 0xCC, 0, 3, 0x10, 0x20, 0x30, 0x40, 0x52, 0x49, 0x53,
+        0x54, 0, 100, 0, 0, 0x82, 0xCC, 0, 5, 0x10, 0x20, 0x30, 0x40, 0x52, 0x49, 0x53, 0x54, 0, 0,
+        0, 0, 0, 0x0F, 0x42, 0x40, 0, 0, 0, 0,
     ];
     assert_eq!(rt; flow.feedback(0, 0, &compound)?, 1);
     let (channel, octets) = flow.took(0, 1).ok_or("an answer")?;
     assert_eq!(rt; (channel, octets.len()), (Channel::Control, 68));
     assert_eq!(rt; octets[44], 0x83);
     assert_eq!(rt; &octets[45..], &compound[25..]);
-    assert_eq!(rt; flow.took(0, 2), Some((Channel::Media, AGAIN_100.as_slice())));
+    assert_eq!(rt;
+        flow.took(0, 2),
+        Some((Channel::Media, AGAIN_100.as_slice()))
+    );
     Ok(())
 }

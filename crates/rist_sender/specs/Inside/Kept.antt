@@ -1,7 +1,6 @@
 -- What a sender keeps true of its parts.
-use Rattle.std.specs.Prelude.{◌≡◌, ◌<◌, ◌≤◌, ℕ, ◌+◌, ◌%◌, ◌^◌, List, set, length, Bool, true, Option, IsSome, IfSome, is_some}
+use Rattle.std.specs.Prelude.{◌≡◌, ◌<◌, ◌≤◌, ℕ, ◌+◌, ◌%◌, ◌^◌, List, set, length, Bool, true, IsSome, is_some}
 use Rattle.std.specs.List.{AllByRecursion}
-use Rattle.ts_nulls.specs.Shape.{IsShape}
 use Rattle.sender_rules.specs.Sendings.{Packet}
 use Rattle.retransmit_store.specs.State.{StoreState, packets_in, IsNext}
 use Rattle.rist_wire.specs.Session.{IsSession}

@@ -14,7 +14,7 @@ use Rattle.outside_io.specs.declared.channel.Channel.{Channel}
 use Rattle.rist_sender.specs.Messages.{Message, Original, Retransmission, message_channel, message_datagram}
 use Rattle.rist_sender.specs.Sender.{SenderState}
 use Rattle.rist_sender.specs.History.{sendings_of, effective_time, again_count}
-use Rattle.rist_sender.specs.Calls.{Work, Due, Rules, after_due, on_link, AnswersOn, SendsNext, after_copy, is_settled, IfElse, Spreads, WritesInTurn, TicksOn, TicksInTurn}
+use Rattle.rist_sender.specs.Calls.{Work, Due, Rules, after_due, on_link, AnswersOn, SendsNext, after_copy, is_settled, Spreads, WritesInTurn, TicksOn, TicksInTurn}
 use Rattle.rist_sender.specs.Inside.Numbers.{number_again}
 
 -- whether it came to a datagram without a pair

@@ -1,4 +1,4 @@
-use Rattle.std.proofs.Common.{◌≡◌, sym, ap, subst, refl, arith}
+use Rattle.std.proofs.Common.{sym, ap, subst, arith}
 use Rattle.std.specs.Prelude.{is_ok}
 use Rattle.ts_nulls.proofs.LawLemmas.{restoring-stripped, told-stripped}
 use Rattle.rist_sender.specs.Inside.Kept.{IsSendable}

@@ -1,9 +1,7 @@
-use Rattle.std.proofs.Common.{◌≡◌, ◌∙◌, ℕ, Bool, false, true, List, map, refl, sym, ap, subst}
-use Rattle.rtcp_compound.specs.Compound.{Content}
+use Rattle.std.proofs.Common.{map, refl, subst}
 use Rattle.rist_sender.specs.Messages.{Retransmission, first_request}
-use Rattle.rist_sender.specs.History.{effective_time, again_count}
-use Rattle.rist_sender.specs.Calls.{Work, Rules, status_at, WritesInTurn, on_link, packets_again}
-use Rattle.rist_sender.specs.Inside.Puts.{CountsAgain}
+use Rattle.rist_sender.specs.History.{effective_time}
+use Rattle.rist_sender.specs.Calls.{Rules, status_at, WritesInTurn, on_link, packets_again}
 use Rattle.rist_sender.proofs.AgainLemmas.{request_count, counts_from}
 use Rattle.rist_sender.proofs.TurnLemmas.{does_then, does_weaker, writes_short}
 use Rattle.rist_sender.proofs.sender.Sender.answer_compound.Goals as goal

@@ -1,14 +1,13 @@
-use Rattle.std.proofs.Common.{◌≡◌, ◌∙◌, ℕ, Bool, false, true, List, Some, refl, sym, ap, subst}
-use Rattle.sender_rules.specs.Sendings.{Packet, last_sent_again}
+use Rattle.std.proofs.Common.{◌≡◌, ◌∙◌, ℕ, false, true, Some, sym, ap, subst}
+use Rattle.sender_rules.specs.Sendings.{last_sent_again}
 use Rattle.sender_rules.specs.Retransmissions.{has_passed}
 use Rattle.sender_rules.specs.Stored.{stored_packets, packet_with, packet_for}
 use Rattle.retransmit_store.specs.State.{packets_in}
 use Rattle.retransmit_store.proofs.HistoryLemmas.{stored_are}
-use Rattle.rist_sender.specs.History.{sendings_of, effective_time}
+use Rattle.rist_sender.specs.History.{sendings_of}
 use Rattle.rist_sender.specs.Messages.{Retransmission}
 use Rattle.rist_sender.specs.declared.answer.Answer.TheVariants.{Took}
 use Rattle.rist_sender.specs.Inside.Puts.{PutsWith}
-use Rattle.rist_sender.specs.Inside.Numbers.{number_again}
 use Rattle.rist_sender.proofs.KeptLemmas.{again_found, word_with}
 use Rattle.rist_sender.proofs.TurnLemmas.{does_weaker}
 use Rattle.rist_sender.proofs.sender.Sender.answer_number.Goals as goal

@@ -1,4 +1,4 @@
-use Rattle.std.proofs.Common.{◌≡◌, ◌∙◌, ◌<◌, true, false, refl, sym, ap, arith}
+use Rattle.std.proofs.Common.{◌∙◌, ◌<◌, sym, ap, arith}
 use Rattle.std.specs.Prelude.{not, ◌&&◌}
 use Rattle.rist_sender.specs.Links.{is_failed}
 use Rattle.rist_sender.proofs.PutLemmas.{copy_made}

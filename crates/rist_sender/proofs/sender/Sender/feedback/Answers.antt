@@ -1,6 +1,6 @@
-use Rattle.std.proofs.Common.{◌≡◌, ℕ, ◌+◌, List, length, Ok, Err, Result, refl, subst}
+use Rattle.std.proofs.Common.{◌≡◌, ℕ, ◌+◌, length, Err, refl, subst}
 use Rattle.rist_sender.specs.History.{again_count}
-use Rattle.rist_sender.specs.Calls.{Work, Rules, called_at, AnswersOn, IsAnswer, IsUp}
+use Rattle.rist_sender.specs.Calls.{Rules, called_at, AnswersOn, IsAnswer, IsUp}
 use Rattle.rist_sender.proofs.TurnLemmas.{does_call}
 use Rattle.rist_sender.proofs.SendLemmas.{answer_err}
 use Rattle.rist_sender.proofs.sender.Sender.feedback.Goals as goal
@@ -11,11 +11,11 @@ returns-in-Ok-check_up-clause-work g c = λ from stands.
     does_call _ c.args.self.now c.begin.new.self c.answer_compound.new.self c.args.links.now c.answer_compound.new.links from c.args.us _ _ c.begin.ensures.same c.begin.ensures.session
     (c.in-Ok.ensures.does (called_at c.args.us from) begun refl)
     (λ to after fact.
-      let up = c.in-Ok-check_up.ensures.answer to after fact.ends.pair in
-      record {
-        writes = subst (λ (r : Rules). AnswersOn r c.args.us c.args.link c.args.compound.now (called_at c.args.us from) to) c.begin.ensures.same fact.answers;
-        answer = (up.0, subst (λ (n : ℕ). IsUp n to.history) c.answer_compound.auto.links up.1, fact.counts);
-      })
+    let up = c.in-Ok-check_up.ensures.answer to after fact.ends.pair in
+    record {
+      writes = subst (λ (r : Rules). AnswersOn r c.args.us c.args.link c.args.compound.now (called_at c.args.us from) to) c.begin.ensures.same fact.answers;
+      answer = (up.0, subst (λ (n : ℕ). IsUp n to.history) c.answer_compound.auto.links up.1, fact.counts);
+    })
 
 pub returns-in-Err-check_up-clause-work : goal.returns-in-Err-check_up-clause-work
 returns-in-Err-check_up-clause-work g c = λ from stands.

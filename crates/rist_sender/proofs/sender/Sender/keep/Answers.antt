@@ -1,6 +1,6 @@
-use Rattle.std.proofs.Common.{◌≡◌, ℕ, ◌+◌, ◌∷◌, None, sym, ap, subst, arith}
+use Rattle.std.proofs.Common.{◌≡◌, ◌+◌, ◌∷◌, None, sym, ap, subst, arith}
 use Rattle.std.specs.List.{AllByRecursion}
-use Rattle.retransmit_store.specs.State.{StoreState, IsNext, packets_in}
+use Rattle.retransmit_store.specs.State.{IsNext, packets_in}
 use Rattle.rist_sender.specs.Inside.Kept.{IsSendable}
 use Rattle.rist_sender.specs.Sender.{SenderState}
 use Rattle.rist_sender.proofs.KeptLemmas.{all_taken}

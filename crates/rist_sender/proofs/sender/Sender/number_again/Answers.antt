@@ -1,4 +1,4 @@
-use Rattle.std.proofs.Common.{◌≡◌, ◌∙◌, ◌+◌, ◌<◌, ◌≤◌, None, Some, Option, ℕ, sym, ap, subst, arith}
+use Rattle.std.proofs.Common.{◌≡◌, ◌∙◌, ◌+◌, ◌<◌, ◌≤◌, None, Some, Option, ℕ, sym, subst, arith}
 use Rattle.std.specs.Prelude.{IsSome}
 use Rattle.sender_rules.specs.Stored.{stored_packets, packet_with, packet_for}
 use Rattle.retransmit_store.specs.State.{IsStoreAfter, packets_in}

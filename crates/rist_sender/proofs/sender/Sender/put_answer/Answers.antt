@@ -1,22 +1,16 @@
-use Rattle.std.proofs.Common.{◌≡◌, ◌∙◌, ℕ, ◌<◌, ◌++◌, Bool, false, true, List, Option, refl, sym, ap, subst, arith}
+use Rattle.std.proofs.Common.{◌≡◌, ◌∙◌, ◌<◌, ◌++◌, false, true, Option, refl, sym, ap, subst, arith}
 use Rattle.psk_seal.specs.declared.sealer.Pair.{Pair}
 use Rattle.rist_wire.specs.Writing.{next_pair, is_spent}
 use Rattle.rist_wire.specs.Datagrams.{datagram_of}
 use Rattle.rist_wire.specs.declared.item.Kind.TheVariants as kinds
 use Rattle.rist_rtt.specs.Echo.{echo_seen, response_octets}
-use Rattle.keepalive_msg.specs.Keepalive.{spelling as keepalive_spelling}
-use Rattle.keepalive_msg.specs.Writing.{message_of as keepalive_of}
-use Rattle.rist_wire.specs.Packets.{media_octets}
-use Rattle.sender_rules.specs.Sendings.{Packet, Again}
-use Rattle.retransmit_store.specs.State.{IsStoreAfter}
 use Rattle.rist_sender.specs.declared.answer.Answer.TheVariants.{Took}
-use Rattle.rist_sender.specs.Messages.{Report, RttAnswer, Alive, Retransmission, report_octets, answer_octets, message_octets, message_datagram, media_of}
-use Rattle.rist_sender.specs.History.{is_down, packet_count, octet_count, sendings_of}
+use Rattle.rist_sender.specs.Messages.{RttAnswer, answer_octets, message_datagram}
+use Rattle.rist_sender.specs.History.{packet_count, octet_count}
 use Rattle.rist_sender.specs.Calls.{status_at, after_write}
 use Rattle.rist_sender.specs.Sender.{SenderState, IsSenderAfter}
-use Rattle.rist_sender.specs.Inside.Puts.{PutsOn}
-use Rattle.rist_sender.proofs.EventLemmas.{report_after, rtt_after, alive_after, again_after}
-use Rattle.rist_sender.proofs.PutLemmas.{put_short, put_made, sealed_written, then_report, then_keepalive, status_same, does_some}
+use Rattle.rist_sender.proofs.EventLemmas.{rtt_after}
+use Rattle.rist_sender.proofs.PutLemmas.{put_short, put_made, sealed_written, status_same, does_some}
 use Rattle.rist_sender.proofs.sender.Sender.put_answer.Goals as goal
 
 pub returns-in-Err-clause-does : goal.returns-in-Err-clause-does

@@ -1,4 +1,4 @@
-use Rattle.std.proofs.Common.{◌≡◌, sym, ap, subst, arith}
+use Rattle.std.proofs.Common.{sym}
 use Rattle.retransmit_store.specs.State.{packets_in}
 use Rattle.rist_sender.specs.Inside.Kept.{IsSendable}
 use Rattle.rist_sender.proofs.KeptLemmas.{all_with}

@@ -1,5 +1,5 @@
-use Rattle.std.proofs.Common.{◌≡◌, ℕ, List, length, refl, subst}
-use Rattle.rist_sender.specs.Calls.{Work, Rules, called_at, SendsNext, IsAnswer}
+use Rattle.std.proofs.Common.{ℕ, refl, subst}
+use Rattle.rist_sender.specs.Calls.{Rules, called_at, SendsNext, IsAnswer}
 use Rattle.rist_sender.proofs.TurnLemmas.{does_call}
 use Rattle.rist_sender.proofs.sender.Sender.send.Goals as goal
 

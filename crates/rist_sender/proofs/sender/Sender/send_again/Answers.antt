@@ -1,5 +1,5 @@
-use Rattle.std.proofs.Common.{◌≡◌, ◌∙◌, ℕ, suc, ◌+◌, ◌-◌, ◌<◌, ◌≤◌, Bool, false, true, List, [], ◌∷◌, take, Ok, Err, Some, None, refl, sym, ap, subst, arith}
-use Rattle.std.specs.Prelude.{Option, if◌then◌else◌}
+use Rattle.std.proofs.Common.{◌≡◌, ◌∙◌, ℕ, suc, ◌+◌, ◌-◌, ◌<◌, ◌≤◌, false, true, [], ◌∷◌, take, Ok, refl, sym, ap, subst, arith}
+use Rattle.std.specs.Prelude.{Option}
 use Rattle.psk_seal.specs.declared.sealer.Spent.{Spent}
 use Rattle.sender_rules.specs.declared.bounds.TheConstants.{MAX_LOOKED_AT}
 use Rattle.rist_sender.specs.declared.answer.Answer.{Answer}
@@ -9,7 +9,7 @@ use Rattle.rist_sender.specs.History.{effective_time, is_down}
 use Rattle.rist_sender.specs.Calls.{Rules, asked_numbers}
 use Rattle.rist_sender.specs.Sender.{SenderState, rules_of}
 use Rattle.rist_sender.specs.Inside.Numbers.{number_seen}
-use Rattle.rist_sender.specs.Inside.Puts.{AnswersBefore, AnswersNumber, SendsAgain}
+use Rattle.rist_sender.specs.Inside.Puts.{AnswersBefore, AnswersNumber}
 use Rattle.rist_sender.proofs.AgainLemmas.{ends_empty, ends_full, ends_down, ends_short, goes_none, goes_some, sends_all, leaves_same, sends_same, before_more, before_left, at_most_one}
 use Rattle.rist_sender.proofs.TurnLemmas.{does_none, does_then, does_weaker, stays_then}
 use Rattle.rist_sender.proofs.sender.Sender.send_again.Goals as goal
@@ -48,7 +48,7 @@ returns-then-left-eq0-clause-does g c = λ from stands fresh.
         writes = sends_all (rules_of old) link c.args.compound.now all from d.to all_is (elim c.then-left-eq0.branch [
           | then-left-eq0-via-then-left-eq0 w ↦ ends_full size hold t link loop.count loop.left loop.numbers all from d.to (omega arith) d.fact
           | then-left-eq0-via-else-left-eq0+then-is_down w ↦
-          ends_down size hold t link loop.count loop.left loop.numbers all from d.to (sym (d.stands.down link few) ∙ sym w.is_down.ensures.value ∙ w.if-is_down.true) d.fact
+              ends_down size hold t link loop.count loop.left loop.numbers all from d.to (sym (d.stands.down link few) ∙ sym w.is_down.ensures.value ∙ w.if-is_down.true) d.fact
         ]);
         ends = d.fact.ends;
         counts = d.fact.counts;
@@ -74,15 +74,15 @@ loop-asked-preserved-in-Ok-None g c =
       set = stays_then old loop.self c.answer_number.new.self loop.invariant.set c.answer_number.ensures.set;
       few = loop.invariant.few;
       does = λ from stands fresh.
-      let d = loop.invariant.does from stands fresh in
-      let t = effective_time from.history in
-      does_then _ old loop.self c.answer_number.new.self c.args.links.now loop.links c.answer_number.new.links from _ _ _ loop.invariant.same loop.invariant.set d
-      (c.in-Ok-None.ensures.does d.to d.stands d.fact.ends.pair)
-      (λ to fact.
-        let leaves = leaves_same loop.self.store.size size loop.self.hold hold (effective_time d.to.history) t n d.to to sized held d.fact.time
-        (subst (λ (o : Option Answer). AnswersNumber {E = Spent} loop.self.store.size loop.self.hold (effective_time d.to.history) link n (Ok o) d.to to) c.in-Ok-None.field-0-is fact) in
-        goes_none size hold t link loop.count loop.left n ns all from d.to to
-        (before_more size hold t link loop.count loop.left loop.numbers (n ∷ ns) all from d.to c.in-Some.ensures.steps d.fact) leaves);
+          let d = loop.invariant.does from stands fresh in
+          let t = effective_time from.history in
+          does_then _ old loop.self c.answer_number.new.self c.args.links.now loop.links c.answer_number.new.links from _ _ _ loop.invariant.same loop.invariant.set d
+          (c.in-Ok-None.ensures.does d.to d.stands d.fact.ends.pair)
+          (λ to fact.
+          let leaves = leaves_same loop.self.store.size size loop.self.hold hold (effective_time d.to.history) t n d.to to sized held d.fact.time
+          (subst (λ (o : Option Answer). AnswersNumber {E = Spent} loop.self.store.size loop.self.hold (effective_time d.to.history) link n (Ok o) d.to to) c.in-Ok-None.field-0-is fact) in
+          goes_none size hold t link loop.count loop.left n ns all from d.to to
+          (before_more size hold t link loop.count loop.left loop.numbers (n ∷ ns) all from d.to c.in-Some.ensures.steps d.fact) leaves);
     }
 
 pub loop-asked-preserved : goal.loop-asked-preserved
@@ -105,19 +105,19 @@ loop-asked-preserved g c =
       set = stays_then old loop.self c.answer_number.new.self loop.invariant.set c.answer_number.ensures.set;
       few = omega (arith, c.counted-count.ensures.value, at_most_one (is_failed a), loop.invariant.few, less);
       does = λ from stands fresh.
-      let d = loop.invariant.does from stands fresh in
-      let t = effective_time from.history in
-      does_then _ old loop.self c.answer_number.new.self c.args.links.now loop.links c.answer_number.new.links from _ _ _ loop.invariant.same loop.invariant.set d
-      (c.in-Ok-Some.ensures.does d.to d.stands d.fact.ends.pair)
-      (λ to fact.
-        let few : link < 16 = omega arith in
-        let up : is_down d.to.history link ≡ false = sym (d.stands.down link few) ∙ sym c.is_down.ensures.value ∙ c.if-is_down.false in
-        let sends = sends_same loop.self.store.size size loop.self.hold hold (effective_time d.to.history) t link n a false d.to to sized held d.fact.time
-        (subst (λ (o : Option Answer). AnswersNumber {E = Spent} loop.self.store.size loop.self.hold (effective_time d.to.history) link n (Ok o) d.to to) c.in-Ok-Some.field-0-is fact) in
-        subst (λ (k : ℕ). AnswersBefore size hold t link (loop.count + k) (loop.left - 1) ns all from to) (sym c.counted-count.ensures.value)
-        (goes_some size hold t link loop.count (loop.left - 1) n ns all from d.to to a some
-        (before_left size hold t link loop.count loop.left (suc (loop.left - 1)) (n ∷ ns) all from d.to less
-        (before_more size hold t link loop.count loop.left loop.numbers (n ∷ ns) all from d.to c.in-Some.ensures.steps d.fact)) up sends));
+          let d = loop.invariant.does from stands fresh in
+          let t = effective_time from.history in
+          does_then _ old loop.self c.answer_number.new.self c.args.links.now loop.links c.answer_number.new.links from _ _ _ loop.invariant.same loop.invariant.set d
+          (c.in-Ok-Some.ensures.does d.to d.stands d.fact.ends.pair)
+          (λ to fact.
+          let few : link < 16 = omega arith in
+          let up : is_down d.to.history link ≡ false = sym (d.stands.down link few) ∙ sym c.is_down.ensures.value ∙ c.if-is_down.false in
+          let sends = sends_same loop.self.store.size size loop.self.hold hold (effective_time d.to.history) t link n a false d.to to sized held d.fact.time
+          (subst (λ (o : Option Answer). AnswersNumber {E = Spent} loop.self.store.size loop.self.hold (effective_time d.to.history) link n (Ok o) d.to to) c.in-Ok-Some.field-0-is fact) in
+          subst (λ (k : ℕ). AnswersBefore size hold t link (loop.count + k) (loop.left - 1) ns all from to) (sym c.counted-count.ensures.value)
+          (goes_some size hold t link loop.count (loop.left - 1) n ns all from d.to to a some
+          (before_left size hold t link loop.count loop.left (suc (loop.left - 1)) (n ∷ ns) all from d.to less
+          (before_more size hold t link loop.count loop.left loop.numbers (n ∷ ns) all from d.to c.in-Some.ensures.steps d.fact)) up sends));
     }
 
 pub returns-in-Err-clause-does : goal.returns-in-Err-clause-does
@@ -141,15 +141,15 @@ returns-in-Err-clause-does g c = λ from stands fresh.
     does_then _ old loop.self c.answer_number.new.self c.args.links.now loop.links c.answer_number.new.links from _ _ _ loop.invariant.same loop.invariant.set d
     (c.in-Err.ensures.does d.to d.stands d.fact.ends.pair)
     (λ to fact.
-      let sends = sends_same loop.self.store.size size loop.self.hold hold (effective_time d.to.history) t link n Took true d.to to sized held d.fact.time fact in
-      record {
-        writes = sends_all (rules_of old) link c.args.compound.now all from to all_is
-            (ends_short size hold t link loop.count (loop.left - 1) n ns all from d.to to some
-            (before_left size hold t link loop.count loop.left (suc (loop.left - 1)) (n ∷ ns) all from d.to less
-            (before_more size hold t link loop.count loop.left loop.numbers (n ∷ ns) all from d.to c.in-Some.ensures.steps d.fact)) sends);
-        ends = sends.puts.ends;
-        counts = tt;
-      })
+    let sends = sends_same loop.self.store.size size loop.self.hold hold (effective_time d.to.history) t link n Took true d.to to sized held d.fact.time fact in
+    record {
+      writes = sends_all (rules_of old) link c.args.compound.now all from to all_is
+          (ends_short size hold t link loop.count (loop.left - 1) n ns all from d.to to some
+          (before_left size hold t link loop.count loop.left (suc (loop.left - 1)) (n ∷ ns) all from d.to less
+          (before_more size hold t link loop.count loop.left loop.numbers (n ∷ ns) all from d.to c.in-Some.ensures.steps d.fact)) sends);
+      ends = sends.puts.ends;
+      counts = tt;
+    })
 
 pub returns-clause-does : goal.returns-clause-does
 returns-clause-does g c = λ from stands fresh.

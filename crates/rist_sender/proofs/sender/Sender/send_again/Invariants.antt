@@ -1,7 +1,7 @@
 -- the numbers so far were answered
 use Rattle.std.proofs.Common.{◌≡◌, ◌≤◌, ◌+◌, false, length}
 use Rattle.rist_sender.specs.History.{effective_time}
-use Rattle.rist_sender.specs.Calls.{Work, asked_numbers}
+use Rattle.rist_sender.specs.Calls.{Work}
 use Rattle.rist_sender.specs.Sender.{IsSenderAfter, StaysSet, Does}
 use Rattle.rist_sender.specs.Inside.Puts.{AnswersBefore}
 use Rattle.rist_sender.proofs.sender.Sender.send_again.Given as goal

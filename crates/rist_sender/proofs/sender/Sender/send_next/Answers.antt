@@ -1,6 +1,6 @@
-use Rattle.std.proofs.Common.{◌≡◌, ◌∙◌, ℕ, ◌+◌, ◌<◌, ◌≤◌, ◌^◌, Bool, true, false, List, length, refl, sym, ap, subst, arith}
+use Rattle.std.proofs.Common.{◌≡◌, ◌∙◌, ℕ, ◌+◌, ◌<◌, ◌≤◌, ◌^◌, Bool, true, false, length, refl, sym, ap, subst, arith}
 use Rattle.rist_sender.specs.Sender.{SenderState, IsSenderAfter, rules_of}
-use Rattle.rist_sender.specs.Calls.{Work, without_pair, after_sent, packet_for}
+use Rattle.rist_sender.specs.Calls.{without_pair, after_sent, packet_for}
 use Rattle.rist_sender.specs.History.{packet_count, effective_time, sendings_of}
 use Rattle.rist_wire.specs.Writing.{is_spent, next_pair}
 use Rattle.rist_wire.specs.declared.session.Session.{Session}

@@ -1,8 +1,8 @@
-use Rattle.std.proofs.Common.{◌≡◌, ◌∙◌, ℕ, ◌-◌, ◌++◌, Bool, true, false, List, length, refl, sym, ap, subst, arith}
+use Rattle.std.proofs.Common.{◌≡◌, ◌∙◌, ℕ, ◌-◌, true, false, length, ap, subst, arith}
 use Rattle.std.specs.List.{range_with_len}
 use Rattle.sender_rules.specs.Bonding.{Bonding, link_count, links_from}
 use Rattle.rist_sender.specs.Messages.{Original}
-use Rattle.rist_sender.specs.Calls.{Work, Spreads, is_sharing, links_tried}
+use Rattle.rist_sender.specs.Calls.{Spreads, is_sharing, links_tried}
 use Rattle.rist_sender.specs.Sender.{SenderState}
 use Rattle.rist_sender.proofs.PutLemmas.{packet_in}
 use Rattle.rist_sender.proofs.SendLemmas.{plan_all, plan_one, spread_whole, spread_same}
@@ -39,15 +39,15 @@ returns-then-not-spread_over-clause-does g c = λ from packet pair stands spells
     does_then _ old c.spread_over-in-One.new.self c.spread_over-then-not-spread_over.new.self c.args.links.now c.spread_over-in-One.new.links c.spread_over-then-not-spread_over.new.links from _ _ _
     c.spread_over-in-One.auto.links c.if-not-spread_over.ensures.set d e
     (λ to fact.
-      let below = spread_whole true c.spread_over-in-One.new.self.time pair (Original packet) (range_with_len 0 (link - 0)) c.spread_over-then-not-spread_over.result d.to to fact.spreads in
-      let timed = subst (λ (t : ℕ). Spreads true t pair (Original packet) (range_with_len 0 (link - 0)) d.to to) c.if-not-spread_over.ensures.time below in
-      let none : link - 0 ≡ link = omega arith in
-      let rest = subst (λ (n : ℕ). Spreads true old.time pair (Original packet) (range_with_len 0 n) d.to to) none timed in
-      record {
-        spreads = spread_same true (is_sharing old.bonding) old.time pair (Original packet) (links_from link links) (links_tried old.bonding c.args.k) from to
-            (plan.0 ∙ ap is_sharing bond) tried (d.fact.spreads (range_with_len 0 link) to rest);
-        short = fact.short ∙ d.fact.short;
-      })
+    let below = spread_whole true c.spread_over-in-One.new.self.time pair (Original packet) (range_with_len 0 (link - 0)) c.spread_over-then-not-spread_over.result d.to to fact.spreads in
+    let timed = subst (λ (t : ℕ). Spreads true t pair (Original packet) (range_with_len 0 (link - 0)) d.to to) c.if-not-spread_over.ensures.time below in
+    let none : link - 0 ≡ link = omega arith in
+    let rest = subst (λ (n : ℕ). Spreads true old.time pair (Original packet) (range_with_len 0 n) d.to to) none timed in
+    record {
+      spreads = spread_same true (is_sharing old.bonding) old.time pair (Original packet) (links_from link links) (links_tried old.bonding c.args.k) from to
+          (plan.0 ∙ ap is_sharing bond) tried (d.fact.spreads (range_with_len 0 link) to rest);
+      short = fact.short ∙ d.fact.short;
+    })
 
 pub returns-else-not-spread_over-clause-does : goal.returns-else-not-spread_over-clause-does
 returns-else-not-spread_over-clause-does g c = λ from packet pair stands spells.

@@ -1,7 +1,7 @@
-use Rattle.std.proofs.Common.{◌≡◌, ◌∙◌, ℕ, ◌+◌, ◌-◌, ◌<◌, ◌++◌, ◌∷◌, false, true, List, length, refl, sym, ap, subst, arith}
+use Rattle.std.proofs.Common.{◌≡◌, ◌∙◌, ℕ, ◌+◌, ◌-◌, ◌<◌, ◌++◌, false, true, List, refl, sym, subst, arith}
 use Rattle.std.specs.List.{range_with_len}
 use Rattle.rist_sender.specs.Messages.{Original}
-use Rattle.rist_sender.specs.Calls.{Work, Spreads}
+use Rattle.rist_sender.specs.Calls.{Spreads}
 use Rattle.rist_sender.specs.Inside.Puts.{CopiesOn}
 use Rattle.rist_sender.proofs.PutLemmas.{packet_in, spread_on, spread_end}
 use Rattle.rist_sender.proofs.TurnLemmas.{does_none, does_then, does_weaker, stays_then, range_more, range_done}
@@ -26,17 +26,17 @@ loop-link-preserved g c =
       set = stays_then old loop.self c.copy_on.new.self loop.invariant.set c.copy_on.ensures.set;
       time = c.copy_on.ensures.time ∙ loop.invariant.time;
       does = λ from packet pair stands spells.
-      let d = loop.invariant.does from packet pair stands spells in
-      let e = c.if-copy_on.ensures.does d.to packet pair d.stands (packet_in old loop.self pair packet c.args.channel c.args.octets.now loop.invariant.set spells) in
-      does_then _ old loop.self c.copy_on.new.self c.args.links.now loop.links c.copy_on.new.links from _ _ _ loop.invariant.same loop.invariant.set d e
-      (λ to fact.
-        let copies = subst (λ (t : ℕ). CopiesOn one t pair (Original packet) loop.link false d.to to) loop.invariant.time fact in
-        record {
-          rest = λ others last s. d.fact.rest others last
-              (subst (λ (ls : List ℕ). Spreads one old.time pair (Original packet) (ls ++ others) d.to last) (sym (range_more loop.link c.args.end inside))
-              (spread_on one old.time pair (Original packet) loop.link (range_with_len (loop.link + 1) (c.args.end - (loop.link + 1)) ++ others) d.to to last copies s));
-          short = fact.short ∙ d.fact.short;
-        });
+          let d = loop.invariant.does from packet pair stands spells in
+          let e = c.if-copy_on.ensures.does d.to packet pair d.stands (packet_in old loop.self pair packet c.args.channel c.args.octets.now loop.invariant.set spells) in
+          does_then _ old loop.self c.copy_on.new.self c.args.links.now loop.links c.copy_on.new.links from _ _ _ loop.invariant.same loop.invariant.set d e
+          (λ to fact.
+          let copies = subst (λ (t : ℕ). CopiesOn one t pair (Original packet) loop.link false d.to to) loop.invariant.time fact in
+          record {
+            rest = λ others last s. d.fact.rest others last
+                (subst (λ (ls : List ℕ). Spreads one old.time pair (Original packet) (ls ++ others) d.to last) (sym (range_more loop.link c.args.end inside))
+                (spread_on one old.time pair (Original packet) loop.link (range_with_len (loop.link + 1) (c.args.end - (loop.link + 1)) ++ others) d.to to last copies s));
+            short = fact.short ∙ d.fact.short;
+          });
     }
 
 pub returns-then-copy_on-clause-does : goal.returns-then-copy_on-clause-does
@@ -49,13 +49,13 @@ returns-then-copy_on-clause-does g c = λ from packet pair stands spells.
     let e = c.if-copy_on.ensures.does d.to packet pair d.stands (packet_in old loop.self pair packet c.args.channel c.args.octets.now loop.invariant.set spells) in
     does_then _ old loop.self c.copy_on.new.self c.args.links.now loop.links c.copy_on.new.links from _ _ _ loop.invariant.same loop.invariant.set d e
     (λ to fact.
-      let copies = subst (λ (t : ℕ). CopiesOn one t pair (Original packet) loop.link true d.to to) loop.invariant.time fact in
-      record {
-        spreads = λ others. d.fact.rest others to
-            (subst (λ (ls : List ℕ). Spreads one old.time pair (Original packet) (ls ++ others) d.to to) (sym (range_more loop.link c.args.end inside))
-            (spread_end one old.time pair (Original packet) loop.link (range_with_len (loop.link + 1) (c.args.end - (loop.link + 1)) ++ others) d.to to copies));
-        short = fact.short ∙ d.fact.short;
-      })
+    let copies = subst (λ (t : ℕ). CopiesOn one t pair (Original packet) loop.link true d.to to) loop.invariant.time fact in
+    record {
+      spreads = λ others. d.fact.rest others to
+          (subst (λ (ls : List ℕ). Spreads one old.time pair (Original packet) (ls ++ others) d.to to) (sym (range_more loop.link c.args.end inside))
+          (spread_end one old.time pair (Original packet) loop.link (range_with_len (loop.link + 1) (c.args.end - (loop.link + 1)) ++ others) d.to to copies));
+      short = fact.short ∙ d.fact.short;
+    })
 
 pub returns-clause-does : goal.returns-clause-does
 returns-clause-does g c = λ from packet pair stands spells.

@@ -1,5 +1,5 @@
 -- the links so far were tried
-use Rattle.std.proofs.Common.{◌≡◌, ℕ, ◌-◌, length}
+use Rattle.std.proofs.Common.{◌≡◌, ◌-◌, length}
 use Rattle.std.specs.Prelude.{Option}
 use Rattle.std.specs.List.{range_with_len}
 use Rattle.psk_seal.specs.declared.sealer.Pair.{Pair}

@@ -1,7 +1,7 @@
-use Rattle.std.proofs.Common.{◌≡◌, ℕ, List, length, refl, subst}
+use Rattle.std.proofs.Common.{ℕ, length, refl, subst}
 use Rattle.std.specs.List.{range_with_len}
 use Rattle.rist_wire.specs.declared.session.Session.{Session}
-use Rattle.rist_sender.specs.Calls.{Work, called_at, TicksInTurn, IsAnswer}
+use Rattle.rist_sender.specs.Calls.{called_at, TicksInTurn, IsAnswer}
 use Rattle.rist_sender.specs.Sender.{has_keepalives}
 use Rattle.rist_sender.proofs.TurnLemmas.{does_call}
 use Rattle.rist_sender.proofs.sender.Sender.tick.Goals as goal

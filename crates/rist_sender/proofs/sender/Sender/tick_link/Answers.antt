@@ -1,10 +1,8 @@
-use Rattle.std.proofs.Common.{◌≡◌, ◌∙◌, ℕ, Bool, false, true, List, refl, sym, ap, subst}
-use Rattle.std.specs.Prelude.{is_err}
+use Rattle.std.proofs.Common.{refl, subst}
 use Rattle.rist_wire.specs.declared.session.Session.{Session}
 use Rattle.rist_sender.specs.History.{effective_time}
-use Rattle.rist_sender.specs.Calls.{Work, WritesInTurn, on_link, report_due, keepalive_due}
+use Rattle.rist_sender.specs.Calls.{WritesInTurn, on_link, keepalive_due}
 use Rattle.rist_sender.specs.Sender.{has_keepalives}
-use Rattle.rist_sender.specs.Inside.Puts.{WritesDues, TicksLink}
 use Rattle.rist_sender.proofs.TurnLemmas.{does_then, does_weaker, writes_short}
 use Rattle.rist_sender.proofs.sender.Sender.tick_link.Goals as goal
 

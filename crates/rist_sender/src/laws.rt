@@ -1,0 +1,38 @@
+//! What the definitions of a sender's datagrams mean at the other end.
+ghost use Rattle.std.specs.Prelude.{◌≡◌, ◌%◌, ◌^◌, ◌<◌, ◌≤◌, ℕ, Bool, true, false, List, Option, Ok, is_some, length, if◌then◌else◌};
+ghost use Rattle.ts_nulls.specs.Nulls.{blanking_of};
+ghost use Rattle.seq_unwrap.specs.declared.width.Width.{Width};
+ghost use Rattle.psk_seal.specs.declared.sealer.Pair.{Pair};
+ghost use Rattle.outside_io.specs.declared.profile.Profile.TheVariants.{Main};
+ghost use Rattle.rist_wire.specs.declared.session.Session.{Session};
+ghost use Rattle.rist_wire.specs.declared.item.Item.TheVariants as items;
+ghost use Rattle.rist_wire.specs.Session.{IsSession};
+ghost use Rattle.rist_wire.specs.Media.{content_of};
+ghost use Rattle.rist_wire.specs.Item.{item_of};
+ghost use Rattle.rist_wire.specs.Writing.{IsPair};
+ghost use Rattle.rist_wire.specs.Packets.{media_value};
+ghost use Rattle.rist_sender.specs.Messages.{Original, Retransmission, media_of, message_channel, message_datagram};
+ghost use Rattle.rist_sender.specs.Calls.{packet_for};
+
+/// In its session the datagram of a payload is taken as media of the flow with its packet's number and timestamp, as an
+/// original or as a retransmission; and its content is the payload, each null packet that was deleted put back as the
+/// one that stands for it.
+pub fn each_payload_is_taken()
+    ensures original { (session : Session) (pair : Option Pair) (flow number tick : ℕ) (payload : List ℕ)
+        → IsSession session → (session.profile ≡ Main → IsPair pair) → is_some pair ≡ is_some session.pass
+        → flow % 2 ≡ 0 → flow < 2 ^ 32 → length payload ≤ 1500
+        → item_of session (message_channel session (Original (packet_for session.nulls number tick payload)))
+        (message_datagram flow session pair (Original (packet_for session.nulls number tick payload)))
+        ≡ Ok (items.Media (media_value session.width
+        (media_of flow false (packet_for session.nulls number tick payload)))) }
+    ensures again { (session : Session) (pair : Option Pair) (flow number tick : ℕ) (payload : List ℕ)
+        → IsSession session → (session.profile ≡ Main → IsPair pair) → is_some pair ≡ is_some session.pass
+        → flow % 2 ≡ 0 → flow < 2 ^ 32 → length payload ≤ 1500
+        → item_of session (message_channel session (Retransmission (packet_for session.nulls number tick payload)))
+        (message_datagram flow session pair (Retransmission (packet_for session.nulls number tick payload)))
+        ≡ Ok (items.Media (media_value session.width
+        (media_of flow true (packet_for session.nulls number tick payload)))) }
+    ensures content { (width : Width) (nulls again : Bool) (flow number tick : ℕ) (payload : List ℕ)
+        → content_of (media_value width (media_of flow again (packet_for nulls number tick payload)))
+        ≡ (if nulls then blanking_of payload else payload) }
+{}
