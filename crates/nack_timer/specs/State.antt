@@ -4,9 +4,15 @@ use Rattle.request_rules.specs.declared.policy.Policy.{Policy}
 use Rattle.nack_timer.specs.declared.settings.Settings.{Settings}
 use Rattle.nack_timer.specs.declared.entry.Missing.{Missing}
 
--- the settings in ticks
+-- the settings in ticks: a millisecond is 90 of them
 abbrev pub policy_of : Settings → Policy
-policy_of settings = record { reorder_tolerance = 90 * settings.reorder; retry_interval = 90 * settings.least; retry_limit = settings.tries; kind = settings.nack }
+policy_of settings =
+    record {
+      reorder_tolerance = 90 * settings.reorder;
+      retry_interval = 90 * settings.least;
+      retry_limit = settings.tries;
+      kind = settings.nack;
+    }
 
 -- the ranges of the settings
 pub record IsInRange (settings : Settings) : Type 0 where

@@ -36,6 +36,7 @@ pub record IsEntryOf (found : ℕ → ℕ) (requests : List Request) (e : Missin
   pub since : e.found ≡ found e.number
   pub times : AreTimes e.last e.count (request_times requests e.number)
 
+-- likewise each of some entries
 abbrev pub AreEntriesOf : (ℕ → ℕ) → List Request → List Missing → Type 0
 AreEntriesOf found requests [] = Unit {0}
 AreEntriesOf found requests (e ∷ es) = IsEntryOf found requests e × AreEntriesOf found requests es

@@ -10,6 +10,7 @@ pub record IsSmallEntry (e : Missing) : Type 0 where
   pub found : e.found < 2 ^ 61
   pub last : ForSome e.last (λ t. t < 2 ^ 61)
 
+-- likewise in each of some entries
 abbrev pub AreSmall : List Missing → Type 0
 AreSmall [] = Unit {0}
 AreSmall (e ∷ es) = IsSmallEntry e × AreSmall es

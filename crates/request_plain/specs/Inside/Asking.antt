@@ -55,4 +55,5 @@ IsAskedOf kind due words numbers = (words ≡ words_for kind 64 due) × (numbers
 -- a number is missing and due
 abbrev pub is_wanted : Policy → ℕ → ℕ → Asking → ℕ → Bool
 is_wanted policy rtt t a x =
-    not (is_accepted (kept_packets a.run.kept.items) x) && is_due policy rtt t (found_in a.marks.items x) (request_times (requests_seen a.made.items) x)
+    not (is_accepted (kept_packets a.run.kept.items) x)
+    && is_due policy rtt t (found_in a.marks.items x) (request_times (requests_seen a.made.items) x)
