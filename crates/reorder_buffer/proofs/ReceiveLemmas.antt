@@ -97,12 +97,14 @@ no_lower_higher : (p : Packet) (o : Option Highest) → IsNoLower o (Some (highe
 no_lower_higher p None = tt
 no_lower_higher p (Some h) =
     elim (nat_lt h.number p.number) as (λ c. nat_lt h.number p.number ≡ c → h.number ≤ (cond c (record { number = p.number; timestamp = p.timestamp }) h).number) [
-    true ↦ λ e. omega (arith, ltb-true h.number p.number e)
-    | false ↦ λ e. omega arith ] refl
+      | true ↦ λ e. omega (arith, ltb-true h.number p.number e)
+      | false ↦ λ e. omega arith
+    ] refl
 
 -- an arrival doesn't lower it
 pub highest_taken : (b : State) (t : ℕ) (arrival : Arrival) → IsNoLower b.highest (taken b t arrival).highest
 highest_taken b t arrival =
     elim (is_kept (judged b t arrival)) as (λ c. IsNoLower b.highest (moved (cond c (holding b (placed_at b t arrival)) b) t (anchor_at b t arrival)).highest) [
-    true ↦ no_lower_higher (placed_at b t arrival) b.highest
-    | false ↦ no_lower_self b.highest ]
+      | true ↦ no_lower_higher (placed_at b t arrival) b.highest
+      | false ↦ no_lower_self b.highest
+    ]
