@@ -6,7 +6,7 @@ use Rattle.outside_io.specs.Told.{Passage, Takes}
 use Rattle.outside_host.specs.Shelf.{Shelf}
 use Rattle.outside_host.specs.declared.host.Place.TheVariants.{Here}
 use Rattle.capture_file.specs.Capture.{Record}
-use Rattle.capture_file.specs.Reader.{most_ahead}
+use Rattle.block_source.specs.Block.{most_ahead}
 use Rattle.capture_walk.proofs.CompleteLemmas.{walk_completes}
 use Rattle.psk_seal.specs.Sealer.{SealerState}
 use Rattle.rist_pack.specs.Packing.{Packs}

@@ -7,7 +7,7 @@ use Rattle.outside_host.specs.Shelf.{Shelf}
 use Rattle.outside_host.specs.declared.host.Place.TheVariants.{Back}
 use Rattle.capture_file.specs.Capture.{Record, IsCapture, IsFront, magic}
 use Rattle.capture_file.proofs.FormatLemmas.{one_reading, no_record_in_nothing}
-use Rattle.capture_file.specs.Reader.{most_ahead}
+use Rattle.block_source.specs.Block.{most_ahead}
 use Rattle.capture_walk.specs.Leaves.{Leaves, EndsAfter}
 use Rattle.capture_walk.specs.declared.walk_bad.WalkBad.{WalkBad}
 use Rattle.capture_walk.specs.declared.walk_bad.WalkBad.TheVariants as walks

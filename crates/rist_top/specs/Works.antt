@@ -6,7 +6,7 @@ use Rattle.psk_seal.specs.Sealer.{SealerState}
 use Rattle.psk_seal.specs.Nonces.{AreNonces}
 use Rattle.outside_io.specs.Told.{Passage}
 use Rattle.capture_file.specs.Capture.{Record}
-use Rattle.capture_file.specs.Reader.{most_ahead}
+use Rattle.block_source.specs.Block.{most_ahead}
 use Rattle.capture_walk.specs.Leaves.{Leaves}
 use Rattle.capture_walk.specs.declared.walk_bad.WalkBad.{WalkBad}
 use Rattle.capture_walk.specs.declared.walk_bad.WalkBad.TheVariants as walks
