@@ -2,7 +2,7 @@
 ghost use Rattle.std.specs.Prelude.{◌≡◌, ◌≤◌, ◌<◌, length, is_some, vec_len};
 ghost use Rattle.sender_rules.specs.Bonding.{link_count};
 ghost use Rattle.rist_wire.specs.Session.{IsSession};
-ghost use Rattle.rist_ends.specs.Told.{IsFitArrival};
+ghost use Rattle.rist_ends.specs.Told.{IsFitArrival, IsFitWhat};
 
 use bond_links::Bond;
 use outside_io::{Channel, Store8, Words};
@@ -10,11 +10,10 @@ use outside_net::ScriptLink;
 use psk_keys::Phrase;
 use psk_seal::Sealer;
 use receiver_rules::Arrival;
-use rist_ends::{Receiver, Told, What};
-use rist_nack::{put_mask, put_range, put_seqext};
+use request_rules::NackKind;
+use rist_ends::{Outcome, Outs, Receiver, Told, What};
 use rist_sender::{Sender, Settings};
-use rist_wire::{Item, Media, Opener, Profile, Session};
-use rtcp_compound::{Compound, CompoundOut};
+use rist_wire::{Item, Media, Opener, Profile, Session, WireBad};
 use seq_unwrap::Width;
 use std::alloc::Global;
 use std::test::Fail;
@@ -24,6 +23,7 @@ const FLOW: u32 = 0x1020_3040;
 /// A sender and its link.
 #[derive(Drop)]
 struct Near {
+    opener: Opener,
     sender: Sender,
     links: Vec<ScriptLink>,
     ghost one: { link_count sender.bonding ≡ 1 },
@@ -52,9 +52,9 @@ fn session(pass: Option<Phrase>, width: Width) -> Session
     }
 }
 
-fn sealer(alloc: Global) -> Result<Sealer, Fail> {
-    let words = [1, 2, 3, 4, 5, 6, 7, 8, 9, 10, 11, 12, 13, 14, 15, 16];
-    match Sealer::with(&mut Words::with(alloc, &words, &[])?) {
+/// A sealer whose nonces begin with this one.
+fn sealer(alloc: Global, first: u32) -> Result<Sealer, Fail> {
+    match Sealer::with(&mut Words::with(alloc, &[first; 16], &[])?) {
         Ok(sealer) => Ok(sealer),
         Err(_) => Err(Fail::new("no nonces")),
     }
@@ -80,7 +80,12 @@ impl Near {
         let sender = Sender::with(alloc, settings, session, sealer)?;
         let mut links = Vec::new(alloc);
         links.push(ScriptLink::with(alloc, Vec::new(alloc), true, 64, &[], &[])?)?;
-        Ok(Near { sender, links })
+        let opener = Opener::with(alloc, session)?;
+        Ok(Near {
+            opener,
+            sender,
+            links,
+        })
     }
 
     fn send(&mut self, us: u64, payload: &[u8]) -> Result<(), Fail>
@@ -92,9 +97,17 @@ impl Near {
         }
     }
 
-    /// How many packets are sent again for the octets of a compound.
-    fn feedback(&mut self, us: u64, octets: &[u8]) -> Result<u32, Fail> {
-        let compound = Compound::read(octets).ok().ok_or("a compound")?;
+    /// How many packets are sent again for a datagram that came back.
+    fn feedback(&mut self, us: u64, channel: Channel, octets: &[u8]) -> Result<u32, Fail> {
+        let mut datagram = [0; 2048];
+        if octets.len() > 2048 {
+            return Err(Fail::new("too long"));
+        }
+        datagram[..octets.len()].copy_from_slice(octets);
+        let item = self.opener.take(channel, &mut datagram[..octets.len()]);
+        let Ok(Item::Control(compound)) = item else {
+            return Err(Fail::new("no compound"));
+        };
         match self.sender.feedback(us, 0, &compound, &mut self.links) {
             Ok(count) => Ok(count),
             Err(_) => Err(Fail::new("not answered")),
@@ -115,17 +128,41 @@ fn arrival_in<'a>(media: &Media<'a>, block: &'a mut [u8; 1500]) -> Arrival<'a>
     }
 }
 
+/// What a receiver is told of a datagram.
+fn what_of<'a>(item: &'a Result<Item<'a>, WireBad>, block: &'a mut [u8; 1500]) -> What<'a>
+    ensures fits { IsFitWhat result }
+{
+    match item {
+        Ok(Item::Media(media)) => What::Media(arrival_in(media, block)),
+        Ok(Item::Control(compound)) => What::Control(compound),
+        Ok(Item::Keepalive(_)) => What::Keepalive,
+        Err(_) => What::Refused,
+    }
+}
+
 impl Far {
-    fn with(alloc: Global, session: &Session) -> Result<Far, Fail>
+    fn with(
+        alloc: Global,
+        session: &Session,
+        sealer: Option<Sealer>,
+        nack: NackKind,
+    ) -> Result<Far, Fail>
         requires session { IsSession session.now }
+        requires paired { is_some sealer ≡ is_some session.now.pass }
     {
         let settings = rist_ends::Settings {
             delay: 1000,
             span: 64,
+            reorder: 25,
+            least: 50,
+            tries: 8,
+            nack,
+            own: 7,
+            muted: false,
         };
         Ok(Far {
             opener: Opener::with(alloc, session)?,
-            receiver: Receiver::with(alloc, &settings)?,
+            receiver: Receiver::with(alloc, &settings, session, sealer)?,
             sink: Store8::with(alloc, 256, &[])?,
         })
     }
@@ -138,15 +175,27 @@ impl Far {
         }
         datagram[..octets.len()].copy_from_slice(octets);
         let mut block = [0; 1500];
-        if let Ok(Item::Media(media)) = self.opener.take(channel, &mut datagram[..octets.len()]) {
-            let told = Told {
-                link: 0,
-                us,
-                what: What::Media(arrival_in(&media, &mut block)),
-            };
-            let _ = self.receiver.step(&told, &mut self.sink);
-        }
+        let item = self.opener.take(channel, &mut datagram[..octets.len()]);
+        let told = Told {
+            link: 0,
+            us,
+            what: what_of(&item, &mut block),
+        };
+        let _ = self.receiver.step(&told, &mut self.sink);
         Ok(())
+    }
+
+    /// What a tick of its clock sends back.
+    fn tick(&mut self, us: u64) -> Result<Outs, Fail> {
+        let told = Told {
+            link: 0,
+            us,
+            what: What::Tick,
+        };
+        match self.receiver.step(&told, &mut self.sink) {
+            Outcome::Made(outs) => Ok(outs),
+            _ => Err(Fail::new("nothing was made")),
+        }
     }
 
     /// All that waits comes out.
@@ -160,37 +209,20 @@ impl Far {
     }
 }
 
-/// A request for 65,537 and 65,540, whose words are 1 and 4.
-fn request(width: Width, mask: bool) -> Result<CompoundOut, Fail> {
-    let mut out = CompoundOut::new();
-    out.put_rr(7).ok().ok_or("a report")?;
-    if width == Width::W32 {
-        put_seqext(&mut out, FLOW, 1).ok().ok_or("an extension")?;
-    }
-    if mask {
-        // 1, and the third number after it.
-        put_mask(&mut out, 7, FLOW, &[(1, 4)]).ok().ok_or("a mask")?;
-    } else {
-        put_range(&mut out, FLOW, &[(1, 0), (4, 0)])
-            .ok()
-            .ok_or("a range")?;
-    }
-    Ok(out)
-}
-
-/// Six payloads are sent, the second and the fifth are lost, the others come in another order, and what is lost is asked
-/// for. Whether all come out in order.
+/// Six payloads are sent, the second and the fifth are lost, and the others come in another order. The receiver asks for
+/// what is missing, and what comes back comes in another order too. Whether all come out in order.
 fn recovers(
     alloc: Global,
     session: &Session,
-    sealer: Option<Sealer>,
-    mask: bool,
+    sealers: (Option<Sealer>, Option<Sealer>),
+    nack: NackKind,
 ) -> Result<bool, Fail>
     requires session { IsSession session.now }
-    requires paired { is_some sealer ≡ is_some session.now.pass }
+    requires sending { is_some sealers.0 ≡ is_some session.now.pass }
+    requires receiving { is_some sealers.1 ≡ is_some session.now.pass }
 {
-    let mut near = Near::with(alloc, session, sealer, 65_536)?;
-    let mut far = Far::with(alloc, session)?;
+    let mut near = Near::with(alloc, session, sealers.0, 65_536)?;
+    let mut far = Far::with(alloc, session, sealers.1, nack)?;
     for (at, letter) in b"ABCDEF".iter().enumerate() {
         near.send(1_000 * at as u64, &[*letter])?;
     }
@@ -198,28 +230,34 @@ fn recovers(
         let (channel, octets) = near.links[0].taken(place).ok_or("a datagram")?;
         far.take(30_000, channel, octets)?;
     }
-    let asked = request(session.width, mask)?;
-    let count = near.feedback(50_000, asked.octets())?;
-    for place in [7, 6] {
-        let (channel, octets) = near.links[0].taken(place).ok_or("a retransmission")?;
-        far.take(60_000, channel, octets)?;
+    let outs = far.tick(60_000)?;
+    let count = near.feedback(70_000, outs.first.channel(), outs.first.octets())?;
+    // The answer to the receiver's RTT request, and two retransmissions.
+    for place in [8, 7, 6] {
+        let (channel, octets) = near.links[0].taken(place).ok_or("what came back")?;
+        far.take(80_000, channel, octets)?;
     }
     far.end();
-    Ok(count == 2 && near.links[0].taken(8).is_none() && far.sink.octets() == b"ABCDEF".as_slice())
+    Ok(count == 2 && near.links[0].taken(9).is_none() && far.sink.octets() == b"ABCDEF".as_slice())
 }
 
 #[test]
 fn in_clear_all_payloads_come_out(rt: HostRuntime) -> Result<(), Fail> {
-    assert!(rt; recovers(rt.alloc(), &session(None, Width::W16), None, false)?);
-    assert!(rt; recovers(rt.alloc(), &session(None, Width::W32), None, true)?);
+    let short = session(None, Width::W16);
+    assert!(rt; recovers(rt.alloc(), &short, (None, None), NackKind::Range)?);
+    let long = session(None, Width::W32);
+    assert!(rt; recovers(rt.alloc(), &long, (None, None), NackKind::Mask)?);
     Ok(())
 }
 
 #[test]
 fn enciphered_all_payloads_come_out(rt: HostRuntime) -> Result<(), Fail> {
+    let alloc = rt.alloc();
     let short = session(Some(Phrase::of(b"secret")), Width::W16);
-    assert!(rt; recovers(rt.alloc(), &short, Some(sealer(rt.alloc())?), true)?);
+    let sealers = (Some(sealer(alloc, 1)?), Some(sealer(alloc, 100)?));
+    assert!(rt; recovers(alloc, &short, sealers, NackKind::Mask)?);
     let long = session(Some(Phrase::of(b"secret")), Width::W32);
-    assert!(rt; recovers(rt.alloc(), &long, Some(sealer(rt.alloc())?), false)?);
+    let sealers = (Some(sealer(alloc, 1)?), Some(sealer(alloc, 100)?));
+    assert!(rt; recovers(alloc, &long, sealers, NackKind::Range)?);
     Ok(())
 }
