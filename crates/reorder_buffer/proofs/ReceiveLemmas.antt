@@ -1,11 +1,11 @@
 -- What is due goes out and then an arrival is judged: as one step of the history.
-use Rattle.std.proofs.Common.{◌≡◌, ℕ, ◌≤◌, ◌<◌, max, Bool, true, false, cond, List, ◌∷◌, Option, unwrap_or, refl, ◌∙◌, ap, map, arith}
+use Rattle.std.proofs.Common.{◌≡◌, ℕ, ◌≤◌, max, Bool, true, false, cond, List, ◌∷◌, Option, unwrap_or, refl, ◌∙◌, ap, map, arith}
 use Rattle.std.specs.List.{concat}
 use Rattle.outside_io.specs.Told.{Appends, AppendsPart, Writes, WritesPart}
 use Rattle.receiver_rules.specs.declared.limits.Limits.{Limits}
 use Rattle.receiver_rules.specs.Steps.{Arrival, Step, effective_time, media_step, time_step}
 use Rattle.std.specs.Prelude.{nat_lt, Some, None}
-use Rattle.std.proofs.lemmas.Bool.{ltb-true, ltb-false}
+use Rattle.std.proofs.lemmas.Bool.{ltb-true}
 use Rattle.receiver_rules.specs.declared.anchor.Highest.{Highest}
 use Rattle.receiver_rules.specs.Packets.{Packet, At, is_kept, verdict_of, higher}
 use Rattle.receiver_rules.specs.History.{new_anchor, anchor_of, accepted_packets, verdict, released_bytes}
@@ -97,12 +97,14 @@ no_lower_higher : (p : Packet) (o : Option Highest) → IsNoLower o (Some (highe
 no_lower_higher p None = tt
 no_lower_higher p (Some h) =
     elim (nat_lt h.number p.number) as (λ c. nat_lt h.number p.number ≡ c → h.number ≤ (cond c (record { number = p.number; timestamp = p.timestamp }) h).number) [
-    true ↦ λ e. omega (arith, ltb-true h.number p.number e)
-    | false ↦ λ e. omega arith ] refl
+      | true ↦ λ e. omega (arith, ltb-true h.number p.number e)
+      | false ↦ λ e. omega arith
+    ] refl
 
 -- an arrival doesn't lower it
 pub highest_taken : (b : State) (t : ℕ) (arrival : Arrival) → IsNoLower b.highest (taken b t arrival).highest
 highest_taken b t arrival =
     elim (is_kept (judged b t arrival)) as (λ c. IsNoLower b.highest (moved (cond c (holding b (placed_at b t arrival)) b) t (anchor_at b t arrival)).highest) [
-    true ↦ no_lower_higher (placed_at b t arrival) b.highest
-    | false ↦ no_lower_self b.highest ]
+      | true ↦ no_lower_higher (placed_at b t arrival) b.highest
+      | false ↦ no_lower_self b.highest
+    ]
