@@ -3,7 +3,7 @@ use Rattle.std.proofs.Common.{◌≡◌, ◌≢◌, ℕ, zero, suc, ◌+◌, ◌
 use Rattle.std.proofs.lemmas.List.{length-set, length-take, length-replicate, get_or-set_same, get_or-set_other, get_or-take, get_or-replicate, ext_get_or}
 use Rattle.std.proofs.lemmas.Bool.{cases_eq}
 use Rattle.std.specs.Prelude.{slice_index, slice_set as set}
-use Rattle.deadline_index.specs.Inside.Levels.{group_count, IsCover, IsCoverBut, AreLevels, AreLevelsBut, IsNoneIn, IsLeastIn}
+use Rattle.deadline_index.specs.Inside.Levels.{group_count, IsCover, AreLevels, IsLeastIn}
 
 -- all of a level lies in the list
 pub inside : (n at len : ℕ) (xs : List ℕ) → AreLevels n at len xs → at + len ≤ length xs
@@ -16,16 +16,6 @@ pub parted : (n at len : ℕ) (xs : List ℕ) → 0 < n → AreLevels n at len x
 unfolding AreLevels
 parted zero at len xs some a = absurd (omega arith)
 parted (suc n) at len xs some a = (a.0, subst (λ m. AreLevels m (at + len) (group_count len) xs) (omega arith) a.1)
-
-pub parted_but : (n at len entry : ℕ) (xs : List ℕ) → 0 < n → AreLevelsBut n at len entry xs → IsCoverBut at len entry xs × AreLevels (n - 1) (at + len) (group_count len) xs
-unfolding AreLevelsBut
-parted_but zero at len entry xs some a = absurd (omega arith)
-parted_but (suc n) at len entry xs some a = (a.0, subst (λ m. AreLevels m (at + len) (group_count len) xs) (omega arith) a.1)
-
-pub inside_but : (n at len entry : ℕ) (xs : List ℕ) → AreLevelsBut n at len entry xs → at + len ≤ length xs
-unfolding AreLevelsBut
-inside_but zero at len entry xs a = a
-inside_but (suc n) at len entry xs a = let deeper = inside n (at + len) (group_count len) xs a.1 in omega arith
 
 pub whole : (n at len : ℕ) (xs : List ℕ) → 0 < n → IsCover at len xs → AreLevels (n - 1) (at + len) (group_count len) xs → AreLevels n at len xs
 unfolding AreLevels
@@ -49,54 +39,54 @@ kept (suc n) at len xs i v low a = (
   record {
     least = λ k inside.
         let old = a.0.least k inside in
-        omega (arith, elsewhere xs i (at + len + k / 16) v (λ e. absurd (omega arith)), elsewhere xs i (at + k) v (λ e. absurd (omega arith)));
+        omega (arith, elsewhere xs i (at + len + k / 8) v (λ e. absurd (omega arith)), elsewhere xs i (at + k) v (λ e. absurd (omega arith)));
   },
   kept n (at + len) (group_count len) xs i v (omega arith) a.1,
 )
 
--- after a change of an entry all stands but for its group
-pub changed : (n at len : ℕ) (xs : List ℕ) (entry v : ℕ) → entry < len → AreLevels n at len xs → AreLevelsBut n at len entry (set xs (at + entry) v)
-unfolding AreLevels AreLevelsBut
-changed zero at len xs entry v inside a = omega (arith, a, length-set xs (at + entry) v)
-changed (suc n) at len xs entry v inside a = (
+-- an entry that is no less than that of its group leaves all as it stands
+pub stands : (n at len : ℕ) (xs : List ℕ) (entry v : ℕ) → 0 < n → entry < len → AreLevels n at len xs → slice_index xs (at + len + entry / 8) ≤ v → AreLevels n at len (set xs (at + entry) v)
+unfolding AreLevels
+stands zero at len xs entry v some low a least = absurd (omega arith)
+stands (suc n) at len xs entry v some low a least = (
   record {
-    least = λ k there other.
-        let old = a.0.least k there in
-        omega (arith, elsewhere xs (at + entry) (at + len + k / 16) v (λ e. absurd (omega arith)), elsewhere xs (at + entry) (at + k) v (λ e. other (omega arith)));
+    least = λ k there.
+        let room = inside n (at + len) (group_count len) xs a.1 in
+        let above : slice_index (set xs (at + entry) v) (at + len + k / 8) ≡ slice_index xs (at + len + k / 8) = elsewhere xs (at + entry) (at + len + k / 8) v (λ e. absurd (omega arith)) in
+        elim (cases_eq k entry) [
+          | inl same ↦
+              let here : slice_index (set xs (at + entry) v) (at + k) ≡ v = ap (λ i. slice_index (set xs (at + entry) v) (at + i)) same ∙ get_or-set_same xs (at + entry) v 0 (omega arith) in
+              let group : slice_index xs (at + len + k / 8) ≡ slice_index xs (at + len + entry / 8) = ap (λ i. slice_index xs (at + len + i / 8)) same in
+              omega (arith, above, here, group)
+          | inr other ↦
+              let old = a.0.least k there in
+              let here : slice_index (set xs (at + entry) v) (at + k) ≡ slice_index xs (at + k) = elsewhere xs (at + entry) (at + k) v (λ e. other (omega arith)) in
+              omega (arith, above, here)
+        ];
   },
   kept n (at + len) (group_count len) xs (at + entry) v (omega arith) a.1,
 )
 
--- with the least of its group a level stands whole
-pub covered : (at len entry end least : ℕ) (xs : List ℕ) → IsCoverBut at len entry xs → end ≡ min (16 * (entry / 16) + 16) len → IsLeastIn xs at (16 * (entry / 16)) end least → slice_index xs (at + len + entry / 16) ≡ least → IsCover at len xs
-covered at len entry end least xs but bound low e =
+-- after a change of an entry a level stands whole where the entry above gets the least of the group
+pub recovered : (at len entry end v least : ℕ) (xs ys : List ℕ) → entry < len → at + len + group_count len ≤ length xs → IsCover at len xs → end ≡ min (8 * (entry / 8) + 8) len → IsLeastIn (set xs (at + entry) v) at (8 * (entry / 8)) end least
+    → ((i : ℕ) → i < at + len + group_count len → slice_index ys i ≡ slice_index (set (set xs (at + entry) v) (at + len + entry / 8) least) i) → IsCover at len ys
+recovered at len entry end v least xs ys there room old bound low same =
+    let zs : List ℕ = set xs (at + entry) v in
     record {
       least = λ k inside.
-          elim (cases_eq (k / 16) (entry / 16)) [
-            | inl same ↦ let l = low k (omega (arith, same)) (omega (arith, same, bound, inside)) in
-                let here : slice_index xs (at + len + k / 16) ≡ least = ap (λ n. slice_index xs (at + len + n)) same ∙ e in
-                omega (arith, here, l)
-            | inr other ↦ but.least k inside other
-          ];
-    }
-
--- likewise where the least is written and what stands above is mended
-pub recovered : (at len entry end least : ℕ) (xs ys : List ℕ) → entry < len → at + len + group_count len ≤ length xs → IsCoverBut at len entry xs → end ≡ min (16 * (entry / 16) + 16) len → IsLeastIn xs at (16 * (entry / 16)) end least
-    → ((i : ℕ) → i < at + len + group_count len → slice_index ys i ≡ slice_index (set xs (at + len + entry / 16) least) i) → IsCover at len ys
-recovered at len entry end least xs ys there room but bound low same =
-    record {
-      least = λ k inside.
-          let below : slice_index ys (at + k) ≡ slice_index xs (at + k) = same (at + k) (omega arith) ∙ elsewhere xs (at + len + entry / 16) (at + k) least (λ e. absurd (omega arith)) in
-          elim (cases_eq (k / 16) (entry / 16)) [
+          let below : slice_index ys (at + k) ≡ slice_index zs (at + k) = same (at + k) (omega arith) ∙ elsewhere zs (at + len + entry / 8) (at + k) least (λ e. absurd (omega arith)) in
+          elim (cases_eq (k / 8) (entry / 8)) [
             | inl e ↦
                 let l = low k (omega (arith, e)) (omega (arith, e, bound, inside)) in
-                let written : slice_index (set xs (at + len + entry / 16) least) (at + len + entry / 16) ≡ least = get_or-set_same xs (at + len + entry / 16) least 0 (omega arith) in
-                let here : slice_index ys (at + len + k / 16) ≡ least = ap (λ n. slice_index ys (at + len + n)) e ∙ same (at + len + entry / 16) (omega arith) ∙ written in
+                let written : slice_index (set zs (at + len + entry / 8) least) (at + len + entry / 8) ≡ least = get_or-set_same zs (at + len + entry / 8) least 0 (omega (arith, length-set xs (at + entry) v)) in
+                let here : slice_index ys (at + len + k / 8) ≡ least = ap (λ n. slice_index ys (at + len + n)) e ∙ same (at + len + entry / 8) (omega arith) ∙ written in
                 omega (arith, here, below, l)
             | inr other ↦
-                let old = but.least k inside other in
-                let above : slice_index ys (at + len + k / 16) ≡ slice_index xs (at + len + k / 16) = same (at + len + k / 16) (omega arith) ∙ elsewhere xs (at + len + entry / 16) (at + len + k / 16) least (λ e. other (omega arith)) in
-                omega (arith, above, below, old)
+                let was = old.least k inside in
+                let above : slice_index ys (at + len + k / 8) ≡ slice_index zs (at + len + k / 8) = same (at + len + k / 8) (omega arith) ∙ elsewhere zs (at + len + entry / 8) (at + len + k / 8) least (λ e. other (omega arith)) in
+                let high : slice_index zs (at + len + k / 8) ≡ slice_index xs (at + len + k / 8) = elsewhere xs (at + entry) (at + len + k / 8) v (λ e. absurd (omega arith)) in
+                let deep : slice_index zs (at + k) ≡ slice_index xs (at + k) = elsewhere xs (at + entry) (at + k) v (λ e. other (ap (λ n. n / 8) (omega (arith, e)))) in
+                omega (arith, above, below, was, high, deep)
           ];
     }
 
@@ -121,15 +111,17 @@ front_set places place tick xs ys low room long same =
 
 never_cover : (at len total never : ℕ) → at + len + group_count len ≤ total → IsCover at len (replicate total never)
 never_cover at len total never room =
-    record { least = λ k inside. omega (arith, get_or-replicate total (at + len + k / 16) never 0 (omega arith), get_or-replicate total (at + k) never 0 (omega arith)) }
+    record { least = λ k inside. omega (arith, get_or-replicate total (at + len + k / 8) never 0 (omega arith), get_or-replicate total (at + k) never 0 (omega arith)) }
 
-pub never_levels : (places total never : ℕ) → total ≡ places + (places / 8 + 8) → AreLevels 3 0 places (replicate total never)
+pub never_levels : (places total never : ℕ) → total ≡ places + (places / 6 + 8) → AreLevels 4 0 places (replicate total never)
 never_levels places total never e =
     let first : ℕ = group_count places in
     let second : ℕ = group_count first in
     let third : ℕ = group_count second in
+    let fourth : ℕ = group_count third in
     let xs : List ℕ = replicate total never in
-    whole 3 0 places xs (omega arith) (never_cover 0 places total never (omega arith))
-    (whole 2 (0 + places) first xs (omega arith) (never_cover (0 + places) first total never (omega arith))
-    (whole 1 (0 + places + first) second xs (omega arith) (never_cover (0 + places + first) second total never (omega arith))
-    (top 0 (0 + places + first + second) third xs refl (omega (arith, length-replicate total never)))))
+    whole 4 0 places xs (omega arith) (never_cover 0 places total never (omega arith))
+    (whole 3 (0 + places) first xs (omega arith) (never_cover (0 + places) first total never (omega arith))
+    (whole 2 (0 + places + first) second xs (omega arith) (never_cover (0 + places + first) second total never (omega arith))
+    (whole 1 (0 + places + first + second) third xs (omega arith) (never_cover (0 + places + first + second) third total never (omega arith))
+    (top 0 (0 + places + first + second + third) fourth xs refl (omega (arith, length-replicate total never))))))

@@ -1,7 +1,8 @@
-ghost use Rattle.std.specs.Prelude.{◌≡◌, ◌<◌, length, replicate, slice_set, IfOk, IfSome, IfNone};
+ghost use Rattle.std.specs.Prelude.{◌≡◌, ◌<◌, nat_le, length, replicate, slice_set, IfOk, IfSome, IfNone};
+ghost use Rattle.std.specs.List.{list_any};
 ghost use Rattle.deadline_index.specs.Places.{IsFirstBy, IsLastBy, IsNoneFrom, IsNoneBelow};
 
-use crate::levels::{first_by, last_by, mend};
+use crate::levels::{first_by, is_none_by, last_by, set_entry};
 use std::alloc::{AllocError, Global};
 use std::marker::Model;
 
@@ -9,10 +10,11 @@ use std::marker::Model;
 pub const NEVER: u64 = u64::MAX;
 
 /// How many levels of least ticks stand above the places.
-const LEVELS: usize = 3;
+const LEVELS: usize = 4;
 
-/// A fixed number of places, each with the tick at which it falls due. A change of one place and each search look at sixteen
-/// entries a level, on as many levels as the number of places has hexadecimal digits, up to four.
+/// A fixed number of places, each with the tick at which it falls due. A change of one place and each search look at eight
+/// entries a level at most, on as many levels as the number of places has octal digits, up to five. A change that leaves the
+/// least tick of a group as it was looks no higher.
 #[derive(Drop)]
 pub struct DeadlineIndex {
     places: usize,
@@ -29,7 +31,7 @@ impl Model for DeadlineIndex {
 
     ghost use Rattle.deadline_index.specs.Inside.Levels.{AreLevels};
 
-    ghost invariant = { λ index. AreLevels 3 0 index.places index.all.items };
+    ghost invariant = { λ index. AreLevels 4 0 index.places index.all.items };
 }
 
 impl DeadlineIndex {
@@ -37,8 +39,8 @@ impl DeadlineIndex {
     pub fn with_places(alloc: Global, places: usize) -> Result<DeadlineIndex, AllocError>
         ensures value { IfOk result (λ index. index ≡ replicate places NEVER) }
     {
-        // Room for the places and for three levels above them, each a sixteenth of the one below and an entry more.
-        let Some(total) = places.checked_add(places / 8 + 8) else {
+        // Room for the places and for four levels above them, each an eighth of the one below and an entry more.
+        let Some(total) = places.checked_add(places / 6 + 8) else {
             return Err(AllocError);
         };
         let mut all = Vec::with_capacity(alloc, total)?;
@@ -51,8 +53,14 @@ impl DeadlineIndex {
         requires { place < length self.old }
         ensures value { self.new ≡ slice_set self.old place tick }
     {
-        self.all[place] = tick;
-        mend(&mut self.all, LEVELS, 0, self.places, place);
+        set_entry(&mut self.all, LEVELS, 0, self.places, place, tick);
+    }
+
+    /// Whether any place is due by the tick. Where none is, this looks at the highest level alone.
+    pub fn is_any_by(&self, tick: u64) -> bool
+        ensures { result ≡ list_any (λ due. nat_le due tick) self.now }
+    {
+        !is_none_by(&self.all, LEVELS, 0, self.places, tick) && self.first_by(0, tick).is_some()
     }
 
     /// The first place from `start` on that is due by the tick.

@@ -1,12 +1,12 @@
-//! Levels of least ticks over the places, one behind another in one list: each entry is the least of sixteen in the level
+//! Levels of least ticks over the places, one behind another in one list: each entry is the least of eight in the level
 //! before it.
-ghost use Rattle.std.specs.Prelude.{◌≡◌, ◌+◌, ◌*◌, ◌/◌, ◌<◌, ◌≤◌, ℕ, min, length, slice_index, IfSome, IfNone};
-ghost use Rattle.deadline_index.specs.Inside.Levels.{group_count, AreLevels, AreLevelsBut, IsNoneIn, IsLastIn, IsFirstIn, IsLeastIn};
+ghost use Rattle.std.specs.Prelude.{◌≡◌, ◌+◌, ◌*◌, ◌/◌, ◌<◌, ◌≤◌, ℕ, min, length, slice_index, slice_set, IsTrue, IfSome, IfNone};
+ghost use Rattle.deadline_index.specs.Inside.Levels.{group_count, AreLevels, IsNoneIn, IsLastIn, IsFirstIn, IsLeastIn, IsLeastBut};
 
 use crate::index::NEVER;
 
 /// How many entries a group has.
-const GROUP: usize = 16;
+const GROUP: usize = 8;
 
 /// How many groups a level has room for above so many entries.
 fn group_count(len: usize) -> usize
@@ -18,7 +18,7 @@ fn group_count(len: usize) -> usize
 /// Where the group of an entry ends, or the level.
 fn group_end(entry: usize, len: usize) -> usize
     requires { entry < len }
-    ensures { result ≡ min (16 * (entry / 16) + 16) len }
+    ensures { result ≡ min (8 * (entry / 8) + 8) len }
 {
     let group = entry / GROUP;
     if group < len / GROUP {
@@ -151,22 +151,56 @@ pub fn first_by(
     None
 }
 
-/// Mends the levels after an entry has changed.
-pub fn mend(all: &mut [u64], levels: usize, at: usize, len: usize, entry: usize)
-    requires entry { entry < len }
-    requires before { AreLevelsBut levels at len entry all.old }
-    ensures levels { AreLevels levels at len all.new }
-    ensures same { (i : ℕ) → i < at + len → slice_index all.new i ≡ slice_index all.old i }
+/// Whether no entry of a level is at most the tick, where the highest of the levels above it says so.
+pub fn is_none_by(all: &[u64], levels: usize, at: usize, len: usize, tick: u64) -> bool
+    requires { AreLevels levels at len all.now }
+    ensures { IsTrue result → IsNoneIn all.now at 0 len tick }
 {
+    if levels == 0 {
+        first_in(all, at, 0, len, tick).is_none()
+    } else {
+        is_none_by(all, levels - 1, at + len, group_count(len), tick)
+    }
+}
+
+/// The least of an entry's group, where none but the entry itself is below `least`.
+fn least_now(all: &[u64], at: usize, len: usize, entry: usize, least: u64) -> u64
+    requires entry { entry < len }
+    requires within { at + len ≤ length all.now }
+    requires others { IsLeastBut all.now at len entry least }
+    ensures { IsLeastIn all.now at (8 * (entry / 8)) (min (8 * (entry / 8) + 8) len) result }
+{
+    let tick = all[at + entry];
+    if tick < least {
+        tick
+    } else {
+        least_in(all, at, GROUP * (entry / GROUP), group_end(entry, len))
+    }
+}
+
+/// Gives an entry another tick, and the entries above it the least of their groups, as far as they change. Where another
+/// entry has been the least of its group and still is, none does.
+pub fn set_entry(all: &mut [u64], levels: usize, at: usize, len: usize, entry: usize, tick: u64)
+    requires entry { entry < len }
+    requires before { AreLevels levels at len all.old }
+    ensures levels { AreLevels levels at len all.new }
+    ensures value { (i : ℕ) → i < at + len
+        → slice_index all.new i ≡ slice_index (slice_set all.old (at + entry) tick) i }
+{
+    let before = all[at + entry];
+    all[at + entry] = tick;
     if levels == 0 {
         return;
     }
     let group = entry / GROUP;
-    let least = least_in(all, at, GROUP * group, group_end(entry, len));
     let above = at + len;
-    if all[above + group] == least {
+    let least = all[above + group];
+    if least <= tick && least < before {
         return;
     }
-    all[above + group] = least;
-    mend(all, levels - 1, above, group_count(len), group);
+    let now = least_now(all, at, len, entry, least);
+    if now == least {
+        return;
+    }
+    set_entry(all, levels - 1, above, group_count(len), group, now);
 }

@@ -1,20 +1,19 @@
 -- What a search among the places finds.
-use Rattle.std.proofs.Common.{◌≡◌, ℕ, zero, suc, ◌+◌, ◌-◌, ◌^◌, ◌<◌, ◌≤◌, ◌%◌, pos, Bool, true, false, ◌||◌, List, [], ◌∷◌, Option, Some, None, length, map, refl, sym, ◌∙◌, ap, subst, arith, inl, inr}
+use Rattle.std.proofs.Common.{◌≡◌, ℕ, zero, suc, ◌+◌, ◌-◌, ◌^◌, ◌<◌, ◌≤◌, ◌%◌, Bool, true, false, ◌||◌, List, [], ◌∷◌, Option, Some, None, length, map, refl, sym, ◌∙◌, ap, subst, arith, inl, inr}
 use Rattle.std.specs.Prelude.{nat_lt, ◌==◌, slice_index, IfSome, IfNone}
 use Rattle.std.specs.Option.{option_map}
 use Rattle.std.proofs.lemmas.Bool.{cases_lt, or_parts, ltb-false}
 use Rattle.std.proofs.lemmas.Bool.Decides.{nat_tests}
-use Rattle.std.proofs.lemmas.Int.{ints}
 use Rattle.std.proofs.lemmas.List.{get_or-map, get_or_past, length-map}
 use Rattle.std.specs.List.{list_any}
-use Rattle.deadline_index.specs.Places.{IsFirstBy, IsLastBy, IsNoneFrom, IsNoneBelow}
-use Rattle.receiver_rules.specs.Packets.{Packet, At, is_due_by, playout_floor, IsRising}
+use Rattle.deadline_index.specs.Places.{IsFirstBy, IsNoneFrom}
+use Rattle.receiver_rules.specs.Packets.{Packet, IsRising}
 use Rattle.receiver_rules.proofs.PacketLemmas.{any-insert}
 use Rattle.reorder_buffer.specs.Inside.Ring.{packet_of, packets_in, tick_of, first_number}
-use Rattle.reorder_buffer.specs.Inside.Around.{IsAround, floor_of}
+use Rattle.reorder_buffer.specs.Inside.Around.{IsAround}
 use Rattle.reorder_buffer.specs.declared.ring.Held.{Held}
 use Rattle.reorder_buffer.proofs.PlaceLemmas.{stands_from, stands_wrapped}
-use Rattle.reorder_buffer.proofs.RingLemmas.{place_at, floor_at_most, floor_at_least}
+use Rattle.reorder_buffer.proofs.RingLemmas.{place_at}
 
 -- where a packet stands, in the order of the places
 above_start : (low : ℕ) (places : List (Option Held)) (ticks : List ℕ) (k : ℕ) (held : Held) → IsAround low places ticks → place_at places k ≡ Some held → low % length places ≤ k → held.number ≡ low + (k - low % length places)
@@ -54,86 +53,6 @@ long low places ticks a = ap length a.indexed ∙ length-map places tick_of
 holds : (o : Option Held) (tick : ℕ) → tick < 2 ^ 64 - 1 → tick_of o ≤ tick → (held : Held) × (o ≡ Some held)
 holds None tick h l = absurd (omega arith)
 holds (Some held) tick h l = (held, refl)
-
-due_tick : (at deadline : ℕ) → is_due_by (At at) (pos deadline) ≡ true → deadline ≤ at
-due_tick at deadline h = grind (arith, ints)
-
-tick_due : (at deadline : ℕ) → deadline ≤ at → is_due_by (At at) (pos deadline) ≡ true
-tick_due at deadline h = grind (arith, ints)
-
--- ---- the floor
-
--- the packet at a place is due, and no due packet has a higher number
-record IsHighestDue (at place : ℕ) (places : List (Option Held)) (held : Held) : Type 0 where
-  there : place_at places place ≡ Some held
-  due : held.deadline ≤ at
-  highest : (k : ℕ) (other : Held) → place_at places k ≡ Some other → other.deadline ≤ at → other.number ≤ held.number
-
-floor_is : (at place : ℕ) (places : List (Option Held)) (blocks : List (List ℕ)) (held : Held) → length blocks ≡ length places → IsHighestDue at place places held
-    → floor_of (place_at places place) ≡ playout_floor (packets_in places blocks) (At at)
-floor_is at place places blocks held sized h =
-    let low = floor_at_least (At at) place held places blocks sized h.there (tick_due at held.deadline h.due) in
-    let high = floor_at_most (At at) (held.number + 1) places blocks (λ k other there due. let le = h.highest k other there (due_tick at other.deadline due) in omega arith) in
-    ap floor_of h.there ∙ (omega arith)
-
--- the last place before the start that is due holds the highest due number
-pub floor_wrapped : (low at place : ℕ) (places : List (Option Held)) (ticks : List ℕ) (blocks : List (List ℕ)) → IsAround low places ticks → at < 2 ^ 61 → length blocks ≡ length places
-    → IsLastBy ticks (low % length places) at place → floor_of (place_at places place) ≡ playout_floor (packets_in places blocks) (At at)
-floor_wrapped low at place places ticks blocks a early sized last =
-    let there : place < length places = omega (arith, last.there, long low places ticks a) in
-    let found = holds (place_at places place) at (omega arith) (omega (arith, last.due, tick_is places ticks place a.indexed there)) in
-    let n = below_start low places ticks place found.0 a found.1 last.below in
-    floor_is at place places blocks found.0 sized (record {
-      there = found.1;
-      due = omega (arith, last.due, tick_held places ticks place found.0 a.indexed found.1);
-      highest = λ k other is due.
-          let k_in = inside places k other is in
-          elim (cases_lt k (low % length places)) [
-            | inl under ↦
-                let m = below_start low places ticks k other a is under in
-                elim (cases_lt place k) [
-                  | inl later ↦ absurd (let late = last.last k later under (omega (arith, long low places ticks a)) in omega (arith, tick_held places ticks k other a.indexed is))
-                  | inr before ↦ omega arith
-                ]
-            | inr above ↦ let m = above_start low places ticks k other a is above in omega arith
-          ];
-    })
-
--- where none before the start is due, the last place that is due does
-pub floor_straight : (low at place : ℕ) (places : List (Option Held)) (ticks : List ℕ) (blocks : List (List ℕ)) → IsAround low places ticks → at < 2 ^ 61 → length blocks ≡ length places
-    → IsNoneBelow ticks (low % length places) at → IsLastBy ticks (length places) at place → floor_of (place_at places place) ≡ playout_floor (packets_in places blocks) (At at)
-floor_straight low at place places ticks blocks a early sized none last =
-    let there : place < length places = omega (arith, last.there, long low places ticks a) in
-    let found = holds (place_at places place) at (omega arith) (omega (arith, last.due, tick_is places ticks place a.indexed there)) in
-    let side : low % length places ≤ place = elim (cases_lt place (low % length places)) [
-      | inl under ↦ absurd (let late = none place under last.there in omega (arith, last.due))
-      | inr above ↦ above
-    ] in
-    let n = above_start low places ticks place found.0 a found.1 side in
-    floor_is at place places blocks found.0 sized (record {
-      there = found.1;
-      due = omega (arith, last.due, tick_held places ticks place found.0 a.indexed found.1);
-      highest = λ k other is due.
-          let k_in = inside places k other is in
-          elim (cases_lt k (low % length places)) [
-            | inl under ↦ absurd (let late = none k under (omega (arith, long low places ticks a)) in omega (arith, tick_held places ticks k other a.indexed is))
-            | inr above ↦
-                let m = above_start low places ticks k other a is above in
-                elim (cases_lt place k) [
-                  | inl later ↦ absurd (let late = last.last k later k_in (omega (arith, long low places ticks a)) in omega (arith, tick_held places ticks k other a.indexed is))
-                  | inr before ↦ omega arith
-                ]
-          ];
-    })
-
-pub floor_none : (low at : ℕ) (places : List (Option Held)) (ticks : List ℕ) (blocks : List (List ℕ)) → IsAround low places ticks → IsNoneBelow ticks (length places) at → 0 ≡ playout_floor (packets_in places blocks) (At at)
-floor_none low at places ticks blocks a none =
-    let high = floor_at_most (At at) 0 places blocks (λ k other is due.
-    let k_in = inside places k other is in
-    let late = none k k_in (omega (arith, long low places ticks a)) in
-    let early = due_tick at other.deadline due in
-    absurd (omega (arith, tick_held places ticks k other a.indexed is))) in
-    omega arith
 
 -- ---- the lowest
 

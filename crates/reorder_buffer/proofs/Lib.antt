@@ -9,3 +9,4 @@ pub mod StateAfterLemmas
 mod WriteLemmas
 mod ReleaseLemmas
 mod ReceiveLemmas
+mod DueLemmas

@@ -1,11 +1,11 @@
 -- What is due goes out and then an arrival is judged: as one step of the history.
-use Rattle.std.proofs.Common.{◌≡◌, ℕ, ◌≤◌, ◌<◌, max, Bool, true, false, cond, List, ◌∷◌, Option, unwrap_or, refl, ◌∙◌, ap, map, arith}
+use Rattle.std.proofs.Common.{◌≡◌, ℕ, ◌≤◌, max, Bool, true, false, cond, List, ◌∷◌, Option, unwrap_or, refl, ◌∙◌, ap, map, arith}
 use Rattle.std.specs.List.{concat}
 use Rattle.outside_io.specs.Told.{Appends, AppendsPart, Writes, WritesPart}
 use Rattle.receiver_rules.specs.declared.limits.Limits.{Limits}
 use Rattle.receiver_rules.specs.Steps.{Arrival, Step, effective_time, media_step, time_step}
 use Rattle.std.specs.Prelude.{nat_lt, Some, None}
-use Rattle.std.proofs.lemmas.Bool.{ltb-true, ltb-false}
+use Rattle.std.proofs.lemmas.Bool.{ltb-true}
 use Rattle.receiver_rules.specs.declared.anchor.Highest.{Highest}
 use Rattle.receiver_rules.specs.Packets.{Packet, At, is_kept, verdict_of, higher}
 use Rattle.receiver_rules.specs.History.{new_anchor, anchor_of, accepted_packets, verdict, released_bytes}

@@ -1,10 +1,10 @@
 -- The packets of places.
-use Rattle.std.proofs.Common.{◌≡◌, ℕ, zero, suc, ◌+◌, ◌<◌, ◌≤◌, pos, max, Bool, true, false, cond, ◌||◌, List, [], ◌∷◌, Option, Some, None, length, refl, sym, ◌∙◌, ap, subst, arith}
+use Rattle.std.proofs.Common.{◌≡◌, ℕ, zero, suc, ◌+◌, ◌<◌, ◌≤◌, Bool, true, false, ◌||◌, List, [], ◌∷◌, Option, Some, None, length, refl, sym, ◌∙◌, ap, arith}
 use Rattle.std.specs.Prelude.{◌==◌, slice_index_or, slice_set}
 use Rattle.std.proofs.lemmas.Bool.{or_parts}
 use Rattle.std.specs.List.{list_any}
-use Rattle.receiver_rules.specs.Packets.{Packet, Moment, is_due_by, insert_by_number, playout_floor}
-use Rattle.receiver_rules.proofs.PacketLemmas.{any-insert, floor-insert}
+use Rattle.receiver_rules.specs.Packets.{Packet, insert_by_number}
+use Rattle.receiver_rules.proofs.PacketLemmas.{any-insert}
 use Rattle.reorder_buffer.specs.Inside.Ring.{packet_of, packets_in}
 use Rattle.reorder_buffer.specs.declared.ring.Held.{Held}
 
@@ -80,48 +80,7 @@ put_at (suc i) held block (Some other ∷ xs) (b ∷ bs) l inside free new =
     ap (insert_by_number (packet_of other b)) (put_at i held block xs bs (omega (arith, l)) (omega (arith, inside)) free parts.1)
     ∙ swap_insert (packet_of other b) (packet_of held block) (packets_in xs bs) parts.0
 
--- ---- the floor that the packets of places set
-
-pub floor_at_most : (m : Moment) (n : ℕ) (xs : List (Option Held)) (bs : List (List ℕ)) → ((k : ℕ) (held : Held) → place_at xs k ≡ Some held → is_due_by m (pos held.deadline) ≡ true → held.number + 1 ≤ n) → playout_floor (packets_in xs bs) m ≤ n
-floor_at_most m n [] bs h = omega arith
-floor_at_most m n (x ∷ xs) [] h = omega arith
-floor_at_most m n (None ∷ xs) (b ∷ bs) h = floor_at_most m n xs bs (λ k. h (suc k))
-floor_at_most m n (Some held ∷ xs) (b ∷ bs) h =
-    let rest = floor_at_most m n xs bs (λ k. h (suc k)) in
-    subst (λ f. f ≤ n) (sym (floor-insert m (packet_of held b) (packets_in xs bs)))
-    (elim (is_due_by m (pos held.deadline)) as (λ c. (c ≡ true → held.number + 1 ≤ n) → cond c (max (held.number + 1) (playout_floor (packets_in xs bs) m)) (playout_floor (packets_in xs bs) m) ≤ n) [
-      | true ↦ λ due. let low = due refl in omega arith
-      | false ↦ λ due. rest
-    ] (h zero held refl))
-
-pub floor_at_least : (m : Moment) (i : ℕ) (held : Held) (xs : List (Option Held)) (bs : List (List ℕ)) → length bs ≡ length xs → place_at xs i ≡ Some held → is_due_by m (pos held.deadline) ≡ true → held.number + 1 ≤ playout_floor (packets_in xs bs) m
-floor_at_least m i held [] bs l at due = absurd (none_some at)
-  where
-    none_some : None ≡ Some held → ⊥
-    none_some e = cc
-floor_at_least m i held (x ∷ xs) [] l at due = absurd (omega (arith, l))
-floor_at_least m zero held (None ∷ xs) (b ∷ bs) l at due = absurd (none_some at)
-  where
-    none_some : None ≡ Some held → ⊥
-    none_some e = cc
-floor_at_least m zero held (Some other ∷ xs) (b ∷ bs) l at due =
-    let same : other ≡ held = some_same at in
-    subst (λ f. held.number + 1 ≤ f) (sym (floor-insert m (packet_of other b) (packets_in xs bs)))
-    (subst (λ (h : Held). held.number + 1 ≤ cond (is_due_by m (pos h.deadline)) (max (h.number + 1) (playout_floor (packets_in xs bs) m)) (playout_floor (packets_in xs bs) m)) (sym same)
-    (subst (λ c. held.number + 1 ≤ cond c (max (held.number + 1) (playout_floor (packets_in xs bs) m)) (playout_floor (packets_in xs bs) m)) (sym due) (omega arith)))
-  where
-    some_same : Some other ≡ Some held → other ≡ held
-    some_same e = cc
-floor_at_least m (suc i) held (None ∷ xs) (b ∷ bs) l at due = floor_at_least m i held xs bs (omega (arith, l)) at due
-floor_at_least m (suc i) held (Some other ∷ xs) (b ∷ bs) l at due =
-    let rest = floor_at_least m i held xs bs (omega (arith, l)) at due in
-    subst (λ f. held.number + 1 ≤ f) (sym (floor-insert m (packet_of other b) (packets_in xs bs)))
-    (elim (is_due_by m (pos other.deadline)) as (λ c. held.number + 1 ≤ cond c (max (other.number + 1) (playout_floor (packets_in xs bs) m)) (playout_floor (packets_in xs bs) m)) [
-      | true ↦ omega arith
-      | false ↦ rest
-    ])
-
--- ---- how many packets places hold
+-- ---- ---- how many packets places hold
 
 pub length-insert : (p : Packet) (ps : List Packet) → length (insert_by_number p ps) ≡ length ps + 1
 length-insert p [] = refl

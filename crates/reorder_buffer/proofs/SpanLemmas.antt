@@ -1,10 +1,10 @@
 -- Numbers within a span: one more, and the first and the last of them.
-use Rattle.std.proofs.Common.{◌≡◌, ℕ, ◌+◌, ◌<◌, ◌≤◌, min, max, true, false, cond, ◌||◌, List, [], ◌∷◌, Option, Some, None, refl, sym, ◌∙◌, ap, arith}
+use Rattle.std.proofs.Common.{◌≡◌, ℕ, ◌+◌, ◌<◌, ◌≤◌, min, max, true, false, cond, ◌||◌, List, [], ◌∷◌, Option, Some, None, refl, sym, ◌∙◌, ap, arith, subst}
 use Rattle.std.specs.Prelude.{nat_lt, nat_le, ◌==◌}
 use Rattle.std.proofs.lemmas.Bool.{ltb-true, ltb-false, leb-false, or_parts}
 use Rattle.std.proofs.lemmas.Bool.Decides.{nat_tests}
 use Rattle.std.specs.List.{list_any}
-use Rattle.receiver_rules.specs.Packets.{Packet, Ever, distance, insert_by_number, playout_floor, IsRising}
+use Rattle.receiver_rules.specs.Packets.{Packet, distance, insert_by_number, IsRising}
 use Rattle.reorder_buffer.specs.Inside.Span.{AllBelow, IsWithin}
 use Rattle.reorder_buffer.specs.Inside.Ring.{first_number, last_number, ends_of, ends_and}
 use Rattle.reorder_buffer.specs.declared.ring.Ends.{Ends}
@@ -124,17 +124,13 @@ far_in capacity n (p ∷ ps) e b r = far_ends capacity n p ps r ∙ ap (λ (k : 
     some_same : {x y : Ends} → Some x ≡ Some y → x ≡ y
     some_same e = cc
 
--- the floor that all packets set
-pub floor_ever : (p : Packet) (ps : List Packet) → IsRising (p.number + 1) ps → playout_floor (p ∷ ps) Ever ≡ last_number p.number ps + 1
-floor_ever p [] r = omega arith
-floor_ever p (q ∷ qs) r = let rest = floor_ever q qs r.1 in let low = last_low q.number qs r.1 in omega (arith, r.0)
-
-pub floor_ends : (ps : List Packet) (e : Ends) → ends_of ps ≡ Some e → IsRising 0 ps → e.high + 1 ≡ playout_floor ps Ever
-floor_ends [] e b r = absurd (none_some b)
+-- the lowest number is no higher than the highest
+pub low_high : (ps : List Packet) (e : Ends) → ends_of ps ≡ Some e → IsRising 0 ps → e.low ≤ e.high
+low_high [] e b r = absurd (none_some b)
   where
     none_some : None ≡ Some e → ⊥
     none_some e = cc
-floor_ends (p ∷ ps) e b r = ap (λ (k : Ends). k.high + 1) (sym (some_same b)) ∙ sym (floor_ever p ps r.1)
+low_high (p ∷ ps) e b r = subst (λ (k : Ends). k.low ≤ k.high) (some_same b) (last_low p.number ps r.1)
   where
     some_same : {x y : Ends} → Some x ≡ Some y → x ≡ y
     some_same e = cc

@@ -1,7 +1,7 @@
 ghost use Rattle.std.specs.Prelude.{◌≡◌, ◌<◌, ◌≤◌, ◌^◌};
 
 use crate::phase::{Phase, WriteFault};
-use crate::release::put_below;
+use crate::release::put_due;
 use crate::ring::{MAX_PAYLOAD, Ring};
 use outside_io::{NoMemory, Sink};
 use receiver_rules::place::{Position, highest_after, new_anchor, place_of};
@@ -332,11 +332,10 @@ impl Buffer {
             → IsOk result }
         ensures cause { HasCause (K.faults sink.old) (K.faults sink.new) result }
     {
-        let floor = self.floor.max(self.ring.floor_by(until));
-        match put_below(&mut self.ring, floor, sink) {
-            Ok(count) => {
-                self.floor = floor;
-                Ok(count)
+        match put_due(&mut self.ring, self.floor, until, sink) {
+            Ok(released) => {
+                self.floor = released.floor;
+                Ok(released.count)
             }
             Err(_) => {
                 self.ring.clear();

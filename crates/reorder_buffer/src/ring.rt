@@ -1,13 +1,13 @@
 //! The packets that wait, in a ring of places over one pool of blocks: a packet stands at the place that its number is modulo
 //! the number of places. Only the first call takes memory.
-ghost use Rattle.std.specs.Prelude.{◌≡◌, ◌==◌, ◌<◌, ◌≤◌, ◌%◌, ◌^◌, [], length, nat_le, int_lt, pos, take, true, false, IfOk};
+ghost use Rattle.std.specs.Prelude.{◌≡◌, ◌==◌, ◌<◌, ◌≤◌, ◌%◌, ◌^◌, [], length, nat_le, int_lt, pos, take, true, false, IsTrue, IfOk};
 ghost use Rattle.std.specs.List.{list_any};
 ghost use Rattle.std.specs.Option.{ForSome};
-ghost use Rattle.receiver_rules.specs.Packets.{distance, insert_by_number, playout_floor};
+ghost use Rattle.receiver_rules.specs.Packets.{At, distance, insert_by_number, is_past_deadline};
 ghost use Rattle.receiver_rules.specs.Seen.{moment_of, packet_at};
-ghost use Rattle.reorder_buffer.specs.Inside.Ring.{first_number, after_first, first_payload, ends_and, ends_from as ends_between};
+ghost use Rattle.reorder_buffer.specs.Inside.Ring.{floor_after_first, after_first, first_payload, ends_and, ends_from as ends_between};
 
-use crate::places::{floor_at, lowest_from};
+use crate::places::lowest_from;
 use deadline_index::{DeadlineIndex, NEVER};
 use receiver_rules::place::Position;
 use std::alloc::{AllocError, Global};
@@ -37,7 +37,7 @@ pub struct Ends {
 }
 
 /// Packets that wait, whose numbers lie less than the number of places apart. Putting one in, taking the first out and finding
-/// what is due look at sixteen entries for each hexadecimal digit of the number of places; all else looks at one.
+/// what is due look at eight entries for each octal digit of the number of places at most; all else looks at one.
 #[derive(Drop)]
 pub struct Ring {
     places: Vec<Option<Held>>,
@@ -90,13 +90,6 @@ impl Ring {
         self.count
     }
 
-    /// The lowest number that waits.
-    pub fn first(&self) -> Option<u64>
-        ensures { result ≡ first_number self.now.packets }
-    {
-        self.ends.map(|ends| ends.low)
-    }
-
     /// Whether the number waits.
     pub fn has(&self, number: u64) -> bool
         ensures { result ≡ list_any (λ p. p.number == number) self.now.packets }
@@ -117,15 +110,39 @@ impl Ring {
         }
     }
 
-    /// The floor that the packets due at a tick set, or all without a tick: one above the highest of their numbers.
-    pub fn floor_by(&self, until: Option<u64>) -> u64
+    /// Whether a packet that waits is due at a tick, or any waits, without a tick. Mostly the first is due, or none is: then
+    /// no place but the first's is looked at.
+    pub fn is_any_due(&self, until: Option<u64>) -> bool
         requires { ForSome until (λ t. t < 2 ^ 61) }
-        ensures { result ≡ playout_floor self.now.packets (moment_of until) }
+        ensures { result ≡ list_any (is_past_deadline (moment_of until)) self.now.packets }
     {
-        match (self.ends, until) {
-            (Some(ends), Some(at)) => floor_at(&self.places, &self.index, ends.low, at),
-            (Some(ends), None) => ends.high + 1,
-            (None, _) => 0,
+        match until {
+            Some(at) => self.is_first_due(at) || self.index.is_any_by(at),
+            None => self.ends.is_some(),
+        }
+    }
+
+    /// Whether the packet with the lowest number is due at a tick.
+    fn is_first_due(&self, at: u64) -> bool
+        ensures { IsTrue result → list_any (is_past_deadline (At at)) self.now.packets ≡ true }
+    {
+        let Some(ends) = self.ends else {
+            return false;
+        };
+        let place = self.place_of(ends.low);
+        match self.places[place] {
+            Some(held) => held.deadline <= at,
+            None => false,
+        }
+    }
+
+    /// The floor once the packet with the lowest number is out: one above its number.
+    pub fn floor_after_first(&self) -> u64
+        ensures { result ≡ floor_after_first self.now.packets }
+    {
+        match self.ends {
+            Some(ends) => ends.low + 1,
+            None => 0,
         }
     }
 

@@ -10,8 +10,3 @@ pub record IsAround (low : ℕ) (places : List (Option Held)) (ticks : List ℕ)
   pub placed : (place : ℕ) (held : Held) → slice_index_or places place None ≡ Some held → IsPlaced (length places) place held
   pub from : (place : ℕ) (held : Held) → slice_index_or places place None ≡ Some held → low ≤ held.number
   pub below : (place : ℕ) (held : Held) → slice_index_or places place None ≡ Some held → held.number < low + length places
-
--- the floor that the packet at a place sets
-abbrev pub floor_of : Option Held → ℕ
-floor_of None = 0
-floor_of (Some held) = held.number + 1

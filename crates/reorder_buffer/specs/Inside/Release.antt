@@ -8,6 +8,10 @@ use Rattle.reorder_buffer.specs.State.{State}
 abbrev pub octets_below : ℕ → List Packet → List ℕ
 octets_below floor packets = concat (map (λ p. p.payload) (filter (is_below floor) packets))
 
+-- the floor at a moment, no lower than it was
+abbrev pub floor_from : ℕ → Moment → List Packet → ℕ
+floor_from floor moment packets = max floor (playout_floor packets moment)
+
 -- the floor at a later moment
 abbrev pub floor_then : State → Moment → ℕ
-floor_then b later = max b.floor (playout_floor b.held later)
+floor_then b later = floor_from b.floor later b.held

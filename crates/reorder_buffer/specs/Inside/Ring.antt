@@ -1,5 +1,5 @@
 -- How places and blocks show the packets that wait.
-use Rattle.std.specs.Prelude.{◌≡◌, ℕ, ◌-◌, ◌^◌, ◌<◌, ◌≤◌, ◌%◌, pos, List, [], ◌∷◌, length, map, take, min, max, nat_lt, Bool, false, slice_index_or, Option, None, Some}
+use Rattle.std.specs.Prelude.{◌≡◌, ℕ, ◌+◌, ◌-◌, ◌^◌, ◌<◌, ◌≤◌, ◌%◌, pos, List, [], ◌∷◌, length, map, take, min, max, nat_lt, Bool, false, slice_index_or, Option, None, Some}
 use Rattle.receiver_rules.specs.Packets.{Packet, insert_by_number, IsRising}
 use Rattle.reorder_buffer.specs.Inside.Span.{IsWithin}
 use Rattle.reorder_buffer.specs.declared.ring.Held.{Held}
@@ -41,6 +41,11 @@ last_number number (p ∷ ps) = last_number p.number ps
 abbrev pub ends_of : List Packet → Option Ends
 ends_of [] = None
 ends_of (p ∷ ps) = Some (record { low = p.number; high = last_number p.number ps })
+
+-- the floor once the first packet is out: one above its number
+abbrev pub floor_after_first : List Packet → ℕ
+floor_after_first [] = 0
+floor_after_first (p ∷ ps) = p.number + 1
 
 -- the payload of the first packet
 abbrev pub first_payload : List Packet → List ℕ

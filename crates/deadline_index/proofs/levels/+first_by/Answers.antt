@@ -1,8 +1,7 @@
 -- What is found a level higher says which group to look at.
-use Rattle.std.proofs.Common.{rules, ◌≡◌, ℕ, ◌+◌, ◌-◌, ◌*◌, ◌/◌, ◌<◌, ◌≤◌, length, min, inl, inr, sym, subst, arith}
+use Rattle.std.proofs.Common.{rules, ◌+◌, ◌-◌, ◌<◌, inl, inr, sym, subst, arith}
 use Rattle.std.proofs.lemmas.Bool.{cases_lt}
-use Rattle.std.specs.Prelude.{slice_index}
-use Rattle.deadline_index.specs.Inside.Levels.{group_count, AreLevels, IsNoneIn}
+use Rattle.deadline_index.specs.Inside.Levels.{AreLevels}
 use Rattle.deadline_index.proofs.LevelLemmas.{inside, parted}
 use Rattle.deadline_index.proofs.SearchLemmas.{none_of_groups}
 use Rattle.deadline_index.proofs.levels.+first_by.Goals as goal

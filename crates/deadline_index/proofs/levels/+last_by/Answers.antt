@@ -1,8 +1,7 @@
 -- What is found a level higher says which group to look at.
-use Rattle.std.proofs.Common.{◌≡◌, ℕ, ◌+◌, ◌-◌, ◌*◌, ◌/◌, ◌<◌, ◌≤◌, length, inl, inr, sym, subst, arith}
+use Rattle.std.proofs.Common.{◌+◌, ◌-◌, ◌*◌, ◌/◌, inl, inr, sym, subst, arith}
 use Rattle.std.proofs.lemmas.Bool.{cases_lt}
-use Rattle.std.specs.Prelude.{slice_index}
-use Rattle.deadline_index.specs.Inside.Levels.{group_count, AreLevels, IsNoneIn}
+use Rattle.deadline_index.specs.Inside.Levels.{AreLevels}
 use Rattle.deadline_index.proofs.LevelLemmas.{inside, parted}
 use Rattle.deadline_index.proofs.SearchLemmas.{none_of_groups}
 use Rattle.deadline_index.proofs.levels.+last_by.Goals as goal
@@ -43,7 +42,7 @@ loop-rest-preserved t c =
       λ k low high.
           elim (cases_lt k c.loop-rest.rest) [
             | inl under ↦
-                elim (cases_lt k ((c.loop-rest.rest - 1) / 16 * 16)) [
+                elim (cases_lt k ((c.loop-rest.rest - 1) / 8 * 8)) [
                   | inl deep ↦ none_of_groups c.args.at c.args.len c.args.all.now _ _ c.args.tick (parted c.args.levels c.args.at c.args.len c.args.all.now (omega arith) c.requires.levels).0 found.last k (omega arith) (omega arith) (omega arith)
                   | inr near ↦ c.in_default.ensures.none k near under
                 ]
@@ -58,7 +57,7 @@ returns-in-None-clause-none t c k low high =
     let rest = c.loop-rest.invariant.0 in
     elim (cases_lt k c.loop-rest.rest) [
       | inl under ↦
-          elim (cases_lt k ((c.loop-rest.rest - 1) / 16 * 16)) [
+          elim (cases_lt k ((c.loop-rest.rest - 1) / 8 * 8)) [
             | inl deep ↦ none_of_groups c.args.at c.args.len c.args.all.now _ _ c.args.tick (parted c.args.levels c.args.at c.args.len c.args.all.now (omega arith) c.requires.levels).0 c.in-None.ensures.none k (omega arith) (omega arith) (omega arith)
             | inr near ↦ c.in_default.ensures.none k near under
           ]

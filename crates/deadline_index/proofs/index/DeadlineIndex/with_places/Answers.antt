@@ -1,5 +1,5 @@
 -- Levels of equal ticks.
-use Rattle.std.proofs.Common.{◌≡◌, ℕ, ◌+◌, ◌-◌, ◌^◌, ◌/◌, replicate, rules, subst, sym, arith}
+use Rattle.std.proofs.Common.{◌≡◌, ◌-◌, ◌^◌, replicate, rules, subst, sym}
 use Rattle.deadline_index.specs.Inside.Levels.{AreLevels}
 use Rattle.deadline_index.proofs.LevelLemmas.{never_levels}
 use Rattle.deadline_index.proofs.index.DeadlineIndex.with_places.Goals as goal
@@ -7,4 +7,4 @@ use Rattle.deadline_index.proofs.index.DeadlineIndex.with_places.Goals as goal
 pub invariant_of-result : goal.invariant_of-result
 invariant_of-result c =
     let all : c.resize.new.self.items ≡ replicate c.in-Some.total (2 ^ 64 - 1) = search rules in
-    subst (AreLevels 3 0 c.args.places) (sym all) (never_levels c.args.places c.in-Some.total (2 ^ 64 - 1) (search rules))
+    subst (AreLevels 4 0 c.args.places) (sym all) (never_levels c.args.places c.in-Some.total (2 ^ 64 - 1) (search rules))
