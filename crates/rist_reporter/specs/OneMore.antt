@@ -28,6 +28,7 @@ abbrev pub second_of : Option OutOf → List OutOf
 second_of None = []
 second_of (Some out) = out ∷ []
 
+-- the same of a pair of datagrams, of which the second may be absent
 abbrev pub outs_of : Outs → List OutOf
 outs_of outs = outs.first ∷ second_of outs.second
 
@@ -60,6 +61,7 @@ abbrev pub made_count : Option Outs → ℕ
 made_count None = 0
 made_count (Some outs) = length (outs_of outs)
 
+-- how many datagrams an answer holds; none where the pairs are spent
 abbrev pub answer_count : Result (Option Outs) Spent → ℕ
 answer_count (Ok made) = made_count made
 answer_count (Err spent) = 0
@@ -89,6 +91,7 @@ AnswersTick r buffer link micros result =
     → IsStateAfter buffer (buffer_history (tick_step link tick micros ∷ before))
     → AnswersAfter (settings_with buffer.limits r) r.shutter before (tick_step link tick micros) result
 
+-- after every history that the old reporter stands for, the new one stands for it with this tick and its answer
 abbrev pub StandsAfterTick : ReporterState → ReporterState → State → ℕ → ℕ → Result (Option Outs) Spent → Type 0
 StandsAfterTick old new buffer link micros result =
     (before : List Step) (tick : ℕ) → IsReporterAfter old buffer.limits before
@@ -99,11 +102,13 @@ StandsAfterTick old new buffer link micros result =
 abbrev pub control_step : ℕ → ℕ → ℕ → List Content → Step
 control_step link tick us packets = record { link = link; tick = tick; input = control_input us packets }
 
+-- after every history that the reporter stands for, the answer to a compound is the one that the rules make
 abbrev pub AnswersControl : ReporterState → ℕ → ℕ → List Content → Result (Option Outs) Spent → Type 0
 AnswersControl r link us packets result =
     (limits : Limits) (before : List Step) (tick : ℕ) → IsReporterAfter r limits before
     → AnswersAfter (settings_with limits r) r.shutter before (control_step link tick us packets) result
 
+-- after every history that the old reporter stands for, the new one stands for it with this compound and its answer
 abbrev pub StandsAfterControl : ReporterState → ReporterState → ℕ → ℕ → List Content → Result (Option Outs) Spent → Type 0
 StandsAfterControl old new link us packets result =
     (limits : Limits) (before : List Step) (tick : ℕ) → IsReporterAfter old limits before
@@ -118,6 +123,7 @@ pub record IsReceived (limits : Limits) (before : List Step) (link tick : ℕ) (
   pub kept : is_kept (verdict limits (buffer_history before) tick arrival) ≡ is_accepted
   pub high : highest_number limits (buffer_history (media_step link tick arrival ∷ before)) ≡ highest
 
+-- after every history that the old reporter stands for, the new one stands for it with this media packet
 abbrev pub StandsAfterMedia : ReporterState → ReporterState → ℕ → Width → Bool → Option ℕ → Type 0
 StandsAfterMedia old new at bits is_accepted highest =
     (limits : Limits) (before : List Step) (link tick : ℕ) (arrival : Arrival) → IsReporterAfter old limits before
