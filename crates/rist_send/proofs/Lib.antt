@@ -1,0 +1,3 @@
+pub mod ServedLemmas
+pub mod MoveLemmas
+pub mod PieceLemmas

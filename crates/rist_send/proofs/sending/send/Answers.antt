@@ -1,0 +1,131 @@
+use Rattle.std.proofs.Common.{◌≡◌, ◌∙◌, ℕ, suc, ◌+◌, Bool, map, length, Result, Ok, Err, refl, sym, ap, subst, arith}
+use Rattle.std.specs.Prelude.{if◌then◌else◌}
+use mathlib.Core.Logic.{inl, inr}
+use Rattle.rist_sender.proofs.TurnLemmas.{stays_then}
+use Rattle.rist_send.specs.declared.fault.SendFault.{SendFault}
+use Rattle.rist_send.specs.declared.fault.SendFault.TheVariants.{TurnsSpent}
+use Rattle.rist_send.specs.declared.progress.Progress.{Progress}
+use Rattle.rist_send.specs.Run.{Setup, no_progress, setup_of, is_over, has_ended}
+use Rattle.rist_send.specs.Turns.{Turn}
+use Rattle.rist_send.specs.Sending.{TurnsOn}
+use Rattle.rist_send.specs.Inside.Moves.{IsPlace}
+use Rattle.rist_send.specs.Served.{Outside, new_run}
+use Rattle.rist_send.proofs.MoveLemmas.{moves_none, moves_then, moves_next, setup_same, runs_of}
+use Rattle.rist_send.proofs.sending.send.Goals as goal
+
+abbrev last_with : Bool → Result Unit SendFault
+last_with ended = if ended then Ok tt else Err TurnsSpent
+
+one_more : (n : ℕ) → suc n ≡ n + 1
+one_more n = omega arith
+
+no_place : IsPlace no_progress.stage
+no_place = omega arith
+
+pub loop-count-init : goal.loop-count-init
+loop-count-init g c = record {
+  within = omega arith;
+  place = subst (λ (p : Progress). IsPlace p.stage) (sym c.new-progress.ensures.value) no_place;
+  same = refl;
+  set = record { rules = refl; session = refl };
+  opener = refl;
+  faults = refl;
+  does = λ from stands.
+      let outside : Outside = record { moments = g.C.Clock.moments c.args.clock.now; octets = g.S.Source.remaining c.args.source.now; answers = map g.L.Link.reads c.args.links.now } in
+      moves_none _ c.args.sender.now c.new-progress.result outside c.args.links.now (new_run from outside) _ (new_run from outside) refl
+      (record { sender = stands; progress = sym c.new-progress.ensures.value; moments = refl; octets = refl; answers = refl }) refl;
+}
+
+pub loop-count-preserved : goal.loop-count-preserved
+loop-count-preserved g c =
+    let loop = c.loop-count in
+    let inv = loop.invariant in
+    let sender = c.args.sender.now in
+    let links = c.args.links.now in
+    let settings = c.args.settings.now in
+    record {
+      within = omega arith;
+      place = c.in-Ok.ensures.at;
+      same = omega (arith, inv.same, c.turn.auto.links);
+      set = stays_then sender loop.sender c.turn.new.sender inv.set c.in-Ok.ensures.set;
+      opener = c.in-Ok.ensures.opener ∙ inv.opener;
+      faults = c.in-Ok.ensures.cause ∙ inv.faults;
+      does = λ from stands.
+          let d = inv.does from stands in
+          let old : Outside = record { moments = g.C.Clock.moments c.args.clock.now; octets = g.S.Source.remaining c.args.source.now; answers = map g.L.Link.reads c.args.links.now } in
+          let new : Outside = record { moments = g.C.Clock.moments c.turn.new.clock; octets = g.S.Source.remaining c.turn.new.source; answers = map g.L.Link.reads c.turn.new.links } in
+          let run = new_run from old in
+          let setup = setup_of settings sender (length links) in
+          moves_next _ sender loop.sender c.turn.new.sender loop.progress c.turn.new.progress _ new links loop.links c.turn.new.links run
+          (TurnsOn setup loop.count run) (Turn (setup_of settings loop.sender (length loop.links)) (Ok tt) d.to) (TurnsOn setup (loop.count + 1) run)
+          inv.same inv.set d (c.in-Ok.ensures.work d.to d.stands)
+          (λ to at fact. subst (λ (n : ℕ). TurnsOn setup n run to) (one_more loop.count) (
+            d.to,
+            d.fact,
+            subst (λ (s : Setup). Turn s (Ok tt) d.to to) (setup_same settings sender loop.sender (length links) (length loop.links) inv.set inv.same) fact,
+            ap (is_over settings.linger) at.progress ∙ sym c.if-is_over.ensures.value,
+          ));
+    }
+
+pub returns-in-Err-clause-work : goal.returns-in-Err-clause-work
+returns-in-Err-clause-work g c = λ from stands.
+    let loop = c.loop-count in
+    let inv = loop.invariant in
+    let sender = c.args.sender.now in
+    let links = c.args.links.now in
+    let d = inv.does from stands in
+    runs_of _ sender c.turn.new.sender c.turn.new.progress _ _ links c.turn.new.links from _ _
+    (moves_then _ sender loop.sender c.turn.new.sender loop.progress c.turn.new.progress _ _ links loop.links c.turn.new.links _ _ _
+    (λ to. Turn (setup_of c.args.settings.now sender (length links)) (Err c.in-Err.fault) d.to to) inv.same inv.set d (c.in-Err.ensures.work d.to d.stands)
+    (λ to fact. subst (λ (s : Setup). Turn s (Err c.in-Err.fault) d.to to) (setup_same c.args.settings.now sender loop.sender (length links) (length loop.links) inv.set inv.same) fact))
+    (λ at fact. record { count = loop.count; before = d.to; turns = d.fact; ends = inl (record { left = omega arith; turn = fact; stops = tt }) })
+
+pub returns-then-is_over-clause-work : goal.returns-then-is_over-clause-work
+returns-then-is_over-clause-work g c = λ from stands.
+    let loop = c.loop-count in
+    let inv = loop.invariant in
+    let sender = c.args.sender.now in
+    let links = c.args.links.now in
+    let d = inv.does from stands in
+    runs_of _ sender c.turn.new.sender c.turn.new.progress _ _ links c.turn.new.links from _ _
+    (moves_then _ sender loop.sender c.turn.new.sender loop.progress c.turn.new.progress _ _ links loop.links c.turn.new.links _ _ _
+    (λ to. Turn (setup_of c.args.settings.now sender (length links)) (Ok tt) d.to to) inv.same inv.set d (c.in-Ok.ensures.work d.to d.stands)
+    (λ to fact. subst (λ (s : Setup). Turn s (Ok tt) d.to to) (setup_same c.args.settings.now sender loop.sender (length links) (length loop.links) inv.set inv.same) fact))
+    (λ at fact. record {
+      count = loop.count;
+      before = d.to;
+      turns = d.fact;
+      ends = inl (record { left = omega arith; turn = fact; stops = ap (is_over c.args.settings.now.linger) at.progress ∙ sym c.if-is_over.ensures.value });
+    })
+
+pub returns-then-has_ended-clause-work : goal.returns-then-has_ended-clause-work
+returns-then-has_ended-clause-work g c = λ from stands.
+    let loop = c.loop-count in
+    let d = loop.invariant.does from stands in
+    runs_of _ c.args.sender.now loop.sender loop.progress _ _ c.args.links.now loop.links from _ _ d
+    (λ at fact. record {
+      count = loop.count;
+      before = d.to;
+      turns = fact;
+      ends = inr (record {
+        all = omega arith;
+        same = refl;
+        answer = subst (λ (b : Bool). Ok tt ≡ last_with b) (sym (ap (λ (p : Progress). has_ended p.stage) at.progress ∙ sym c.if-has_ended.ensures.value)) refl;
+      });
+    })
+
+pub returns-else-has_ended-clause-work : goal.returns-else-has_ended-clause-work
+returns-else-has_ended-clause-work g c = λ from stands.
+    let loop = c.loop-count in
+    let d = loop.invariant.does from stands in
+    runs_of _ c.args.sender.now loop.sender loop.progress _ _ c.args.links.now loop.links from _ _ d
+    (λ at fact. record {
+      count = loop.count;
+      before = d.to;
+      turns = fact;
+      ends = inr (record {
+        all = omega arith;
+        same = refl;
+        answer = subst (λ (b : Bool). Err TurnsSpent ≡ last_with b) (sym (ap (λ (p : Progress). has_ended p.stage) at.progress ∙ sym c.if-has_ended.ensures.value)) refl;
+      });
+    })

@@ -1,0 +1,56 @@
+-- A part of a run: what it leaves of sender, progress, source and links.
+use Rattle.std.specs.Prelude.{◌≡◌, ◌≢◌, ◌≤◌, ◌-◌, ◌*◌, ◌^◌, ℕ, List, slice_index_or, Option, Result}
+use Rattle.std.specs.Option.{option_map}
+use Rattle.std.specs.List.{range_with_len}
+use Rattle.outside_net.specs.Streams.{later, IsFirst}
+use Rattle.outside_net.specs.Links.{Answer}
+use Rattle.rist_sender.specs.Links.{Line}
+use Rattle.rist_sender.specs.Sender.{SenderState, IsSenderAfter}
+use Rattle.rist_send.specs.declared.progress.Progress.{Progress}
+use Rattle.rist_send.specs.declared.progress.Stage.{Stage}
+use Rattle.rist_send.specs.declared.progress.Stage.TheVariants.{Reading, Ended}
+use Rattle.rist_send.specs.declared.fault.SendFault.{SendFault}
+use Rattle.rist_send.specs.Run.{Setup, Run}
+use Rattle.rist_send.specs.Turns.{ReadsInTurn}
+use Rattle.rist_send.specs.Served.{Outside, AreServed}
+
+-- the octets before the next piece are no more than the longest source has
+abbrev pub IsPlace : Stage → Type 0
+IsPlace (Reading k) = 1316 * k ≤ 2 ^ 40
+IsPlace (Ended moment) = Unit {0}
+
+-- the outside where a part of a run doesn't come to its clock, nor to its source
+abbrev pub with_source : Run → Option (List ℕ) → List (Option (ℕ → Answer)) → Outside
+with_source run octets answers = record { moments = run.moments; octets = octets; answers = answers }
+
+abbrev pub with_links : Run → List (Option (ℕ → Answer)) → Outside
+with_links run answers = record { moments = run.moments; octets = run.octets; answers = answers }
+
+-- sender, progress and outside are at what a run has come to
+pub record IsAt (s : SenderState) (p : Progress) (outside : Outside) (run : Run) : Type 0 where
+  pub sender : IsSenderAfter s run.work
+  pub progress : run.progress ≡ p
+  pub moments : run.moments ≡ outside.moments
+  pub octets : run.octets ≡ outside.octets
+  pub answers : run.answers ≡ outside.answers
+
+-- a part of a run: it comes to something of which this holds
+pub record Moves {L : Type 0} (line : Line L) (old new : SenderState) (progress : Progress) (outside : Outside) (was is : List L) (from : Run) (P : Run → Type 0) : Type 0 where
+  pub to : Run
+  pub fact : P to
+  pub stands : IsAt new progress outside to
+  pub given : AreServed line old.flow old.session from.work.history to.work.history was is
+
+-- one link gave an answer to a read, and the others stay
+pub record ReadsAt {L : Type 0} (line : Line L) (link : ℕ) (answer : Answer) (was is : List L) : Type 0 where
+  pub first : (d : L) → IsFirst (line.reads (slice_index_or was link d)) answer
+  pub reads : (d : L) → line.reads (slice_index_or is link d) ≡ option_map later (line.reads (slice_index_or was link d))
+  pub taken : (d : L) → line.taken (slice_index_or is link d) ≡ line.taken (slice_index_or was link d)
+  pub faults : (d : L) → line.faults (slice_index_or was link d) ≤ line.faults (slice_index_or is link d)
+  pub others : (k : ℕ) (d : L) → k ≢ link → slice_index_or is k d ≡ slice_index_or was k d
+
+-- the links before one were read: whatever the reads of the others leave, the reads of all leave
+abbrev pub ReadsBefore : Setup → ℕ → Run → Run → Type 0
+ReadsBefore setup link from to =
+    (result : Result Unit SendFault) (last : Run) → ReadsInTurn setup (range_with_len link (setup.links - link)) result to last
+    → ReadsInTurn setup (range_with_len 0 setup.links) result from last

@@ -1,0 +1,81 @@
+-- What a run has come to.
+use Rattle.std.specs.Prelude.{ℕ, ◌+◌, ◌*◌, nat_le, List, replicate, Bool, true, false, Option, None, Some, Result, Ok, Err}
+use Rattle.outside_net.specs.Links.{Answer}
+use Rattle.rist_wire.specs.declared.session.Session.{Session}
+use Rattle.rist_sender.specs.Calls.{Work, Rules}
+use Rattle.rist_sender.specs.Sender.{SenderState, rules_of}
+use Rattle.rist_sender.specs.declared.send_bad.SendBad.{SendBad}
+use Rattle.rist_sender.specs.declared.send_bad.SendBad.TheVariants as refusals
+use Rattle.rist_send.specs.declared.fault.SendFault.{SendFault}
+use Rattle.rist_send.specs.declared.fault.SendFault.TheVariants as faults
+use Rattle.rist_send.specs.declared.settings.SendSettings.{SendSettings}
+use Rattle.rist_send.specs.declared.progress.Progress.{Progress}
+use Rattle.rist_send.specs.declared.progress.Stage.{Stage}
+use Rattle.rist_send.specs.declared.progress.Stage.TheVariants.{Reading, Ended}
+
+-- what a run is set to: its pace, its sender, its session, and how many links it has
+pub record Setup : Type 0 where
+  pub settings : SendSettings
+  pub rules : Rules
+  pub session : Session
+  pub links : ℕ
+
+-- that of a sender over so many links
+abbrev pub setup_of : SendSettings → SenderState → ℕ → Setup
+setup_of settings s links = record { settings = settings; rules = rules_of s; session = s.session; links = links }
+
+-- what its sender did; the pieces that it sent, the oldest first; how far it has come; and what its clock, its source
+-- and the reads of each of its links have still to give, where they tell it
+pub record Run : Type 0 where
+  pub work : Work
+  pub sent : List (List ℕ)
+  pub progress : Progress
+  pub moments : Option (ℕ → ℕ)
+  pub octets : Option (List ℕ)
+  pub answers : List (Option (ℕ → Answer))
+
+-- no turn was made
+abbrev pub no_progress : Progress
+no_progress = record { start = None; moment = 0; stage = Reading 0; closed = replicate 16 false }
+
+-- the start: the first turn's moment
+abbrev pub start_with : ℕ → Option ℕ → ℕ
+start_with moment None = moment
+start_with moment (Some start) = start
+
+-- a turn begins
+abbrev pub begun_at : ℕ → Progress → Progress
+begun_at moment progress = record { start = Some (start_with moment progress.start); moment = moment; stage = progress.stage; closed = progress.closed }
+
+-- piece k is due from k gaps after the start on
+abbrev pub is_due_from : ℕ → Option ℕ → ℕ → ℕ → Bool
+is_due_from gap None now k = false
+is_due_from gap (Some start) now k = nat_le (start + k * gap) now
+
+-- piece k is due
+abbrev pub is_due : ℕ → Progress → ℕ → Bool
+is_due gap progress k = is_due_from gap progress.start progress.moment k
+
+-- the source has ended, and this long has passed since
+abbrev pub is_over_at : ℕ → Stage → ℕ → Bool
+is_over_at linger (Reading k) now = false
+is_over_at linger (Ended moment) now = nat_le (moment + linger) now
+
+-- the run is over
+abbrev pub is_over : ℕ → Progress → Bool
+is_over linger progress = is_over_at linger progress.stage progress.moment
+
+-- the source has ended
+abbrev pub has_ended : Stage → Bool
+has_ended (Reading k) = false
+has_ended (Ended moment) = true
+
+-- what a refusal of the sender means
+abbrev pub refusal : SendBad → SendFault
+refusal refusals.Spent = faults.Spent
+refusal refusals.LinksDown = faults.LinksDown
+
+-- what an answer of the sender means
+abbrev pub outcome : {T : Type 0} → Result T SendBad → Result Unit SendFault
+outcome (Ok x) = Ok tt
+outcome (Err bad) = Err (refusal bad)

@@ -1,0 +1,49 @@
+-- A run from its first turn to its last.
+use Rattle.std.specs.Prelude.{◌≡◌, ◌<◌, ◌⊎◌, ℕ, zero, suc, true, false, if◌then◌else◌, Result, Ok, Err}
+use Rattle.outside_io.specs.Causes.{Fault, NoFault, Read}
+use Rattle.rist_send.specs.declared.fault.SendFault.{SendFault}
+use Rattle.rist_send.specs.declared.fault.SendFault.TheVariants.{ReadFault, LinksDown, Spent, TooLong, TurnsSpent}
+use Rattle.rist_send.specs.Run.{Setup, Run, is_over, has_ended}
+use Rattle.rist_send.specs.Turns.{Turn}
+
+-- so many turns, none of them refused, and after none of them the run is over
+abbrev pub TurnsOn : Setup → ℕ → Run → Run → Type 0
+TurnsOn setup zero from to = to ≡ from
+TurnsOn setup (suc count) from to =
+    (between : Run) × TurnsOn setup count from between × Turn setup (Ok tt) between to × (is_over setup.settings.linger to.progress ≡ false)
+
+-- the turn after which a run stops: it was refused, or the run is over
+abbrev pub StopsWith : Setup → Result Unit SendFault → Run → Type 0
+StopsWith setup (Ok done) to = is_over setup.settings.linger to.progress ≡ true
+StopsWith setup (Err fault) to = Unit {0}
+
+-- all turns were made: whether the source had ended
+abbrev pub result_at_last : Run → Result Unit SendFault
+result_at_last run = if has_ended run.progress.stage then Ok tt else Err TurnsSpent
+
+-- how a run goes on after some turns: with one that stops it, or not at all, where all turns were made
+pub record Stops (setup : Setup) (count : ℕ) (result : Result Unit SendFault) (from to : Run) : Type 0 where
+  pub left : count < setup.settings.turns
+  pub turn : Turn setup result from to
+  pub stops : StopsWith setup result to
+
+-- all turns were made
+pub record IsSpent (setup : Setup) (count : ℕ) (result : Result Unit SendFault) (from to : Run) : Type 0 where
+  pub all : count ≡ setup.settings.turns
+  pub same : to ≡ from
+  pub answer : result ≡ result_at_last from
+
+-- a run
+pub record SendsSource (setup : Setup) (result : Result Unit SendFault) (from to : Run) : Type 0 where
+  pub count : ℕ
+  pub before : Run
+  pub turns : TurnsOn setup count from before
+  pub ends : Stops setup count result before to ⊎ IsSpent setup count result before to
+
+-- which call on the source failed, by an error
+abbrev pub read_fault : SendFault → Fault
+read_fault ReadFault = Read
+read_fault LinksDown = NoFault
+read_fault Spent = NoFault
+read_fault TooLong = NoFault
+read_fault TurnsSpent = NoFault

@@ -1,0 +1,196 @@
+//! Reading the links, and answering what came.
+ghost use Rattle.std.specs.Prelude.{◌≡◌, ◌≤◌, ◌<◌, ℕ, length, map};
+ghost use Rattle.std.specs.List.{range_with_len};
+ghost use Rattle.outside_io.specs.Causes.{NoFault, fault_by};
+ghost use Rattle.outside_net.specs.Links.{Datagram, Gave, IsWithin, answer_of};
+ghost use Rattle.sender_rules.specs.Bonding.{link_count};
+ghost use Rattle.sender_rules.specs.declared.bounds.TheConstants.{MAX_LINKS};
+ghost use Rattle.rist_sender.specs.Sender.{IsSenderAfter, StaysSet};
+ghost use Rattle.rist_send.specs.Run.{Run, setup_of};
+ghost use Rattle.rist_send.specs.Turns.{AnswersTo, AnswersIf, ReadsOn, ReadsLink, ReadsInTurn, compound_in, is_read};
+ghost use Rattle.rist_send.specs.Sending.{read_fault};
+ghost use Rattle.rist_send.specs.Inside.Moves.{IsAt, Moves, ReadsAt, with_links};
+ghost use Rattle.rist_send.specs.declared.settings.SendSettings.{SendSettings as Settings};
+
+use crate::SendFault;
+use crate::fault::refusal;
+use crate::progress::Progress;
+use outside_io::Channel;
+use outside_net::{Got, Link, MAX_DATAGRAM};
+use rist_sender::Sender;
+use rist_wire::{Item, Opener};
+use rtcp_compound::Compound;
+
+// Reads a link, once.
+fn read_at<L: Link>(links: &mut [L], link: u8, block: &mut [u8; 2048]) -> Got
+    requires among { link < length links.old }
+    ensures within { IsWithin result }
+    ensures reads { ReadsAt (record { taken = L.taken; knows = L.knows; faults = L.faults; reads = L.reads; ends = L.ends }) link (answer_of result block.new) links.old links.new }
+{
+    links[usize::from(link)].read(block)
+}
+
+// Answers a compound that came on a link.
+fn feed<L: Link>(
+    sender: &mut Sender,
+    link: u8,
+    compound: &Compound<'_>,
+    links: &mut [L],
+    progress: &Progress,
+) -> Result<(), SendFault>
+    requires among { link < length links.old }
+    requires links { length links.old ≡ link_count sender.old.bonding }
+    requires few { length links.old ≤ MAX_LINKS }
+    ensures work { (settings : Settings) (from : Run)
+        → IsAt sender.old progress.now (with_links from (map L.reads links.old)) from
+        → Moves (record { taken = L.taken; knows = L.knows; faults = L.faults; reads = L.reads; ends = L.ends })
+        sender.old sender.new progress.now (with_links from (map L.reads links.new)) links.old links.new from
+        (AnswersTo (setup_of settings sender.old (length links.old)) link compound.now result from) }
+    ensures set { StaysSet sender.old sender.new }
+    ensures source { fault_by read_fault result ≡ NoFault }
+{
+    match sender.feedback(progress.moment, link, compound, links) {
+        Ok(_) => Ok(()),
+        Err(bad) => Err(refusal(bad)),
+    }
+}
+
+// Answers a datagram that came on a link, if it is a compound.
+fn answer<L: Link>(
+    sender: &mut Sender,
+    opener: &mut Opener,
+    link: u8,
+    channel: Channel,
+    octets: &mut [u8],
+    links: &mut [L],
+    progress: &Progress,
+) -> Result<(), SendFault>
+    requires among { link < length links.old }
+    requires links { length links.old ≡ link_count sender.old.bonding }
+    requires few { length links.old ≤ MAX_LINKS }
+    requires session { opener.old ≡ sender.old.session }
+    ensures work { (settings : Settings) (from : Run)
+        → IsAt sender.old progress.now (with_links from (map L.reads links.old)) from
+        → Moves (record { taken = L.taken; knows = L.knows; faults = L.faults; reads = L.reads; ends = L.ends })
+        sender.old sender.new progress.now (with_links from (map L.reads links.new)) links.old links.new from
+        (AnswersIf (setup_of settings sender.old (length links.old)) link
+        (compound_in sender.old.session (Gave (record { channel = channel; octets = octets.old }))) result from) }
+    ensures set { StaysSet sender.old sender.new }
+    ensures source { fault_by read_fault result ≡ NoFault }
+    ensures opener { opener.new ≡ opener.old }
+{
+    match opener.take(channel, octets) {
+        Ok(Item::Control(compound)) => feed(sender, link, &compound, links, progress),
+        Ok(Item::Media(_)) => Ok(()),
+        Ok(Item::Keepalive(_)) => Ok(()),
+        Err(_) => Ok(()),
+    }
+}
+
+// Whether a link is read: it is up, and no read of it came to an end or failed.
+fn is_read(sender: &Sender, link: u8, progress: &Progress) -> bool
+    requires few { link < 16 }
+    ensures value { (run : Run) → IsSenderAfter sender.now run.work → run.progress ≡ progress.now
+        → result ≡ is_read link run }
+{
+    sender.up(link) && !progress.is_closed(link)
+}
+
+// Reads a link, once, and answers what came.
+fn read_on<L: Link>(
+    sender: &mut Sender,
+    opener: &mut Opener,
+    link: u8,
+    links: &mut [L],
+    progress: &mut Progress,
+) -> Result<(), SendFault>
+    requires among { link < length links.old }
+    requires links { length links.old ≡ link_count sender.old.bonding }
+    requires few { length links.old ≤ MAX_LINKS }
+    requires session { opener.old ≡ sender.old.session }
+    ensures work { (settings : Settings) (from : Run)
+        → IsAt sender.old progress.old (with_links from (map L.reads links.old)) from
+        → Moves (record { taken = L.taken; knows = L.knows; faults = L.faults; reads = L.reads; ends = L.ends })
+        sender.old sender.new progress.new (with_links from (map L.reads links.new)) links.old links.new from
+        (ReadsOn (setup_of settings sender.old (length links.old)) link result from) }
+    ensures set { StaysSet sender.old sender.new }
+    ensures source { fault_by read_fault result ≡ NoFault }
+    ensures opener { opener.new ≡ opener.old }
+    ensures stage { progress.new.stage ≡ progress.old.stage }
+{
+    let mut block = [0; MAX_DATAGRAM];
+    match read_at(links, link, &mut block) {
+        Got::Datagram(channel, count) => {
+            let octets = &mut block[..count];
+            answer(sender, opener, link, channel, octets, links, progress)
+        }
+        Got::Quiet => Ok(()),
+        Got::End => {
+            progress.close(link);
+            Ok(())
+        }
+        Got::Failed => {
+            progress.close(link);
+            Ok(())
+        }
+    }
+}
+
+// The same of a link that is read.
+fn read_link<L: Link>(
+    sender: &mut Sender,
+    opener: &mut Opener,
+    link: u8,
+    links: &mut [L],
+    progress: &mut Progress,
+) -> Result<(), SendFault>
+    requires among { link < length links.old }
+    requires links { length links.old ≡ link_count sender.old.bonding }
+    requires few { length links.old ≤ MAX_LINKS }
+    requires session { opener.old ≡ sender.old.session }
+    ensures work { (settings : Settings) (from : Run)
+        → IsAt sender.old progress.old (with_links from (map L.reads links.old)) from
+        → Moves (record { taken = L.taken; knows = L.knows; faults = L.faults; reads = L.reads; ends = L.ends })
+        sender.old sender.new progress.new (with_links from (map L.reads links.new)) links.old links.new from
+        (ReadsLink (setup_of settings sender.old (length links.old)) link result from) }
+    ensures set { StaysSet sender.old sender.new }
+    ensures source { fault_by read_fault result ≡ NoFault }
+    ensures opener { opener.new ≡ opener.old }
+    ensures stage { progress.new.stage ≡ progress.old.stage }
+{
+    if is_read(sender, link, progress) {
+        read_on(sender, opener, link, links, progress)
+    } else {
+        Ok(())
+    }
+}
+
+/// Reads each link, once, and answers what came.
+pub(crate) fn read_links<L: Link>(
+    sender: &mut Sender,
+    opener: &mut Opener,
+    links: &mut [L],
+    progress: &mut Progress,
+) -> Result<(), SendFault>
+    requires links { length links.old ≡ link_count sender.old.bonding }
+    requires few { length links.old ≤ MAX_LINKS }
+    requires session { opener.old ≡ sender.old.session }
+    ensures work { (settings : Settings) (from : Run)
+        → IsAt sender.old progress.old (with_links from (map L.reads links.old)) from
+        → Moves (record { taken = L.taken; knows = L.knows; faults = L.faults; reads = L.reads; ends = L.ends })
+        sender.old sender.new progress.new (with_links from (map L.reads links.new)) links.old links.new from
+        (ReadsInTurn (setup_of settings sender.old (length links.old))
+        (range_with_len 0 (length links.old)) result from) }
+    ensures set { StaysSet sender.old sender.new }
+    ensures source { fault_by read_fault result ≡ NoFault }
+    ensures opener { opener.new ≡ opener.old }
+    ensures stage { progress.new.stage ≡ progress.old.stage }
+{
+    for link in 0..links.len() as u8 {
+        match read_link(sender, opener, link, links, progress) {
+            Ok(()) => {}
+            Err(fault) => return Err(fault),
+        }
+    }
+    Ok(())
+}

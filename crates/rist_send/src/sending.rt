@@ -1,0 +1,169 @@
+//! Turns, one after another.
+ghost use Rattle.std.specs.Prelude.{◌≡◌, ◌≤◌, ◌^◌, ℕ, [], Err, length, map};
+ghost use Rattle.outside_io.specs.Causes.{HasReadCause, NoFault, fault_by};
+ghost use Rattle.sender_rules.specs.Bonding.{link_count};
+ghost use Rattle.sender_rules.specs.declared.bounds.TheConstants.{MAX_LINKS};
+ghost use Rattle.rist_sender.specs.Calls.{Work};
+ghost use Rattle.rist_sender.specs.Sender.{IsSenderAfter, StaysSet};
+ghost use Rattle.rist_send.specs.Run.{Run, setup_of};
+ghost use Rattle.rist_send.specs.Turns.{TicksOnce, ReadsAndTicks, Turn};
+ghost use Rattle.rist_send.specs.Sending.{SendsSource, read_fault};
+ghost use Rattle.rist_send.specs.Served.{Runs, new_run};
+ghost use Rattle.rist_send.specs.Inside.Moves.{IsAt, Moves, IsPlace, with_links};
+ghost use Rattle.rist_send.specs.declared.settings.SendSettings.{SendSettings as Settings};
+
+use crate::fault::refusal;
+use crate::piece::bring_next;
+use crate::progress::Progress;
+use crate::reading::read_links;
+use crate::{SendFault, SendSettings};
+use outside_io::Source;
+use outside_net::{Clock, Link};
+use rist_sender::Sender;
+use rist_wire::Opener;
+
+// The sender's clock ticks.
+fn tick<L: Link>(sender: &mut Sender, links: &mut [L], progress: &Progress) -> Result<(), SendFault>
+    requires links { length links.old ≡ link_count sender.old.bonding }
+    requires few { length links.old ≤ MAX_LINKS }
+    ensures work { (settings : Settings) (from : Run)
+        → IsAt sender.old progress.now (with_links from (map L.reads links.old)) from
+        → Moves (record { taken = L.taken; knows = L.knows; faults = L.faults; reads = L.reads; ends = L.ends })
+        sender.old sender.new progress.now (with_links from (map L.reads links.new)) links.old links.new from
+        (TicksOnce (setup_of settings sender.old (length links.old)) result from) }
+    ensures set { StaysSet sender.old sender.new }
+    ensures source { fault_by read_fault result ≡ NoFault }
+{
+    match sender.tick(progress.moment, links) {
+        Ok(()) => Ok(()),
+        Err(bad) => Err(refusal(bad)),
+    }
+}
+
+// Reads each link, and then ticks.
+fn read_and_tick<L: Link>(
+    sender: &mut Sender,
+    opener: &mut Opener,
+    links: &mut [L],
+    progress: &mut Progress,
+) -> Result<(), SendFault>
+    requires links { length links.old ≡ link_count sender.old.bonding }
+    requires few { length links.old ≤ MAX_LINKS }
+    requires session { opener.old ≡ sender.old.session }
+    ensures work { (settings : Settings) (from : Run)
+        → IsAt sender.old progress.old (with_links from (map L.reads links.old)) from
+        → Moves (record { taken = L.taken; knows = L.knows; faults = L.faults; reads = L.reads; ends = L.ends })
+        sender.old sender.new progress.new (with_links from (map L.reads links.new)) links.old links.new from
+        (ReadsAndTicks (setup_of settings sender.old (length links.old)) result from) }
+    ensures set { StaysSet sender.old sender.new }
+    ensures source { fault_by read_fault result ≡ NoFault }
+    ensures opener { opener.new ≡ opener.old }
+    ensures stage { progress.new.stage ≡ progress.old.stage }
+{
+    match read_links(sender, opener, links, progress) {
+        Ok(()) => tick(sender, links, progress),
+        Err(fault) => Err(fault),
+    }
+}
+
+// Makes a turn: the next piece where it is due, one read of each link, and one tick.
+fn turn<S: Source, L: Link, C: Clock>(
+    settings: &SendSettings,
+    sender: &mut Sender,
+    opener: &mut Opener,
+    source: &mut S,
+    links: &mut [L],
+    clock: &mut C,
+    progress: &mut Progress,
+) -> Result<(), SendFault>
+    requires gap { settings.now.gap ≤ 1000000 }
+    requires at { IsPlace progress.old.stage }
+    requires links { length links.old ≡ link_count sender.old.bonding }
+    requires few { length links.old ≤ MAX_LINKS }
+    requires session { opener.old ≡ sender.old.session }
+    ensures work { (from : Run) → IsAt sender.old progress.old (record {
+      moments = C.moments clock.old;
+      octets = S.remaining source.old;
+      answers = map L.reads links.old;
+    }) from
+        → Moves (record { taken = L.taken; knows = L.knows; faults = L.faults; reads = L.reads; ends = L.ends })
+        sender.old sender.new progress.new (record {
+          moments = C.moments clock.new;
+          octets = S.remaining source.new;
+          answers = map L.reads links.new;
+        }) links.old links.new from
+        (Turn (setup_of settings.now sender.old (length links.old)) result from) }
+    ensures set { StaysSet sender.old sender.new }
+    ensures opener { opener.new ≡ opener.old }
+    ensures at { IsPlace progress.new.stage }
+    ensures ahead { result ≡ Err SendFault.ReadFault → S.ahead source.new ≡ [] }
+    ensures cause { HasReadCause (fault_by read_fault result) (S.faults source.old) (S.faults source.new) }
+{
+    let moment = clock.now();
+    progress.begin(moment);
+    match bring_next(settings, sender, source, links, progress) {
+        Ok(()) => read_and_tick(sender, opener, links, progress),
+        Err(fault) => Err(fault),
+    }
+}
+
+/// Sends a source, piece after piece, onto links. A turn takes one moment of the clock, and the first one's is the
+/// start; reads and sends the next piece, where its time has come: piece k's is k gaps after the start; reads each link
+/// once that is up and gave no end and no failure, and answers what came; and lets the sender tick. A turn stops where
+/// the sender refuses, and so does the run. The run is over after a turn whose moment is `linger` or more after that of
+/// the turn in which the source ended. Where all turns were made before, it is `Ok` if the source had ended.
+pub fn send<S: Source, L: Link, C: Clock>(
+    settings: &SendSettings,
+    sender: &mut Sender,
+    opener: &mut Opener,
+    source: &mut S,
+    links: &mut [L],
+    clock: &mut C,
+) -> Result<(), SendFault>
+    requires gap { settings.now.gap ≤ 1000000 }
+    requires links { length links.old ≡ link_count sender.old.bonding }
+    requires few { length links.old ≤ MAX_LINKS }
+    requires session { opener.old ≡ sender.old.session }
+    ensures work { (from : Work) → IsSenderAfter sender.old from
+        → Runs (record { taken = L.taken; knows = L.knows; faults = L.faults; reads = L.reads; ends = L.ends })
+        sender.old sender.new (record {
+          moments = C.moments clock.new;
+          octets = S.remaining source.new;
+          answers = map L.reads links.new;
+        }) links.old links.new from
+        (SendsSource (setup_of settings.now sender.old (length links.old)) result (new_run from (record {
+          moments = C.moments clock.old;
+          octets = S.remaining source.old;
+          answers = map L.reads links.old;
+        }))) }
+    ensures set { StaysSet sender.old sender.new }
+    ensures opener { opener.new ≡ opener.old }
+    ensures ahead { result ≡ Err SendFault.ReadFault → S.ahead source.new ≡ [] }
+    ensures cause { HasReadCause (fault_by read_fault result) (S.faults source.old) (S.faults source.new) }
+{
+    let mut progress = Progress::new();
+    let mut count = 0;
+    while count < settings.turns {
+        match turn(
+            settings,
+            sender,
+            opener,
+            source,
+            links,
+            clock,
+            &mut progress,
+        ) {
+            Ok(()) => {}
+            Err(fault) => return Err(fault),
+        }
+        if progress.is_over(settings.linger) {
+            return Ok(());
+        }
+        count += 1;
+    }
+    if progress.has_ended() {
+        Ok(())
+    } else {
+        Err(SendFault::TurnsSpent)
+    }
+}
