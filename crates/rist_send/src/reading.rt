@@ -25,7 +25,8 @@ use rtcp_compound::Compound;
 fn read_at<L: Link>(links: &mut [L], link: u8, block: &mut [u8; 2048]) -> Got
     requires among { link < length links.old }
     ensures within { IsWithin result }
-    ensures reads { ReadsAt (record { taken = L.taken; knows = L.knows; faults = L.faults; reads = L.reads; ends = L.ends }) link (answer_of result block.new) links.old links.new }
+    ensures reads { ReadsAt (record { taken = L.taken; knows = L.knows; faults = L.faults; reads = L.reads; ends = L.ends })
+        link (answer_of result block.new) links.old links.new }
 {
     links[usize::from(link)].read(block)
 }

@@ -23,6 +23,7 @@ IsPlace (Ended moment) = Unit {0}
 abbrev pub with_source : Run → Option (List ℕ) → List (Option (ℕ → Answer)) → Outside
 with_source run octets answers = record { moments = run.moments; octets = octets; answers = answers }
 
+-- the same run, whose links have these answers still to give
 abbrev pub with_links : Run → List (Option (ℕ → Answer)) → Outside
 with_links run answers = record { moments = run.moments; octets = run.octets; answers = answers }
 
