@@ -2,9 +2,9 @@
 /// How a source is sent.
 #[derive(Clone, Copy, Debug, PartialEq, Eq)]
 pub struct SendSettings {
-    /// From one piece's time to the next one's, in microseconds: 1 to 1,000,000.
+    /// From one piece's time to the next one's, in microseconds: at most 1,000,000.
     pub gap: u64,
-    /// For how long turns go on after the source's end, in microseconds: at most 60,000,000.
+    /// For how long turns go on after the source's end, in microseconds.
     pub linger: u64,
     /// How many turns are made at most.
     pub turns: u64,
