@@ -3,6 +3,7 @@ use Rattle.std.proofs.Common.{◌≡◌, ℕ, ◌+◌, ◌<◌, ◌≤◌, Bool,
 use Rattle.std.specs.Prelude.{nat_le, ◌==◌, if◌then◌else◌, slice_get}
 use Rattle.std.specs.List.{list_any}
 use Rattle.std.proofs.lemmas.Bool.{leb-true, eq-eqb, ne_eqb, and_parts}
+use Rattle.receiver_rules.specs.declared.bounds.TheConstants.{MAX_SPAN}
 use Rattle.receiver_rules.specs.Packets.{Packet}
 use Rattle.request_rules.specs.declared.policy.Policy.{Policy}
 use Rattle.request_rules.specs.declared.word.AskWord.{AskWord}
@@ -58,7 +59,7 @@ named_in policy rtt t low held words (e ∷ es) =
     ++ named_in policy rtt t low held (if is_live low held e then words_after policy rtt t words e else words) es
 
 pub asked_is : (policy : Policy) (rtt t low from : ℕ) (held : List Packet) (words : List AskWord) (due : List ℕ) (es : List Missing) → words ≡ words_for policy.kind 64 due
-    → ((x : ℕ) → from ≤ x → low ≤ x → IsRisingIn low x due) → AreRising from (low + 16384) es
+    → ((x : ℕ) → from ≤ x → low ≤ x → IsRisingIn low x due) → AreRising from (low + MAX_SPAN) es
     → asked_numbers policy.kind (words_of policy rtt t low held words es) ≡ asked_numbers policy.kind words ++ named_in policy rtt t low held words es
 asked_is policy rtt t low from held words due [] is rising order = sym (append_nil (asked_numbers policy.kind words))
 asked_is policy rtt t low from held words due (e ∷ es) is rising order =

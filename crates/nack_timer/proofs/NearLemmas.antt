@@ -3,6 +3,7 @@ use Rattle.std.proofs.Common.{◌≡◌, ℕ, ◌+◌, ◌<◌, ◌≤◌, true,
 use Rattle.std.specs.Prelude.{nat_le, not, ◌==◌, if◌then◌else◌}
 use Rattle.std.specs.List.{list_any}
 use Rattle.std.proofs.lemmas.Bool.{leb-true, and_parts}
+use Rattle.receiver_rules.specs.declared.bounds.TheConstants.{MAX_SPAN}
 use Rattle.receiver_rules.specs.Packets.{Packet}
 use Rattle.request_rules.specs.declared.policy.NackKind.{NackKind}
 use Rattle.request_rules.specs.declared.policy.NackKind.TheVariants.{Range, Mask}
@@ -27,7 +28,7 @@ rising_due policy rtt t low b from high held (e ∷ es) l h order =
       | false ↦ rising_due policy rtt t low b (e.number + 1) high held es (omega (arith, l, order.0)) h order.2
     ]
 
-near_due : (policy : Policy) (rtt t low from high : ℕ) (held : List Packet) (es : List Missing) → high ≤ low + 16384 → AreRising from high es → AreNear (words_for policy.kind 64 (due_in policy rtt t low held es))
+near_due : (policy : Policy) (rtt t low from high : ℕ) (held : List Packet) (es : List Missing) → high ≤ low + MAX_SPAN → AreRising from high es → AreNear (words_for policy.kind 64 (due_in policy rtt t low held es))
 near_due policy rtt t low from high held [] near order = subst AreNear (no_words policy.kind) (record { few = omega arith; close = tt })
 near_due policy rtt t low from high held (e ∷ es) near order =
     elim (is_live low held e && is_due_entry policy rtt t e) as (λ c. (is_live low held e && is_due_entry policy rtt t e) ≡ c → AreNear (words_for policy.kind 64 ((if c then e.number ∷ [] else []) ++ due_in policy rtt t low held es))) [
@@ -40,6 +41,6 @@ near_due policy rtt t low from high held (e ∷ es) near order =
     ] refl
 
 -- the words of a pass
-pub near_words : (policy : Policy) (rtt t low high : ℕ) (held : List Packet) (es : List Missing) → high ≤ low + 16384 → AreRising 0 high es → AreNear (words_of policy rtt t low held [] es)
+pub near_words : (policy : Policy) (rtt t low high : ℕ) (held : List Packet) (es : List Missing) → high ≤ low + MAX_SPAN → AreRising 0 high es → AreNear (words_of policy rtt t low held [] es)
 near_words policy rtt t low high held es near order =
     subst AreNear (sym (words_is policy rtt t low 0 high held [] [] es (no_words policy.kind) (λ x g le. le) order)) (near_due policy rtt t low 0 high held es near order)

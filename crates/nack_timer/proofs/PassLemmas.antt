@@ -3,6 +3,7 @@ use Rattle.std.proofs.Common.{◌≡◌, ℕ, zero, suc, ◌+◌, ◌<◌, ◌�
 use Rattle.std.specs.Prelude.{nat_le, ◌==◌, if◌then◌else◌}
 use Rattle.std.specs.List.{list_any}
 use Rattle.std.proofs.lemmas.Bool.{leb-true, and_parts}
+use Rattle.receiver_rules.specs.declared.bounds.TheConstants.{MAX_SPAN}
 use Rattle.receiver_rules.specs.Packets.{Packet}
 use Rattle.request_rules.specs.declared.policy.NackKind.{NackKind}
 use Rattle.request_rules.specs.declared.policy.NackKind.TheVariants.{Range, Mask}
@@ -59,10 +60,10 @@ pub record Passing (policy : Policy) (rtt t low : ℕ) (held : List Packet) (all
   pub final : words_of policy rtt t low held words rest ≡ words_of policy rtt t low held [] all
   pub asked : words ≡ words_for policy.kind 64 due
   pub rising : (x : ℕ) → from ≤ x → low ≤ x → IsRisingIn low x due
-  pub left : AreRising from (low + 16384) rest
+  pub left : AreRising from (low + MAX_SPAN) rest
   pub small : AreSmall items
 
-pub passing_none : (policy : Policy) (rtt t low : ℕ) (held : List Packet) (all : List Missing) → AreRising 0 (low + 16384) all → AreSmall all → Passing policy rtt t low held all all all []
+pub passing_none : (policy : Policy) (rtt t low : ℕ) (held : List Packet) (all : List Missing) → AreRising 0 (low + MAX_SPAN) all → AreSmall all → Passing policy rtt t low held all all all []
 passing_none policy rtt t low held all rising small = record {
   done = [];
   due = [];

@@ -2,6 +2,7 @@
 use Rattle.std.proofs.Common.{◌≡◌, ℕ, ◌+◌, ◌-◌, ◌<◌, ◌≤◌, max, Bool, true, false, not, List, [], ◌∷◌, Some, option_map, refl, sym, ap, subst, ◌∙◌, arith}
 use Rattle.std.specs.Prelude.{if◌then◌else◌}
 use Rattle.std.specs.List.{filter, range_with_len}
+use Rattle.receiver_rules.specs.declared.bounds.TheConstants.{MAX_SPAN}
 use Rattle.receiver_rules.specs.declared.anchor.Anchor.{Anchor}
 use Rattle.receiver_rules.specs.declared.anchor.Highest.{Highest}
 use Rattle.receiver_rules.specs.Packets.{Packet, At, Ever, highest_of, playout_floor}
@@ -40,7 +41,7 @@ pub record Asked (t : TimerState) (b : State) (before : List Step) (link tick mi
   pub rtts : rtt ≡ tick_of (longest_rtt 16 before)
   pub lowest : low ≡ max (max a.number b.floor) (h.number + 1 - t.span)
   pub order : AreRising 0 (high_or t.high) t.missing
-  pub near : high_or t.high ≤ low + 16384
+  pub near : high_or t.high ≤ low + MAX_SPAN
 
 some_anchor : (a c : Anchor) → Some a ≡ Some c → a ≡ c
 some_anchor a c e = cc
@@ -157,8 +158,8 @@ module _ (t : TimerState) (b : State) (before : List Step) (link tick micros at 
   pub words_stand : words_of t.policy rtt at low b.held [] t.missing ≡ asked_words b.limits t.policy before at
   words_stand = words_is t.policy rtt at low 0 (high_or t.high) b.held [] [] t.missing (no_words t.policy.kind) (λ x g le. le) k.order ∙ ap (words_for t.policy.kind 64) due_here
 
-  order_near : AreRising 0 (low + 16384) t.missing
-  order_near = rising_higher 0 (high_or t.high) (low + 16384) t.missing k.near k.order
+  order_near : AreRising 0 (low + MAX_SPAN) t.missing
+  order_near = rising_higher 0 (high_or t.high) (low + MAX_SPAN) t.missing k.near k.order
 
   asked_here : asks at (named_in t.policy rtt at low b.held [] t.missing) requests ≡ requests_of b.limits t.policy (tick_step link tick micros ∷ before)
   asked_here =

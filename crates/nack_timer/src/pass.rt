@@ -3,16 +3,16 @@ ghost use Rattle.std.specs.Prelude.{◌≡◌, ◌≤◌, ◌<◌, ◌^◌, ◌+
 ghost use Rattle.std.specs.Option.{ForSome};
 ghost use Rattle.std.specs.List.{list_any};
 ghost use Rattle.request_rules.specs.Building.{IsAboveLast};
-ghost use Rattle.request_rules.specs.Times.{has_passed_since};
 ghost use Rattle.nack_timer.specs.declared.entry.Missing.{Missing as Entry};
 ghost use Rattle.nack_timer.specs.State.{AreRising};
 ghost use Rattle.nack_timer.specs.Inside.Sound.{IsSmallEntry, IsSmallPolicy, AreSmall};
 ghost use Rattle.nack_timer.specs.Inside.Pass.{is_wanted, is_wanted_one, is_live, is_due_entry, words_after, entry_after, words_of, entries_of};
+ghost use Rattle.receiver_rules.specs.declared.bounds.TheConstants.{MAX_SPAN};
 
 use crate::entry::Missing;
 use circular_buffer::HeapCircularBuffer;
 use reorder_buffer::Buffer;
-use request_rules::{Asked, Policy};
+use request_rules::{Asked, Policy, has_passed_since};
 
 /// Looks at each entry once: those that have come, or are looked for no more, are forgotten, and those that are due are
 /// asked for.
@@ -28,7 +28,7 @@ pub fn look_at_all(
     requires time { t < 2 ^ 61 }
     requires room { length missing.old.items ≤ missing.old.capacity }
     requires small { AreSmall missing.old.items }
-    requires rising { AreRising 0 (low + 16384) missing.old.items }
+    requires rising { AreRising 0 (low + MAX_SPAN) missing.old.items }
     ensures words { result ≡ words_of policy.now rtt t low buffer.now.held [] missing.old.items }
     ensures entries { missing.new.items ≡ entries_of policy.now rtt t low buffer.now.held [] missing.old.items }
     ensures capacity { missing.new.capacity ≡ missing.old.capacity }
@@ -152,17 +152,7 @@ fn is_due(policy: &Policy, rtt: u64, t: u64, entry: &Missing) -> bool
     ensures within { result ≡ true → entry.now.count < 32 }
 {
     entry.found + policy.reorder_tolerance <= t
-        && has_passed(rtt.max(policy.retry_interval), t, entry.last)
+        && has_passed_since(rtt.max(policy.retry_interval), t, entry.last)
         && entry.count < policy.retry_limit
 }
 
-/// Whether so many ticks have passed since a time, if there is one.
-fn has_passed(interval: u64, t: u64, last: Option<u64>) -> bool
-    requires time { t < 2 ^ 61 }
-    ensures { result ≡ has_passed_since interval t last }
-{
-    match last {
-        None => true,
-        Some(last) => last.saturating_add(interval) <= t,
-    }
-}

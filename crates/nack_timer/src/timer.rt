@@ -44,11 +44,12 @@ impl Timer {
     ghost use Rattle.nack_timer.specs.OneMore.{RaisesAt, AsksAt, StandsAfterTick, WouldAskAt};
     ghost use Rattle.nack_timer.specs.Inside.Raise.{raised_to};
     ghost use Rattle.nack_timer.specs.Inside.Pass.{words_of, entries_of};
+    ghost use Rattle.receiver_rules.specs.declared.bounds.TheConstants.{MAX_SPAN};
 
     /// A timer for a buffer with this span, 1 to 16,384. It takes all its memory here.
     pub fn with_span(alloc: Global, span: u64, settings: Settings) -> Result<Timer, NoMemory>
         requires some { 1 ≤ span }
-        requires few { span ≤ 16384 }
+        requires few { span ≤ MAX_SPAN }
         requires settings { IsInRange settings }
         ensures value { IfOk result (λ t. t
             ≡ record { policy = policy_of settings; span = span; high = None; missing = [] }) }
@@ -127,7 +128,7 @@ impl Timer {
     /// Looks at each packet that it keeps as missing, from a number on.
     fn ask_for_missing(&mut self, at: u64, low: u64, buffer: &Buffer, rtt: u64) -> Asked
         requires time { at < 2 ^ 61 }
-        requires near { high_or self.old.high ≤ low + 16384 }
+        requires near { high_or self.old.high ≤ low + MAX_SPAN }
         ensures words { result ≡ words_of self.old.policy rtt at low buffer.now.held [] self.old.missing }
         ensures state { self.new ≡ record {
           policy = self.old.policy;

@@ -1,16 +1,17 @@
 -- Bounds under which no machine number wraps. They hold of each receiver, whatever comes.
-use Rattle.std.specs.Prelude.{ℕ, ◌^◌, ◌<◌, ◌≤◌, Option, IsNone}
+use Rattle.std.specs.Prelude.{ℕ, ◌*◌, ◌^◌, ◌<◌, ◌≤◌, Option, IsNone}
+use Rattle.receiver_rules.specs.declared.bounds.TheConstants.{MAX_DELAY, MAX_SPAN}
 use Rattle.receiver_rules.specs.declared.limits.Limits.{Limits}
 use Rattle.receiver_rules.specs.declared.anchor.Anchor.{Anchor}
 use Rattle.receiver_rules.specs.declared.anchor.Highest.{Highest}
 use Rattle.receiver_rules.specs.Packets.{Packet}
 
--- a delay of 1 to 30,000 ms in ticks, and room for 1 to 16,384 packets
+-- a delay of at least a tick and at most the longest, and room for a packet at least and at most the widest span
 pub record AreInRange (limits : Limits) : Type 0 where
   pub some_delay : 1 ≤ limits.playout_delay
-  pub delay : limits.playout_delay ≤ 2700000
+  pub delay : limits.playout_delay ≤ 90 * MAX_DELAY
   pub some : 1 ≤ limits.capacity
-  pub capacity : limits.capacity ≤ 16384
+  pub capacity : limits.capacity ≤ MAX_SPAN
 
 -- an anchor that came at the tick or before it
 pub record IsEarlyAnchor (now : ℕ) (anchor : Anchor) : Type 0 where

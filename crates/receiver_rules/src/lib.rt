@@ -5,6 +5,7 @@
 
 mod anchor;
 mod arrival;
+mod bounds;
 pub mod laws;
 mod limits;
 pub mod place;
@@ -13,6 +14,7 @@ mod verdict;
 
 pub use anchor::{Anchor, Highest};
 pub use arrival::Arrival;
+pub use bounds::{MAX_DELAY, MAX_SPAN};
 pub use limits::Limits;
 pub use tick::tick_of;
 pub use verdict::Verdict;

@@ -9,6 +9,7 @@ use Rattle.std.proofs.lemmas.List.{length-set, set-set, set-get_or, get_or-set_s
 use Rattle.std.proofs.lemmas.Nat.{mod_below}
 use Rattle.std.proofs.lemmas.Int.{ints}
 use Rattle.std.specs.List.{list_any}
+use Rattle.receiver_rules.specs.declared.bounds.TheConstants.{MAX_SPAN}
 use Rattle.receiver_rules.specs.Packets.{Packet, distance, insert_by_number, IsRising}
 use Rattle.receiver_rules.specs.Seen.{packet_at}
 use Rattle.receiver_rules.proofs.PacketLemmas.{any-insert, rising-insert, rising_lower}
@@ -315,7 +316,7 @@ none_due : (n : ℕ) → replicate n (2 ^ 64 - 1) ≡ map tick_of (replicate n N
 none_due zero = refl
 none_due (suc n) = ap (λ xs. (2 ^ 64 - 1) ∷ xs) (none_due n)
 
-pub ring_none : (n : ℕ) (places : List (Option Held)) (blocks : List (List ℕ)) (ticks : List ℕ) → 1 ≤ n → n ≤ 16384 → places ≡ replicate n None → length blocks ≡ n → ticks ≡ replicate n (2 ^ 64 - 1)
+pub ring_none : (n : ℕ) (places : List (Option Held)) (blocks : List (List ℕ)) (ticks : List ℕ) → 1 ≤ n → n ≤ MAX_SPAN → places ≡ replicate n None → length blocks ≡ n → ticks ≡ replicate n (2 ^ 64 - 1)
     → (packets_in places blocks ≡ []) × IsRing places blocks ticks None 0
 ring_none n places blocks ticks some few p b t = (
   none,
@@ -365,7 +366,7 @@ ring_put_at places blocks ticks ends count i held block r at number deadline len
     × IsRing (slice_set places k (Some held)) (slice_set blocks k block) (slice_set ticks k held.deadline) (Some (ends_and ends held.number)) (count + 1)) (sym at)
     (ring_put places blocks ticks ends count held block r (record { stands = refl; number = number; deadline = deadline; length = length' }) new near)
 
-pub few_count : (places : List (Option Held)) (blocks : List (List ℕ)) (ticks : List ℕ) (ends : Option Ends) (count : ℕ) → IsRing places blocks ticks ends count → count ≤ 16384
+pub few_count : (places : List (Option Held)) (blocks : List (List ℕ)) (ticks : List ℕ) (ends : Option Ends) (count : ℕ) → IsRing places blocks ticks ends count → count ≤ MAX_SPAN
 few_count places blocks ticks ends count r = let few = few_in places blocks in let n = r.counted in let s = r.few in omega arith
 
 pub some_held : {x y : Held} → Some x ≡ Some y → x ≡ y

@@ -54,12 +54,13 @@ impl Buffer {
     ghost use Rattle.reorder_buffer.specs.Inside.Release.{octets_below, floor_then};
     ghost use Rattle.reorder_buffer.specs.Inside.Changes.{holding, moved, taken, raised};
     ghost use Rattle.reorder_buffer.specs.Inside.Tests.{verdict_here, judged, anchor_at, IsAdmissible};
+    ghost use Rattle.receiver_rules.specs.declared.bounds.TheConstants.{MAX_DELAY, MAX_SPAN};
 
     /// A buffer of `span` packets (1 to 16,384) that plays each out `delay_ms` milliseconds (1 to 30,000) after its
     /// time. It takes the memory for all of them.
     pub fn with_limits(alloc: Global, span: u64, delay_ms: u64) -> Result<Buffer, NoMemory>
-        requires span { (1 ≤ span) × (span ≤ 16384) }
-        requires delay { (1 ≤ delay_ms) × (delay_ms ≤ 30000) }
+        requires span { (1 ≤ span) × (span ≤ MAX_SPAN) }
+        requires delay { (1 ≤ delay_ms) × (delay_ms ≤ MAX_DELAY) }
         ensures delay { IfOk result (λ b. b.limits.playout_delay ≡ 90 * delay_ms) }
         ensures span { IfOk result (λ b. b.limits.capacity ≡ span) }
         ensures running { IfOk result (λ b. b.phase ≡ Phase.Open) }

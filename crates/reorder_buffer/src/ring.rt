@@ -63,9 +63,11 @@ impl Model for Ring {
 }
 
 impl Ring {
+    ghost use Rattle.receiver_rules.specs.declared.bounds.TheConstants.{MAX_SPAN};
+
     /// No packets, and room for a number of them.
     pub fn with_places(alloc: Global, capacity: usize) -> Result<Ring, AllocError>
-        requires { (1 ≤ capacity) × (capacity ≤ 16384) }
+        requires { (1 ≤ capacity) × (capacity ≤ MAX_SPAN) }
         ensures capacity { IfOk result (λ r. r.capacity ≡ capacity) }
         ensures packets { IfOk result (λ r. r.packets ≡ []) }
     {

@@ -13,6 +13,7 @@ ghost use Rattle.request_rules.specs.Requests.{requests_of, due_numbers};
 ghost use Rattle.request_rules.specs.Building.{with_number, IsAboveLast};
 ghost use Rattle.request_plain.specs.Told.{IsSmallPolicy};
 ghost use Rattle.request_plain.specs.Inside.Asking.{AskingShows, IsSmallAsking, IsAskedOf, is_wanted};
+ghost use Rattle.receiver_rules.specs.declared.bounds.TheConstants.{MAX_SPAN};
 
 use crate::asking::Asking;
 use crate::times::{found_time, is_due, times_of};
@@ -118,7 +119,7 @@ fn ask_between(
     requires policy { IsSmallPolicy policy.now }
     requires small { IsSmallAsking asking.now }
     requires rtt { rtt ≤ 10000000 }
-    requires near { high ≤ low + 16384 }
+    requires near { high ≤ low + MAX_SPAN }
     requires high { high < 2 ^ 62 }
     ensures { IfOk result (λ s. IsAskedOf policy.now.kind
         (filter (is_wanted policy.now rtt t asking.now) (numbers_up_to low high)) s.words s.numbers.items) }

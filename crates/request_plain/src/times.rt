@@ -5,13 +5,13 @@ ghost use Rattle.std.specs.Option.{ForSome};
 ghost use Rattle.request_plain.specs.declared.asking.Made.{Made};
 ghost use Rattle.request_rules.specs.Missing.{is_below_highest};
 ghost use Rattle.request_rules.specs.Requests.{request_times, is_due};
-ghost use Rattle.request_rules.specs.Times.{AreTimes, has_passed_since};
+ghost use Rattle.request_rules.specs.Times.{AreTimes};
 ghost use Rattle.request_plain.specs.Told.{IsSmallPolicy};
 ghost use Rattle.request_plain.specs.Inside.Asking.{found_in, requests_seen, IsSmallMark, IsSmallMade};
 
 use crate::asking::{Made, Mark};
 use receiver_rules::tick_of;
-use request_rules::Policy;
+use request_rules::{Policy, has_passed_since};
 
 /// When a number was last asked for, and how often.
 #[derive(Clone, Copy)]
@@ -88,17 +88,7 @@ pub fn is_due(policy: &Policy, rtt: u64, t: u64, found: u64, times: &Times) -> b
         → result ≡ is_due policy.now rtt t found all }
 {
     found + policy.reorder_tolerance <= t
-        && has_passed(tick_of(rtt).max(policy.retry_interval), t, times.last)
+        && has_passed_since(tick_of(rtt).max(policy.retry_interval), t, times.last)
         && times.count < policy.retry_limit
 }
 
-fn has_passed(interval: u64, t: u64, last: Option<u64>) -> bool
-    requires interval { interval < 2 ^ 61 }
-    requires within { ForSome last (λ l. l < 2 ^ 61) }
-    ensures { result ≡ has_passed_since interval t last }
-{
-    match last {
-        None => true,
-        Some(last) => last + interval <= t,
-    }
-}

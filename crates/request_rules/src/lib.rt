@@ -7,8 +7,10 @@ pub mod laws;
 mod policy;
 #[cfg(test)]
 mod tests;
+mod times;
 mod word;
 
 pub use asked::{Asked, MAX_WORDS};
 pub use policy::{NackKind, Policy};
+pub use times::has_passed_since;
 pub use word::AskWord;

@@ -1,5 +1,6 @@
 -- What a receiver is set to.
 use Rattle.std.specs.Prelude.{ℕ, ◌≤◌, ◌*◌, true}
+use Rattle.receiver_rules.specs.declared.bounds.TheConstants.{MAX_DELAY, MAX_SPAN}
 use Rattle.receiver_rules.specs.declared.limits.Limits.{Limits}
 use Rattle.nack_timer.specs.declared.settings.Settings.{Settings as TimerSettings}
 use Rattle.nack_timer.specs.State.{policy_of}
@@ -12,9 +13,9 @@ use Rattle.rist_ends.specs.declared.settings.Settings.{Settings}
 -- each setting is in its range
 pub record IsInRange (settings : Settings) : Type 0 where
   pub some_delay : 1 ≤ settings.delay
-  pub delay : settings.delay ≤ 30000
+  pub delay : settings.delay ≤ MAX_DELAY
   pub some_span : 1 ≤ settings.span
-  pub span : settings.span ≤ 16384
+  pub span : settings.span ≤ MAX_SPAN
   pub reorder : settings.reorder ≤ 1000
   pub some_least : 5 ≤ settings.least
   pub least : settings.least ≤ 1000

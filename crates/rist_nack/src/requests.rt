@@ -10,9 +10,9 @@ use octet_fields::u16_at;
 use rtcp_compound::{Compound, Packet, Packets, is_rist};
 use std::marker::Model;
 
-// The SSRC of a flow's media with the lowest bit cleared.
-pub(crate) fn flow(ssrc: u32) -> u32
-    ensures { result ≡ flow_of ssrc }
+/// The flow of a source: its SSRC with the lowest bit cleared, which marks retransmissions (VSF TR-06-1).
+pub fn flow(ssrc: u32) -> u32
+    ensures value { result ≡ flow_of ssrc }
 {
     ssrc / 2 * 2
 }

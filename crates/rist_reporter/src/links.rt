@@ -2,11 +2,12 @@
 ghost use Rattle.std.specs.Prelude.{◌≡◌, ◌<◌, ◌^◌, [], None};
 ghost use Rattle.rist_rtt.specs.Echo.{echo_seen};
 ghost use Rattle.request_rules.specs.Steps.{longer};
-ghost use Rattle.request_rules.specs.Times.{has_passed_since};
+ghost use Rattle.request_rules.specs.Times.{has_passed_since as passed_since};
 ghost use Rattle.rist_control.specs.When.{report_interval, keepalive_interval};
 ghost use Rattle.rist_reporter.specs.Links.{entry_at, longest_of};
 ghost use Rattle.rist_reporter.specs.Inside.Noted.{noted, sampled};
 
+use request_rules::has_passed_since;
 use rist_rtt::{Echo, Rtt};
 use std::marker::Model;
 
@@ -35,16 +36,6 @@ impl Model for Links {
     ghost view = { λ l. record { rtts = l.rtts; reports = l.reports; keepalives = l.keepalives } };
 }
 
-/// Whether so many ticks have passed since a time, if there is one.
-fn has_passed(interval: u64, at: u64, last: Option<u64>) -> bool
-    requires time { at < 2 ^ 61 }
-    ensures value { result ≡ has_passed_since interval at last }
-{
-    match last {
-        None => true,
-        Some(last) => last.saturating_add(interval) <= at,
-    }
-}
 
 /// Notes a tick of a link where the interval has passed.
 fn note(entries: &mut [Option<u64>; 16], interval: u64, at: u64, link: u8)
@@ -52,7 +43,7 @@ fn note(entries: &mut [Option<u64>; 16], interval: u64, at: u64, link: u8)
     requires time { at < 2 ^ 61 }
     ensures value { entries.new ≡ noted interval at link entries.old }
 {
-    if has_passed(interval, at, entries[link as usize]) {
+    if has_passed_since(interval, at, entries[link as usize]) {
         entries[link as usize] = Some(at);
     }
 }
@@ -96,18 +87,18 @@ impl Links {
     pub(crate) fn is_report_due(&self, link: u8, at: u64) -> bool
         requires link { link < 16 }
         requires time { at < 2 ^ 61 }
-        ensures value { result ≡ has_passed_since report_interval at (entry_at self.now.reports link) }
+        ensures value { result ≡ passed_since report_interval at (entry_at self.now.reports link) }
     {
-        has_passed(REPORT_INTERVAL, at, self.reports[link as usize])
+        has_passed_since(REPORT_INTERVAL, at, self.reports[link as usize])
     }
 
     /// Whether it makes a keepalive.
     pub(crate) fn is_keepalive_due(&self, link: u8, at: u64) -> bool
         requires link { link < 16 }
         requires time { at < 2 ^ 61 }
-        ensures value { result ≡ has_passed_since keepalive_interval at (entry_at self.now.keepalives link) }
+        ensures value { result ≡ passed_since keepalive_interval at (entry_at self.now.keepalives link) }
     {
-        has_passed(KEEPALIVE_INTERVAL, at, self.keepalives[link as usize])
+        has_passed_since(KEEPALIVE_INTERVAL, at, self.keepalives[link as usize])
     }
 
     /// A tick of a link at a time.

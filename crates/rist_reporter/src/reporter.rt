@@ -70,6 +70,7 @@ impl Reporter {
     ghost use Rattle.rist_reporter.specs.OneMore.{AnswersTick, StandsAfterTick, AnswersControl, StandsAfterControl, StandsAfterMedia, IsMade, TakesPairs, answer_count, made_count, is_short};
     ghost use Rattle.rist_reporter.specs.Inside.Due.{IsNoLowerNumber, LacksAt, HasCompoundAt, due_of};
     ghost use Rattle.rist_reporter.specs.Inside.Changes.{IsSetAs, links_sampled};
+    ghost use Rattle.receiver_rules.specs.declared.bounds.TheConstants.{MAX_SPAN};
 
     /// A reporter for a buffer with this span, 1 to 16,384, to which nothing was told yet. It is silent where it is muted, and
     /// needs no sealer then.
@@ -83,7 +84,7 @@ impl Reporter {
         sealer: Option<Sealer>,
     ) -> Result<Reporter, NoMemory>
         requires some { 1 ≤ span }
-        requires few { span ≤ 16384 }
+        requires few { span ≤ MAX_SPAN }
         requires settings { IsInRange settings }
         requires session { IsSession session.now }
         requires paired { IsPaired is_muted (record { session = session.now; sealer = sealer }) }

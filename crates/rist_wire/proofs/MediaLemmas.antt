@@ -33,7 +33,8 @@ use Rattle.rist_wire.specs.declared.item.Kind.{Kind}
 use Rattle.rist_wire.specs.declared.item.Kind.TheVariants.{Media as MediaKind, Keepalive as KeepaliveKind}
 use Rattle.rist_wire.specs.Cipher.{key_by, ciphered, ciphered_under}
 use Rattle.rist_wire.specs.Cipher.{first_counter_block}
-use Rattle.rist_wire.specs.Media.{MediaValue, can_restore, flow_of, is_again, width_by, word_by}
+use Rattle.rist_wire.specs.Media.{MediaValue, can_restore, is_again, width_by, word_by}
+use Rattle.rist_nack.specs.Requests.{flow_of}
 use Rattle.rist_wire.specs.Messages.{word_in, known_word, media_with, tested_media, media_by, rtp_item, item_by}
 use Rattle.rist_wire.specs.Item.{item_of}
 use Rattle.rist_wire.specs.Session.{IsSession}

@@ -37,11 +37,7 @@ content_of media = restored_payload media.strip media.payload
 
 -- ---- the source and the number
 
--- the flow is the source (SSRC) with its lowest bit cleared
-abbrev pub flow_of : ℕ → ℕ
-flow_of ssrc = ssrc - ssrc % 2
-
--- that bit says that media is sent again
+-- the lowest bit of the source (SSRC), which its flow has cleared, says that media is sent again
 abbrev pub is_again : ℕ → Bool
 is_again ssrc = ssrc % 2 == 1
 

@@ -7,6 +7,7 @@ use Rattle.rtp_packet.specs.declared.bad.RtpBad.{RtpBad}
 use Rattle.rtp_packet.specs.Reading.{RtpValue, reading_of as rtp_reading_of}
 use Rattle.rtcp_compound.specs.declared.refusal.RtcpBad.{RtcpBad}
 use Rattle.rtcp_compound.specs.Reading.{fault_of, packets_in}
+use Rattle.rist_nack.specs.Requests.{flow_of}
 use Rattle.rist_ext.specs.declared.ext_word.ExtWord.{ExtWord}
 use Rattle.rist_ext.specs.declared.ext_word.ExtBad.{ExtBad}
 use Rattle.rist_ext.specs.declared.ext_word.ExtBad.TheVariants.{Profile as OtherProfile, Length as OtherLength, Size}
@@ -18,7 +19,7 @@ use Rattle.rist_wire.specs.declared.item.Item.{Item}
 use Rattle.rist_wire.specs.declared.item.Item.TheVariants.{Media as MediaItem, Control as ControlItem, Keepalive as KeepaliveItem}
 use Rattle.rist_wire.specs.declared.item.Kind.{Kind}
 use Rattle.rist_wire.specs.declared.item.Kind.TheVariants.{Media as MediaKind, Control as ControlKind, Keepalive as KeepaliveKind}
-use Rattle.rist_wire.specs.Media.{MediaValue, can_restore, flow_of, is_again, width_by, word_by}
+use Rattle.rist_wire.specs.Media.{MediaValue, can_restore, is_again, width_by, word_by}
 
 -- a message without the headers of the tunnel
 pub record Message : Type 0 where

@@ -11,6 +11,7 @@ use crate::bad::WireBad;
 use crate::item::{Item, Kind};
 use crate::media::Media;
 use rist_ext::{ExtBad, ExtWord};
+use rist_nack::flow;
 use rtcp_compound::Compound;
 use rtp_packet::Rtp;
 use seq_unwrap::Width;
@@ -74,7 +75,7 @@ fn tested_media<'a>(rtp: &Rtp<'a>, word: ExtWord) -> Result<Item<'a>, WireBad>
     }
     let ssrc = rtp.ssrc();
     Ok(Item::Media(Media {
-        flow: ssrc - ssrc % 2,
+        flow: flow(ssrc),
         again: ssrc % 2 == 1,
         width: width_by(word.upper),
         word: word_by(word.upper, rtp.number()),

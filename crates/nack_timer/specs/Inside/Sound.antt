@@ -4,6 +4,7 @@ use Rattle.std.specs.Option.{ForSome}
 use Rattle.request_rules.specs.declared.policy.Policy.{Policy}
 use Rattle.nack_timer.specs.declared.entry.Missing.{Missing}
 use Rattle.nack_timer.specs.State.{AreRising, high_or}
+use Rattle.receiver_rules.specs.declared.bounds.TheConstants.{MAX_SPAN}
 
 -- times from which no sum wraps
 pub record IsSmallEntry (e : Missing) : Type 0 where
@@ -27,7 +28,7 @@ pub record IsSoundTimer (policy : Policy) (span : ℕ) (high : Option ℕ) (miss
   pub least : policy.retry_interval ≤ 90000
   pub tries : policy.retry_limit ≤ 32
   pub some : 1 ≤ span
-  pub few : span ≤ 16384
+  pub few : span ≤ MAX_SPAN
   pub room : length missing ≤ span
   pub rising : AreRising 0 (high_or high) missing
   pub below : high_or high < 2 ^ 62

@@ -1,5 +1,6 @@
 -- How places and blocks show the packets that wait.
 use Rattle.std.specs.Prelude.{◌≡◌, ℕ, ◌+◌, ◌-◌, ◌^◌, ◌<◌, ◌≤◌, ◌%◌, pos, List, [], ◌∷◌, length, map, take, min, max, nat_lt, Bool, false, slice_index_or, Option, None, Some}
+use Rattle.receiver_rules.specs.declared.bounds.TheConstants.{MAX_SPAN}
 use Rattle.receiver_rules.specs.Packets.{Packet, insert_by_number, IsRising}
 use Rattle.reorder_buffer.specs.Inside.Span.{IsWithin}
 use Rattle.reorder_buffer.specs.declared.ring.Held.{Held}
@@ -67,7 +68,7 @@ pub record IsPlaced (capacity place : ℕ) (held : Held) : Type 0 where
 -- what is kept beside the packets follows from them
 pub record IsRing (places : List (Option Held)) (blocks : List (List ℕ)) (ticks : List ℕ) (ends : Option Ends) (count : ℕ) : Type 0 where
   pub some : 1 ≤ length places
-  pub few : length places ≤ 16384
+  pub few : length places ≤ MAX_SPAN
   pub sized : length blocks ≡ length places
   pub placed : (place : ℕ) (held : Held) → slice_index_or places place None ≡ Some held → IsPlaced (length places) place held
   pub indexed : ticks ≡ map tick_of places

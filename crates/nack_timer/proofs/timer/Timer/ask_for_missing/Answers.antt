@@ -6,10 +6,11 @@ use Rattle.nack_timer.specs.Inside.Pass.{entries_of}
 use Rattle.nack_timer.proofs.PassLemmas.{sound_passed}
 use Rattle.nack_timer.proofs.RaiseLemmas.{rising_higher}
 use Rattle.nack_timer.proofs.timer.Timer.ask_for_missing.Goals as goal
+use Rattle.receiver_rules.specs.declared.bounds.TheConstants.{MAX_SPAN}
 
 pub look_at_all-requires-clause-rising : goal.look_at_all-requires-clause-rising
 look_at_all-requires-clause-rising c =
-    rising_higher 0 (high_or c.self.inside.high) (c.args.low + 16384) c.self.inside.missing.items (subst (λ (t : TimerState). high_or t.high ≤ c.args.low + 16384) (sym c.self.view_is) c.requires.near) c.self.invariant.rising
+    rising_higher 0 (high_or c.self.inside.high) (c.args.low + MAX_SPAN) c.self.inside.missing.items (subst (λ (t : TimerState). high_or t.high ≤ c.args.low + MAX_SPAN) (sym c.self.view_is) c.requires.near) c.self.invariant.rising
 
 pub invariant_of-self : goal.invariant_of-self
 invariant_of-self c =

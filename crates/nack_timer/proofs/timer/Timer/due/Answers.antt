@@ -1,4 +1,5 @@
 use Rattle.std.proofs.Common.{◌≡◌, ◌≤◌, ◌+◌, ◌∙◌, ℕ, List, ◌∷◌, Some, option_map, sym, ap, subst, arith}
+use Rattle.receiver_rules.specs.declared.bounds.TheConstants.{MAX_SPAN}
 use Rattle.receiver_rules.specs.declared.anchor.Anchor.{Anchor}
 use Rattle.receiver_rules.specs.declared.anchor.Highest.{Highest}
 use Rattle.receiver_rules.specs.Steps.{tick_of}
@@ -57,6 +58,6 @@ pub returns-clause-near : goal.returns-clause-near
 returns-clause-near c =
     let order = subst (λ (t : TimerState). AreRising 0 (high_or t.high) t.missing) c.self.view_is c.self.invariant.rising in
     let high : high_or c.args.self.now.high ≡ c.in-Some-high.high = ap high_or (sym c.requires.told ∙ sym c.high.ensures.number ∙ c.in-Some-high.is) in
-    let near : high_or c.args.self.now.high ≤ c.lowest_wanted-low.result + 16384 = omega (arith, c.lowest_wanted-low.ensures, c.capacity-span.ensures.capacity, c.self.invariant.few, high) in
+    let near : high_or c.args.self.now.high ≤ c.lowest_wanted-low.result + MAX_SPAN = omega (arith, c.lowest_wanted-low.ensures, c.capacity-span.ensures.capacity, c.self.invariant.few, high) in
     subst AreNear (sym c.ask_for_missing.ensures.words)
     (near_words c.args.self.now.policy c.args.rtt c.args.at c.lowest_wanted-low.result (high_or c.args.self.now.high) c.args.buffer.now.held c.args.self.now.missing near order)
