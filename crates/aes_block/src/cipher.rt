@@ -1,4 +1,4 @@
-// The cipher (FIPS 197, section 5.1).
+//! The cipher (FIPS 197, section 5.1).
 
 ghost use Rattle.std.specs.Prelude.{◌≡◌};
 ghost use Rattle.aes_block.specs.Cipher.{cipher, key_octets};

@@ -1,4 +1,4 @@
-// Keys of the cipher.
+//! Keys of the cipher.
 
 ghost use Rattle.std.specs.Prelude.{◌≡◌, ◌≤◌, ◌%◌, length};
 ghost use Rattle.aes_block.specs.Cipher.{key_octets, round_count};

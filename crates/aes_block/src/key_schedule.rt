@@ -1,4 +1,4 @@
-// The key schedule (FIPS 197, section 5.2), in words with the first octet highest.
+//! The key schedule (FIPS 197, section 5.2), in words with the first octet highest.
 
 ghost use Rattle.std.specs.Prelude.{◌≡◌, ◌+◌, ◌*◌, ◌/◌, ◌%◌, ◌<◌, ◌≤◌, ℕ, [], ◌∷◌, slice_index_or, length, take, map, bit_xor, slice_index};
 ghost use Rattle.std.specs.Simd.Lanes.{zip2};

@@ -1,4 +1,4 @@
-// Vectors of 16 lanes, each lane an octet.
+//! Vectors of 16 lanes, each lane an octet.
 
 ghost use Rattle.std.specs.Prelude.{◌≡◌, ◌/◌, true, map, bit_and, bit_xor};
 ghost use Rattle.std.specs.Simd.Lanes.{zip2, Each1};

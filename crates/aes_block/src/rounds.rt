@@ -1,4 +1,4 @@
-// The rounds on vectors (FIPS 197, section 5.1).
+//! The rounds on vectors (FIPS 197, section 5.1).
 
 ghost use Rattle.std.specs.Prelude.{◌≡◌, ℕ, ◌<◌, [], map, slice_index_or};
 ghost use Rattle.aes_block.specs.State.{add_round_key, mix_columns, shift_rows, sub_bytes};

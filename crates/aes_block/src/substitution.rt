@@ -1,4 +1,4 @@
-// The S-box on vectors (FIPS 197, section 5.1.1): inverses over the field of 16 elements, and a table for each result.
+//! The S-box on vectors (FIPS 197, section 5.1.1): inverses over the field of 16 elements, and a table for each result.
 
 ghost use Rattle.std.specs.Prelude.{◌≡◌, map, bit_xor};
 ghost use Rattle.aes_block.specs.Field.{product, sub_byte};

@@ -1,5 +1,5 @@
-// Octets over the field of 16 elements (Hamburg 2009). Between rounds a state is kept so: `untower` is the octet that a
-// lane stands for.
+//! Octets over the field of 16 elements (Hamburg 2009). Between rounds a state is kept so: `untower` is the octet that a
+//! lane stands for.
 
 ghost use Rattle.std.specs.Prelude.{◌≡◌, map, bit_xor};
 ghost use Rattle.std.specs.Simd.Lanes.{zip2};

@@ -1,4 +1,4 @@
-// Words of the key schedule, with the first octet highest.
+//! Words of the key schedule, with the first octet highest.
 
 ghost use Rattle.std.specs.Prelude.{◌≡◌, ◌+◌, ◌≤◌, length, take, drop, map};
 ghost use Rattle.aes_block.specs.Field.{sub_byte};

@@ -1,4 +1,4 @@
-// Counter blocks (NIST SP 800-38A, appendix B.1).
+//! Counter blocks (NIST SP 800-38A, appendix B.1).
 
 ghost use Rattle.std.specs.Prelude.{◌≡◌, ◌+◌, ◌%◌, ◌^◌};
 ghost use Rattle.std.specs.Int.{w128, to_be_bytes};

@@ -1,4 +1,4 @@
-// The exclusive or of a text with output blocks.
+//! The exclusive or of a text with output blocks.
 
 ghost use Rattle.std.specs.Prelude.{◌≡◌, ℕ, ◌+◌, ◌<◌, ◌≤◌, [], ◌∷◌, length, slice_index, bit_xor};
 ghost use Rattle.aes_ctr.specs.Inside.Sums.{IsAdded, StaysBefore, StaysAfter};

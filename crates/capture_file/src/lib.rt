@@ -11,5 +11,6 @@ mod writer;
 
 pub use head::Head;
 pub use laws::{no_capture_at_fault, one_reading, one_spelling};
+pub use outside_io::WriteFault;
 pub use reader::{CapBad, CapKind, Reader};
-pub use writer::{WriteFault, Writer};
+pub use writer::Writer;

@@ -8,23 +8,8 @@ ghost use Rattle.capture_file.specs.Writer.{WriterState, new_writer};
 
 use crate::Head;
 use crate::reader::MAGIC;
-use outside_io::{Channel, Sink};
-use std::fmt::{self, Display, Formatter, Write};
+use outside_io::{Channel, Sink, WriteFault};
 use std::marker::Model;
-
-/// The sink failed.
-#[derive(Clone, Copy, Debug, PartialEq, Eq)]
-pub struct WriteFault;
-
-impl Display for WriteFault {
-    ghost use Rattle.std.specs.Prelude.{Some, codes};
-
-    ghost output = { λ _. Some (codes "write failed") };
-
-    fn fmt<W: Write>(&self, f: &mut Formatter<W>) -> fmt::Result {
-        f.write_str("write failed")
-    }
-}
 
 // Octets of the longest record with its head.
 const RECORD_LEN: usize = 2060;

@@ -1,4 +1,4 @@
-// Objects by place, from 0.
+//! Objects by place, from 0.
 ghost use Rattle.std.specs.Prelude.{◌≡◌, ◌<◌, [], length, IfSome, IfNone, IsTrue, false};
 ghost use Rattle.outside_host.specs.MemHost.{HoldsNoUnwritten};
 ghost use Rattle.outside_host.specs.declared.host.Place.TheVariants.{Here, Back};

@@ -1,4 +1,4 @@
-// What hands out sources and sinks by name, links, clocks and random words by place, and takes them back.
+//! What hands out sources and sinks by name, links, clocks and random words by place, and takes them back.
 ghost use Rattle.std.specs.Prelude.{◌≡◌, ◌<◌, ◌+◌, ℕ, length, Bool, IsTrue, IfOk, OnOk, OnErr};
 ghost use Rattle.outside_io.specs.Told.{IsEmpty};
 ghost use Rattle.outside_host.specs.Shelf.{Shelf, Stays, TakesBack, HasHostCause};

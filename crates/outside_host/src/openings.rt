@@ -1,4 +1,4 @@
-// Which links a host in memory handed out.
+//! Which links a host in memory handed out.
 ghost use Rattle.std.specs.Prelude.{◌≡◌, ◌<◌, ◌++◌, ◌∷◌, [], length, slice_get, IfOk, vec_capacity};
 
 use crate::Opened;

@@ -1,4 +1,4 @@
-// The host of the system. What its objects give and take is not told: the trusted edge of the system.
+//! The host of the system. What its objects give and take is not told: the trusted edge of the system.
 ghost use Rattle.std.specs.Prelude.{◌≡◌, false};
 ghost use Rattle.outside_io.specs.Causes.{Rose};
 ghost use Rattle.outside_host.specs.Shelf.{nowhere};

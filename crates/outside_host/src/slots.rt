@@ -1,4 +1,4 @@
-// Objects under names, in order: the first slot of a name counts.
+//! Objects under names, in order: the first slot of a name counts.
 ghost use Rattle.std.specs.Prelude.{◌≡◌, ◌<◌, length, MatchOption, IfSome, IfNone, IsTrue, false, []};
 ghost use Rattle.outside_host.specs.MemHost.{HasNoEmptySink};
 ghost use Rattle.outside_host.specs.declared.host.Place.TheVariants.{Here, Back};

@@ -1,4 +1,4 @@
-// A source in memory that gives as many octets as are asked for.
+//! A source in memory that gives as many octets as are asked for.
 ghost use Rattle.std.specs.Prelude.{◌≡◌, ◌≤◌, ◌<◌, ◌-◌, ◌+◌, ◌++◌, length, min, take, drop, Some, IfOk, OnOk, OnErr};
 ghost use Rattle.std.specs.Io.{ReadsAtMost};
 ghost use Rattle.outside_io.specs.Calls.{no_calls, FailsNext, call_done, call_failed};

@@ -1,4 +1,4 @@
-// What a datagram is sent on.
+//! What a datagram is sent on.
 
 /// Which of a link's channels a datagram goes on.
 #[derive(Clone, Copy, Debug, PartialEq, Eq)]

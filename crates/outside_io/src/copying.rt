@@ -1,4 +1,4 @@
-// Copying into a slice of any length.
+//! Copying into a slice of any length.
 ghost use Rattle.std.specs.Prelude.{◌≡◌, length, min, take};
 
 /// Copies the front of some octets into the front of a slice, as many as fit, and says how many.

@@ -1,4 +1,4 @@
-// What random words come from.
+//! What random words come from.
 ghost use Rattle.std.specs.Prelude.{◌≡◌, ℕ, List, [], ◌∷◌, IfOk, OnErr};
 ghost use Rattle.std.specs.declared.option.Option.{Option};
 ghost use Rattle.outside_io.specs.Causes.{HasCause};

@@ -1,4 +1,4 @@
-// The calls of an object in memory, some of which are to fail.
+//! The calls of an object in memory, some of which are to fail.
 ghost use Rattle.std.specs.Prelude.{◌≡◌, ◌≤◌, ◌↔◌, IfOk, IsTrue};
 ghost use Rattle.outside_io.specs.Calls.{Calls, no_calls, next_count, FailsNext};
 

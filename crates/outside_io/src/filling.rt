@@ -1,4 +1,4 @@
-// Reads as much as a slice holds, however the source cuts it.
+//! Reads as much as a slice holds, however the source cuts it.
 ghost use Rattle.std.specs.Prelude.{◌≡◌, ◌≤◌, ◌<◌, [], ℕ, length, take, IfOk, OnErr};
 ghost use Rattle.outside_io.specs.Causes.{HasCause};
 ghost use Rattle.outside_io.specs.Told.{Takes, IsEmpty};

@@ -21,6 +21,7 @@ mod store;
 #[cfg(test)]
 mod tests;
 mod words;
+mod write_fault;
 
 pub use bytes::Bytes;
 pub use channel::Channel;
@@ -39,3 +40,4 @@ pub use sink::Sink;
 pub use source::{Failed, Source};
 pub use store::Store8;
 pub use words::Words;
+pub use write_fault::WriteFault;

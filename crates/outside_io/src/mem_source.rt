@@ -1,4 +1,4 @@
-// A source in memory of either form.
+//! A source in memory of either form.
 ghost use Rattle.std.specs.Prelude.{◌≡◌, ◌<◌, length, take, IfOk, OnOk, OnErr};
 ghost use Rattle.std.specs.Io.{ReadsAtMost};
 ghost use Rattle.outside_io.specs.Calls.{FailsNext};

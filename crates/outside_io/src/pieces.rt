@@ -1,4 +1,4 @@
-// A source in memory that is cut at stated places.
+//! A source in memory that is cut at stated places.
 ghost use Rattle.std.specs.Prelude.{◌≡◌, ◌≤◌, ◌<◌, ◌+◌, length, drop, take, Some, IfOk, OnOk, OnErr};
 ghost use Rattle.std.specs.Io.{ReadsAtMost};
 ghost use Rattle.outside_io.specs.Calls.{FailsNext, call_failed};

@@ -1,4 +1,4 @@
-// The profiles of the protocol.
+//! The profiles of the protocol.
 
 /// What datagrams a session sends.
 #[derive(Clone, Copy, Debug, PartialEq, Eq)]

@@ -1,4 +1,4 @@
-// The system's random source. What it gives is not told: the trusted edge of the system.
+//! The system's random source. What it gives is not told: the trusted edge of the system.
 ghost use Rattle.std.specs.Prelude.{None};
 
 use crate::{Entropy, Failed};

@@ -1,4 +1,4 @@
-// What octets go to.
+//! What octets go to.
 ghost use Rattle.std.specs.Prelude.{List, OnErr, OnOk, ℕ};
 ghost use Rattle.std.specs.declared.option.Option.{Option};
 ghost use Rattle.outside_io.specs.Causes.{HasCause};

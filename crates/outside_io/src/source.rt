@@ -1,4 +1,4 @@
-// What octets come from.
+//! What octets come from.
 ghost use Rattle.std.specs.Prelude.{◌≡◌, ◌<◌, ℕ, List, [], Some, codes, IfOk, OnErr, take, length};
 ghost use Rattle.std.specs.declared.option.Option.{Option};
 ghost use Rattle.std.specs.Io.{ReadsAtMost};

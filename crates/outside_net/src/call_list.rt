@@ -1,4 +1,4 @@
-// The calls of an object in memory that are to fail.
+//! The calls of an object in memory that are to fail.
 ghost use Rattle.std.specs.Prelude.{◌≡◌, IfOk};
 
 use outside_io::NoMemory;

@@ -1,4 +1,4 @@
-// A trace in memory.
+//! A trace in memory.
 ghost use Rattle.std.specs.Prelude.{◌≡◌, [], IfOk};
 
 use crate::{Full, Trace};

@@ -1,4 +1,4 @@
-// What datagrams come from and go to.
+//! What datagrams come from and go to.
 ghost use Rattle.std.specs.Prelude.{◌≡◌, ℕ, List, Bool, IfOk};
 ghost use Rattle.std.specs.Option.{option_map};
 ghost use Rattle.std.specs.declared.option.Option.{Option};

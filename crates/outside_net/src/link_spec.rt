@@ -1,4 +1,4 @@
-// Where a link is, and which end of it this is.
+//! Where a link is, and which end of it this is.
 
 /// An IPv4 address and a port of UDP.
 #[derive(Clone, Copy, Debug, PartialEq, Eq)]

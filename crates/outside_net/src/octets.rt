@@ -1,4 +1,4 @@
-// The octets of a datagram in memory.
+//! The octets of a datagram in memory.
 ghost use Rattle.std.specs.Prelude.{◌≡◌, IfOk};
 
 use outside_io::NoMemory;

@@ -1,4 +1,4 @@
-// Which channels' peers are known.
+//! Which channels' peers are known.
 
 use outside_io::Channel;
 

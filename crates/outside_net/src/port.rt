@@ -1,4 +1,4 @@
-// One socket of a link, and the peer of its channel.
+//! One socket of a link, and the peer of its channel.
 use crate::{Got, MAX_DATAGRAM, Role};
 use libc::net::{SO_RCVBUF, SOL_SOCKET, setsockopt};
 use outside_io::{Channel, Failed};

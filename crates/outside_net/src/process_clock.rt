@@ -1,4 +1,4 @@
-// The process clock. What it gives is not told: the trusted edge of the system.
+//! The process clock. What it gives is not told: the trusted edge of the system.
 use crate::Clock;
 use outside_io::Failed;
 use std::time;

@@ -1,4 +1,4 @@
-// A trace that keeps nothing.
+//! A trace that keeps nothing.
 ghost use Rattle.std.specs.Prelude.{None};
 
 use crate::{Full, Trace};

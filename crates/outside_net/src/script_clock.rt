@@ -1,4 +1,4 @@
-// A clock in memory.
+//! A clock in memory.
 ghost use Rattle.std.specs.Prelude.{◌≡◌, IfOk};
 
 use crate::Clock;

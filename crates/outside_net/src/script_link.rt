@@ -1,4 +1,4 @@
-// A link in memory.
+//! A link in memory.
 ghost use Rattle.std.specs.Prelude.{◌≡◌, ◌<◌, ◌≤◌, ◌++◌, ◌∷◌, [], length, take, vec_capacity};
 ghost use Rattle.outside_net.specs.Links.{IsWithin, answer_of, KnowsAfter, has_read_failed, has_come_to_end};
 ghost use Rattle.outside_net.specs.Scripts.{answer_in, FitsDatagram};

@@ -1,4 +1,4 @@
-// UDP links. What they give and take is not told: the trusted edge of the system.
+//! UDP links. What they give and take is not told: the trusted edge of the system.
 ghost use Rattle.std.specs.Prelude.{◌≡◌, false, IfOk, IfSome};
 ghost use Rattle.outside_net.specs.Links.{IsWithin, has_come_to_end};
 ghost use Rattle.outside_net.specs.Real.{knows_at, LooksOn};

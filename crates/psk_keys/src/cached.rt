@@ -1,4 +1,4 @@
-// Keys that are cached, the latest first.
+//! Keys that are cached, the latest first.
 
 ghost use Rattle.std.specs.Prelude.{◌≡◌, ◌+◌, ◌-◌, ◌≤◌, ◌<◌, ◌∷◌, length, take, Contains, IfSome};
 ghost use Rattle.std.specs.Vec.{vec_capacity};

@@ -1,4 +1,4 @@
-// PBKDF2 with HMAC over SHA-256, one block (RFC 8018, section 5.2).
+//! PBKDF2 with HMAC over SHA-256, one block (RFC 8018, section 5.2).
 
 ghost use Rattle.std.specs.Prelude.{◌≡◌, ◌≤◌, bit_xor};
 ghost use Rattle.std.specs.Simd.Lanes.{zip2};

@@ -1,4 +1,4 @@
-// The keys of a session by nonce, the four that were used last cached.
+//! The keys of a session by nonce, the four that were used last cached.
 
 ghost use Rattle.std.specs.Prelude.{◌≡◌, ◌≤◌, ◌<◌, ◌/◌, [], length, take, slice_index, IfOk};
 ghost use Rattle.std.specs.Int.{w32, to_be_bytes, from_be_bytes};

@@ -1,4 +1,4 @@
-// HMAC over SHA-256 (RFC 2104, section 2).
+//! HMAC over SHA-256 (RFC 2104, section 2).
 
 ghost use Rattle.std.specs.Prelude.{◌≡◌, ◌≤◌, ℕ, List, ◌++◌, length};
 ghost use Rattle.psk_keys.specs.Hmac.{block_key, filled_block, hmac, padded_key};

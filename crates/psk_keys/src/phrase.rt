@@ -1,4 +1,4 @@
-// The passphrase of a session.
+//! The passphrase of a session.
 
 ghost use Rattle.std.specs.Prelude.{◌≡◌, ◌≤◌, ℕ, length};
 

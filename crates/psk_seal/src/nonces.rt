@@ -1,4 +1,4 @@
-// Nonces from random words.
+//! Nonces from random words.
 ghost use Rattle.std.specs.Prelude.{◌↔◌, ◌<◌, length, IsTrue};
 ghost use Rattle.psk_seal.specs.Nonces.{IsFree, IsFirstFree};
 

@@ -1,4 +1,4 @@
-// A sealer's pairs of nonce and sequence number.
+//! A sealer's pairs of nonce and sequence number.
 ghost use Rattle.std.specs.Prelude.{◌≡◌, ◌≤◌, ◌<◌, ◌+◌, ◌-◌, ◌^◌, IfOk, OnOk, OnErr, Some, codes};
 ghost use Rattle.outside_io.specs.Causes.{HasCause};
 ghost use Rattle.psk_seal.specs.Nonces.{AreNonces, Draws, EndsAtFault};

@@ -1,4 +1,4 @@
-// Drawn nonces, and pairs at the seams between nonces.
+//! Drawn nonces, and pairs at the seams between nonces.
 use crate::{EntropyFault, MAX_PAIRS, Pair, Sealer, Spent};
 use outside_io::{Entropy, Words};
 use std::alloc::Global;

@@ -1,9 +1,9 @@
 ghost use Rattle.std.specs.Prelude.{◌≡◌, ◌<◌, ◌≤◌, ◌^◌};
 
-use crate::phase::{Phase, WriteFault};
+use crate::phase::Phase;
 use crate::release::put_due;
 use crate::ring::{MAX_PAYLOAD, Ring};
-use outside_io::{NoMemory, Sink};
+use outside_io::{NoMemory, Sink, WriteFault};
 use receiver_rules::place::{Position, highest_after, new_anchor, place_of};
 use receiver_rules::{Anchor, Arrival, Highest, Limits, Verdict};
 use std::alloc::Global;

@@ -11,6 +11,7 @@ mod ring;
 mod tests;
 
 pub use buffer::Buffer;
-pub use phase::{Phase, WriteFault};
+pub use outside_io::WriteFault;
+pub use phase::Phase;
 pub use receiver_rules::{Arrival, Verdict};
 pub use ring::MAX_PAYLOAD;

@@ -1,5 +1,3 @@
-use std::fmt::{self, Display, Formatter, Write};
-
 /// Where a buffer stands in its life.
 #[derive(Clone, Copy, Debug, PartialEq, Eq)]
 pub enum Phase {
@@ -9,18 +7,4 @@ pub enum Phase {
     Ended,
     /// A write failed: what was buffered is dropped.
     Failed,
-}
-
-/// A write to the sink failed, and the buffer has ended.
-#[derive(Clone, Copy, Debug, PartialEq, Eq)]
-pub struct WriteFault;
-
-impl Display for WriteFault {
-    ghost use Rattle.std.specs.Prelude.{Some, codes};
-
-    ghost output = { λ _. Some (codes "write failed") };
-
-    fn fmt<W: Write>(&self, f: &mut Formatter<W>) -> fmt::Result {
-        f.write_str("write failed")
-    }
 }

@@ -1,4 +1,4 @@
-// Messages, read as items.
+//! Messages, read as items.
 ghost use Rattle.std.specs.Prelude.{◌≡◌, ◌<◌, ◌-◌, ◌%◌};
 ghost use Rattle.rtp_packet.specs.Reading.{extension_shown, reading_of as rtp_reading_of};
 ghost use Rattle.rtcp_compound.specs.Reading.{fault_of};

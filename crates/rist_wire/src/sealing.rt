@@ -1,4 +1,4 @@
-// The datagrams of messages, in the tunnel or without it.
+//! The datagrams of messages, in the tunnel or without it.
 ghost use Rattle.std.specs.Prelude.{◌≡◌, ◌+◌, ◌≤◌, ◌++◌, ◌&&◌, ◌==◌, ◌^◌, ◌<◌, length, take, drop, is_some, IfSome};
 ghost use Rattle.std.specs.Int.{to_be_bytes};
 ghost use Rattle.outside_io.specs.declared.profile.Profile.TheVariants.{Simple, Main};

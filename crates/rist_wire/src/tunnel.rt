@@ -1,4 +1,4 @@
-// The Main Profile's tunnel: where the message of a datagram lies, and its text as plain text.
+//! The Main Profile's tunnel: where the message of a datagram lies, and its text as plain text.
 ghost use Rattle.std.specs.Prelude.{◌≡◌, ◌+◌, ◌≤◌, ◌<◌, length, drop, is_some, IfOk, OnOk};
 ghost use Rattle.gre_tunnel.specs.Reading.{reading_of as gre_reading_of};
 ghost use Rattle.rist_wire.specs.Session.{IsSession};
