@@ -155,4 +155,3 @@ fn is_due(policy: &Policy, rtt: u64, t: u64, entry: &Missing) -> bool
         && has_passed_since(rtt.max(policy.retry_interval), t, entry.last)
         && entry.count < policy.retry_limit
 }
-

@@ -1,5 +1,5 @@
 -- The media of a datagram: an RTP packet with the RIST extension (this profile).
-use Rattle.std.specs.Prelude.{ℕ, ◌+◌, ◌-◌, ◌*◌, ◌%◌, Bool, true, List, [], ◌==◌, Option, Some, None, Result, Ok, Err, is_ok}
+use Rattle.std.specs.Prelude.{ℕ, ◌+◌, ◌*◌, ◌%◌, Bool, true, List, [], ◌==◌, Option, Some, None, Result, Ok, Err, is_ok}
 use Rattle.seq_unwrap.specs.declared.width.Width.{Width}
 use Rattle.seq_unwrap.specs.declared.width.Width.TheVariants.{W16, W32}
 use Rattle.ts_nulls.specs.declared.nulls.NullBad.{NullBad}
