@@ -1,11 +1,10 @@
 -- What a run gave its sender, part after part.
-use Rattle.std.proofs.Common.{◌≡◌, ◌∙◌, ◌⊎◌, ℕ, zero, suc, ◌+◌, ◌*◌, ◌^◌, ◌<◌, ◌≤◌, nat_le, List, [], ◌∷◌, ◌++◌, length, flat_map, Bool, true, false, if◌then◌else◌, Option, None, Some, IfSome, option_map, Result, Ok, Err, refl, sym, ap, subst, arith, append-nil, append_assoc, length-append}
+use Rattle.std.proofs.Common.{◌≡◌, ◌∙◌, ◌⊎◌, ℕ, zero, suc, ◌+◌, ◌*◌, ◌^◌, ◌<◌, ◌≤◌, nat_le, List, [], ◌∷◌, ◌++◌, length, Bool, true, false, if◌then◌else◌, Option, None, Some, Result, Ok, Err, refl, sym, ap, subst, arith, append-nil, append_assoc, length-append}
 use Rattle.std.specs.List.{range_with_len}
 use Rattle.std.proofs.lemmas.Bool.Decides.{nat_tests}
 use Rattle.std.proofs.lemmas.Grind.{flat_map-append}
 use mathlib.Core.Logic.{inl, inr}
 use Rattle.outside_io.specs.Told.{Takes, IsEmpty}
-use Rattle.outside_net.specs.Links.{Answer}
 use Rattle.rtcp_compound.specs.Compound.{Content}
 use Rattle.stream_pieces.specs.Pieces.{pieces_of}
 use Rattle.stream_pieces.specs.Reading.{ReadsPiece, TakesPiece}
@@ -20,7 +19,7 @@ use Rattle.rist_send.specs.declared.fault.SendFault.TheVariants as faults
 use Rattle.rist_send.specs.declared.progress.Stage.{Stage}
 use Rattle.rist_send.specs.declared.progress.Stage.TheVariants.{Reading, Ended}
 use Rattle.rist_send.specs.Run.{Setup, Run, is_due, is_over_at, has_ended, outcome}
-use Rattle.rist_send.specs.Turns.{Stays, GoesOn, Follows, SendsPiece, SendsRead, BringsPiece, BringsNext, AnswersTo, AnswersIf, ReadsOn, ReadsLink, ReadsInTurn, TicksOnce, ReadsAndTicks, Turn, sent_with, stage_after, with_piece, is_read, with_answer, compound_in, with_moment}
+use Rattle.rist_send.specs.Turns.{Stays, GoesOn, SendsRead, BringsPiece, BringsNext, AnswersIf, ReadsOn, ReadsInTurn, TicksOnce, ReadsAndTicks, Turn, sent_with, stage_after, with_piece, is_read, with_answer, compound_in, with_moment}
 use Rattle.rist_send.specs.Given.{joined, Drops, GivesFirst, GivesAll, Gives}
 use Rattle.rist_send.specs.Sending.{TurnsOn, StopsWith, Stops, IsSpent, SendsSource, result_at_last}
 use Rattle.rist_send.specs.Served.{Outside, new_run}

@@ -255,7 +255,17 @@ fn a_failed_read_drops_a_part_of_a_piece(rt: HostRuntime) -> Result<(), Fail> {
     let source = Pieces::with(alloc, &[0x47; 2632], &[1320], &[2])?;
     let links = two_links(alloc, &[], &[])?;
     let bond = Bond::duplicate(2);
-    let ran = sent_over(alloc, &session(), None, bond, source, &EACH_MILLISECOND, 0, 6, links)?;
+    let ran = sent_over(
+        alloc,
+        &session(),
+        None,
+        bond,
+        source,
+        &EACH_MILLISECOND,
+        0,
+        6,
+        links,
+    )?;
     assert_eq!(rt; ran.answer, Err(SendFault::ReadFault));
     assert_eq!(rt; ran.took(0), Some((Channel::Media, 1328)));
     assert_eq!(rt; ran.took(1), Some((Channel::Control, 44)));
@@ -320,7 +330,17 @@ fn pieces_go_on_the_links_that_are_theirs(rt: HostRuntime) -> Result<(), Fail> {
         let source = Pieces::with(alloc, &octets, &[], &[])?;
         let links = two_links(alloc, &failing, &[])?;
         let bond = bond(shared);
-        let ran = sent_over(alloc, &session(), None, bond, source, &EACH_MILLISECOND, 0, 6, links)?;
+        let ran = sent_over(
+            alloc,
+            &session(),
+            None,
+            bond,
+            source,
+            &EACH_MILLISECOND,
+            0,
+            6,
+            links,
+        )?;
         assert_eq!(rt; ran.answer, Ok(()));
         assert_eq!(rt; places(&ran, 0), first);
         assert_eq!(rt; places(&ran, 1), second);
