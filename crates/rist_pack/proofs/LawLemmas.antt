@@ -1,14 +1,11 @@
 -- What the definitions of a capture that was packed mean.
-use Rattle.std.proofs.Common.{◌≡◌, ℕ, zero, suc, ◌+◌, ◌*◌, ◌/◌, ◌%◌, ◌^◌, ◌<◌, ◌≤◌, Bool, true, false, List, [], ◌∷◌, ◌++◌, length, flat_map, take, drop, get_or, refl, sym, ap, ◌∙◌, subst, arith, length-drop, append-nil, Option, Some, None, Ok, IfSome, is_some, is_ok}
+use Rattle.std.proofs.Common.{◌≡◌, ℕ, ◌+◌, ◌*◌, ◌/◌, ◌%◌, ◌^◌, ◌<◌, ◌≤◌, Bool, true, false, List, [], length, get_or, refl, sym, ap, ◌∙◌, subst, arith, Option, Some, None, Ok, IfSome, is_some, is_ok}
 use Rattle.std.specs.List.{enumerate_from}
-use Rattle.std.specs.Fork.{slice_chunk}
 use Rattle.std.specs.Prelude.{All}
-use Rattle.std.proofs.lemmas.Grind.{flat_map-append}
-use Rattle.std.proofs.lemmas.List.{take_all, length-take, get_or-map}
-use Rattle.std.proofs.lemmas.List.FromFn.{length-map-range_with_len, get_or-map-range_with_len, length-enumerate_from, get_or-enumerate_from}
+use Rattle.std.proofs.lemmas.List.{get_or-map}
+use Rattle.std.proofs.lemmas.List.FromFn.{length-enumerate_from, get_or-enumerate_from}
 use Rattle.std.proofs.lemmas.Nat.{mul-le}
 use Rattle.std.proofs.Math.ListN.{length-map}
-use Rattle.std.proofs.Math.Seq.{take-add}
 use Rattle.outside_io.specs.declared.channel.Channel.TheVariants as channels
 use Rattle.capture_file.specs.Capture.{Record, Fits}
 use Rattle.rtp_packet.specs.Rtp as rtp
@@ -26,10 +23,10 @@ use Rattle.rist_wire.specs.Item.{item_of}
 use Rattle.rist_wire.specs.Writing.{IsPair}
 use Rattle.rist_wire.specs.Sent.{IsMediaOut, media_channel, media_datagram}
 use Rattle.rist_wire.proofs.MediaLemmas.{media-taken}
-use Rattle.rist_pack.specs.Pieces.{first_pieces, pieces_of}
+use Rattle.stream_pieces.specs.Pieces.{pieces_of}
+use Rattle.stream_pieces.proofs.PieceLemmas.{length-pieces_of, piece_sized}
 use Rattle.rist_pack.specs.Capture.{sent_with, sent_of, stamp_of, media_of, taken_of, content_for, pair_of, piece_octets, packed_record, records_of, capture_of}
 use Rattle.rist_pack.specs.declared.settings.PackSettings.{PackSettings}
-use Rattle.rist_pack.proofs.PieceLemmas.{more}
 use Rattle.rist_pack.proofs.DatagramLemmas.{sent-within, piece-len}
 
 -- ---- what is sent of a piece
@@ -110,37 +107,7 @@ pub clear-capture : (session : Session) (nonces : Option (List ℕ)) (settings :
 clear-capture session None settings b clear paired = refl
 clear-capture session (Some nonces) settings b clear paired = cc
 
--- ---- the pieces
-
-joined : (n : ℕ) (b : List ℕ) → flat_map (λ piece. piece) (first_pieces n b) ≡ take (n * 1316) b
-joined zero b = refl
-joined (suc n) b =
-    let on : n * 1316 + 1316 ≡ suc n * 1316 = omega arith in
-    ap (flat_map (λ piece. piece)) (more n (suc n) b (omega arith))
-    ∙ flat_map-append (λ piece. piece) (first_pieces n b) (slice_chunk b 1316 n ∷ [])
-    ∙ ap (λ l. flat_map (λ piece. piece) (first_pieces n b) ++ l) (append-nil (slice_chunk b 1316 n))
-    ∙ ap (λ l. l ++ slice_chunk b 1316 n) (joined n b)
-    ∙ sym (take-add (n * 1316) 1316 b) ∙ ap (λ i. take i b) on
-
-pub pieces_joined : (b : List ℕ) → flat_map (λ piece. piece) (pieces_of b) ≡ b
-unfolding pieces_of
-pieces_joined b = joined ((length b + 1315) / 1316) b ∙ take_all ((length b + 1315) / 1316 * 1316) b (omega arith)
-
-pub length-pieces_of : (b : List ℕ) → length (pieces_of b) ≡ (length b + 1315) / 1316
-unfolding pieces_of
-length-pieces_of b = length-map-range_with_len (slice_chunk b 1316) 0 ((length b + 1315) / 1316)
-
-piece_at : (b : List ℕ) (k : ℕ) (d : List ℕ) → k < length (pieces_of b) → get_or (pieces_of b) k d ≡ slice_chunk b 1316 k
-unfolding pieces_of
-piece_at b k d inside = get_or-map-range_with_len (slice_chunk b 1316) 0 ((length b + 1315) / 1316) k k d (omega (arith, length-pieces_of b)) (omega arith)
-
-pub piece_sized : (b : List ℕ) (k : ℕ) (d : List ℕ) → k < length (pieces_of b) → (1 ≤ length (get_or (pieces_of b) k d)) × (length (get_or (pieces_of b) k d) ≤ 1316)
-piece_sized b k d inside =
-    let at = ap length (piece_at b k d inside) in
-    let part = length-take 1316 (drop (k * 1316) b) in
-    let rest = length-drop (k * 1316) b in
-    let count = length-pieces_of b in
-    (omega (arith, at, part, rest, count), omega (arith, at, part))
+-- ---- the records
 
 record_at : (f : ℕ → List ℕ → Record) (ps : List (List ℕ)) (k : ℕ) (d : Record) → k < length ps → get_or (records_of f 0 ps) k d ≡ f k (get_or ps k [])
 record_at f ps k d inside =

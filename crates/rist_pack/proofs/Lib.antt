@@ -1,4 +1,3 @@
-pub mod PieceLemmas
 pub mod CaptureLemmas
 pub mod DatagramLemmas
 pub mod StepLemmas

@@ -5,14 +5,14 @@ use Rattle.std.specs.Prelude.{Option, ◌≤◌}
 use Rattle.outside_io.specs.Told.{Appends, AppendsPart, AppendsBetween}
 use Rattle.outside_io.proofs.ToldLemmas.{takes_none, takes_both, appends_both}
 use Rattle.capture_file.specs.Capture.{Record, magic}
-use Rattle.rist_pack.specs.Pieces.{pieces_of, pieces_before_last, whole_pieces_of}
+use Rattle.stream_pieces.specs.Pieces.{pieces_of, pieces_before_last, whole_pieces_of}
 use Rattle.rist_pack.specs.Capture.{capture_of}
 use Rattle.rist_pack.specs.Packing.{Packs}
 use Rattle.rist_pack.specs.Inside.Steps.{PacksPiece, spelled_from, Sofar}
 use Rattle.rist_pack.specs.declared.packing.Turn.TheVariants.{On, Over}
 use Rattle.rist_pack.specs.declared.bad.PackBad.{PackBad}
 use Rattle.rist_pack.specs.declared.bad.PackBad.TheVariants.{ReadFault, WriteFault, TooLong}
-use Rattle.rist_pack.proofs.PieceLemmas.{no_piece, pieces_behind, whole_pieces_behind, no_whole_piece, all_whole, length-pieces, before_last}
+use Rattle.stream_pieces.proofs.PieceLemmas.{no_piece, pieces_behind, whole_pieces_behind, no_whole_piece, all_whole, length-pieces, before_last}
 use Rattle.rist_pack.proofs.CaptureLemmas.{capture_behind}
 
 -- no piece is the name alone
@@ -71,20 +71,20 @@ ended f k had left rest old held new s (b, taken, (empty, bound, written)) = (
 
 pub stopped : (f : ℕ → List ℕ → Record) (k : ℕ) (had left rest old held new : Option (List ℕ)) (bad : PackBad) → Sofar f k (record { had = had; left = left; held = old; holds = held })
     → PacksPiece f k (record { had = left; left = rest; held = held; holds = new }) (Err bad) → Packs f (record { had = had; left = rest; held = old; holds = new }) (Err bad)
-stopped f k had left rest old held new ReadFault s ((b, taken, (few, bound)), written) = (
-  s.read ++ b,
-  takes_both had left rest s.read b s.taken taken,
+stopped f k had left rest old held new ReadFault s (d, written) = (
+  s.read ++ d.part,
+  takes_both had left rest s.read d.part s.taken d.taken,
   (
-    omega (arith, s.size, length-append s.read b),
-    subst (Appends old new) (packed_whole f k s.read b s.size few) (appends_both old held new (capture_of f (pieces_of s.read)) [] s.written written),
+    omega (arith, s.size, d.fact, length-append s.read d.part),
+    subst (Appends old new) (packed_whole f k s.read d.part s.size d.few) (appends_both old held new (capture_of f (pieces_of s.read)) [] s.written written),
   ),
 )
-stopped f k had left rest old held new TooLong s ((b, taken, (few, bound)), written) = (
-  s.read ++ b,
-  takes_both had left rest s.read b s.taken taken,
+stopped f k had left rest old held new TooLong s (d, written) = (
+  s.read ++ d.part,
+  takes_both had left rest s.read d.part s.taken d.taken,
   (
-    omega (arith, s.size, length-append s.read b),
-    subst (Appends old new) (packed_whole f k s.read b s.size few) (appends_both old held new (capture_of f (pieces_of s.read)) [] s.written written),
+    omega (arith, s.size, d.fact, length-append s.read d.part),
+    subst (Appends old new) (packed_whole f k s.read d.part s.size d.few) (appends_both old held new (capture_of f (pieces_of s.read)) [] s.written written),
   ),
 )
 stopped f k had left rest old held new WriteFault s (b, taken, ((some, few), bound, written)) = (

@@ -1,5 +1,4 @@
 pub mod Text
-pub mod Pieces
 pub mod Capture
 pub mod Packing
 pub mod Inside

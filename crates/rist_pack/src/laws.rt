@@ -11,7 +11,7 @@ ghost use Rattle.rist_wire.specs.declared.session.Session.{Session};
 ghost use Rattle.rist_wire.specs.Session.{IsSession};
 ghost use Rattle.rist_wire.specs.Media.{content_of};
 ghost use Rattle.rist_wire.specs.Item.{item_of};
-ghost use Rattle.rist_pack.specs.Pieces.{pieces_of};
+ghost use Rattle.stream_pieces.specs.Pieces.{pieces_of};
 ghost use Rattle.rist_pack.specs.Capture.{stamp_of, taken_of, content_for, packed_record, records_of, capture_of};
 ghost use Rattle.rist_pack.specs.declared.settings.PackSettings.{PackSettings};
 
@@ -51,12 +51,6 @@ pub fn without_a_passphrase_a_capture_is_one()
         → session.pass ≡ None → is_some nonces ≡ is_some session.pass
         → capture_of (packed_record session nonces settings) (pieces_of b)
         ≡ capture_of (packed_record session None settings) (pieces_of b) }
-{}
-
-/// The pieces are the octets that were cut, each of 1 to 1,316 octets.
-pub fn the_pieces_are_the_whole()
-    ensures whole { (b : List ℕ) → flat_map (λ piece. piece) (pieces_of b) ≡ b }
-    ensures each { (b : List ℕ) → All (λ piece. (1 ≤ length piece) × (length piece ≤ 1316)) (pieces_of b) }
 {}
 
 /// What is written is a capture of these records.

@@ -8,39 +8,15 @@ ghost use Rattle.rist_wire.specs.Writing.{next_pair, after_pair};
 ghost use Rattle.rist_pack.specs.Capture.{record_with, packed_record, nonces_of, HasGiven};
 ghost use Rattle.rist_pack.specs.Packing.{Packs, pack_fault, passage};
 ghost use Rattle.rist_pack.specs.declared.packing.Turn.TheVariants as Turn;
-ghost use Rattle.rist_pack.specs.Inside.Steps.{ReadsPiece, PacksPiece};
+ghost use Rattle.rist_pack.specs.Inside.Steps.{PacksPiece};
 
 use crate::datagram::{put_piece, time_of};
 use crate::{PackBad, PackSettings};
 use capture_file::{Head, WriteFault, Writer};
-use outside_io::{Sink, Source, read_full};
+use outside_io::{Sink, Source};
 use psk_seal::Sealer;
 use rist_wire::{Session, Shutter};
-
-/// Octets of a whole piece.
-const PIECE_LEN: usize = 1316;
-
-/// Octets of the longest source.
-const MAX_LEN: u64 = 1 << 40;
-
-// Reads piece k, or what the source has left of it, and one octet past the longest source at most.
-fn read_piece<S: Source>(
-    k: u64,
-    source: &mut S,
-    piece: &mut [u8; PIECE_LEN],
-) -> Result<usize, PackBad>
-    requires place { 1316 * k ≤ 2 ^ 40 }
-    ensures value { ReadsPiece k (S.remaining source.old) (S.remaining source.new) piece.new result }
-    ensures ahead { result ≡ Err PackBad.ReadFault → S.ahead source.new ≡ [] }
-    ensures cause { HasReadCause (fault_by pack_fault result) (S.faults source.old) (S.faults source.new) }
-{
-    let room = (MAX_LEN + 1 - k * PIECE_LEN as u64).min(PIECE_LEN as u64) as usize;
-    match read_full(source, &mut piece[..room]) {
-        Ok(count) if count == room && room < PIECE_LEN => Err(PackBad::TooLong),
-        Ok(count) => Ok(count),
-        Err(_) => Err(PackBad::ReadFault),
-    }
-}
+use stream_pieces::{PIECE_LEN, PieceFault, read_piece};
 
 // Writes the record of piece k.
 fn write_piece<K: Sink>(
@@ -116,7 +92,8 @@ fn pack_piece<S: Source, K: Sink>(
     let mut piece = [0; PIECE_LEN];
     let count = match read_piece(k, source, &mut piece) {
         Ok(count) => count,
-        Err(bad) => return Err(bad),
+        Err(PieceFault::ReadFault) => return Err(PackBad::ReadFault),
+        Err(PieceFault::TooLong) => return Err(PackBad::TooLong),
     };
     if count == 0 {
         return Ok(Turn::Over);

@@ -1,3 +1,4 @@
 pub mod ServedLemmas
 pub mod MoveLemmas
 pub mod PieceLemmas
+pub mod GivenLemmas

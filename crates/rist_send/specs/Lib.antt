@@ -1,7 +1,7 @@
 pub mod Text
-pub mod Pieces
 pub mod Run
 pub mod Turns
+pub mod Given
 pub mod Sending
 pub mod Served
 pub mod Inside

@@ -1,6 +1,8 @@
 -- What a run has come to.
 use Rattle.std.specs.Prelude.{ℕ, ◌+◌, ◌*◌, nat_le, List, replicate, Bool, true, false, Option, None, Some, Result, Ok, Err}
 use Rattle.outside_net.specs.Links.{Answer}
+use Rattle.stream_pieces.specs.declared.fault.PieceFault.{PieceFault}
+use Rattle.stream_pieces.specs.declared.fault.PieceFault.TheVariants as pieces
 use Rattle.rist_wire.specs.declared.session.Session.{Session}
 use Rattle.rist_sender.specs.Calls.{Work, Rules}
 use Rattle.rist_sender.specs.Sender.{SenderState, rules_of}
@@ -69,6 +71,11 @@ is_over linger progress = is_over_at linger progress.stage progress.moment
 abbrev pub has_ended : Stage → Bool
 has_ended (Reading k) = false
 has_ended (Ended moment) = true
+
+-- what it means that a piece isn't read
+abbrev pub fault_of : PieceFault → SendFault
+fault_of pieces.ReadFault = faults.ReadFault
+fault_of pieces.TooLong = faults.TooLong
 
 -- what a refusal of the sender means
 abbrev pub refusal : SendBad → SendFault

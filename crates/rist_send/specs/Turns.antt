@@ -15,11 +15,12 @@ use Rattle.rist_sender.specs.declared.send_bad.SendBad.{SendBad}
 use Rattle.rist_sender.specs.declared.send_bad.SendBad.TheVariants.{Spent, LinksDown}
 use Rattle.rist_sender.specs.History.{is_down}
 use Rattle.rist_sender.specs.Calls.{IfElse, Sends, FeedsBack, Ticks}
+use Rattle.stream_pieces.specs.declared.fault.PieceFault.{PieceFault}
+use Rattle.stream_pieces.specs.Reading.{ReadsPiece}
 use Rattle.rist_send.specs.declared.fault.SendFault.{SendFault}
 use Rattle.rist_send.specs.declared.progress.Stage.{Stage}
 use Rattle.rist_send.specs.declared.progress.Stage.TheVariants.{Reading, Ended}
-use Rattle.rist_send.specs.Pieces.{ReadsPiece}
-use Rattle.rist_send.specs.Run.{Setup, Run, begun_at, is_due, outcome}
+use Rattle.rist_send.specs.Run.{Setup, Run, begun_at, is_due, fault_of, outcome}
 
 -- ---- parts in order
 
@@ -63,8 +64,8 @@ abbrev pub with_piece : ℕ → ℕ → Run → Run
 with_piece k count run = record run { progress = record run.progress { stage = stage_after run.progress.moment k count } }
 
 -- piece k was read, or why not
-abbrev pub SendsRead : Setup → ℕ → Result (List ℕ) SendFault → Result Unit SendFault → Run → Run → Type 0
-SendsRead setup k (Err fault) result from to = (result ≡ Err fault) × (to ≡ from)
+abbrev pub SendsRead : Setup → ℕ → Result (List ℕ) PieceFault → Result Unit SendFault → Run → Run → Type 0
+SendsRead setup k (Err fault) result from to = (result ≡ Err (fault_of fault)) × (to ≡ from)
 SendsRead setup k (Ok []) result from to = Stays result (with_piece k 0 from) to
 SendsRead setup k (Ok (octet ∷ octets)) result from to =
     SendsPiece setup (octet ∷ octets) result (with_piece k (length (octet ∷ octets)) from) to
@@ -72,7 +73,7 @@ SendsRead setup k (Ok (octet ∷ octets)) result from to =
 -- piece k is read and sent
 pub record BringsPiece (setup : Setup) (k : ℕ) (result : Result Unit SendFault) (from to : Run) : Type 0 where
   pub left : Option (List ℕ)
-  pub reading : Result (List ℕ) SendFault
+  pub reading : Result (List ℕ) PieceFault
   pub reads : ReadsPiece k from.octets left reading
   pub sends : SendsRead setup k reading result (record from { octets = left }) to
 

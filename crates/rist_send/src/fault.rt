@@ -1,11 +1,13 @@
 //! Why a source is not sent to its end.
 ghost use Rattle.std.specs.Prelude.{◌≡◌};
 ghost use Rattle.outside_io.specs.Causes.{NoFault};
-ghost use Rattle.rist_send.specs.Run.{refusal as refusal_of};
+ghost use Rattle.stream_pieces.specs.Reading.{piece_fault};
+ghost use Rattle.rist_send.specs.Run.{fault_of, refusal as refusal_of};
 ghost use Rattle.rist_send.specs.Sending.{read_fault};
 
 use rist_sender::SendBad;
 use std::fmt::{self, Display, Formatter, Write};
+use stream_pieces::PieceFault;
 
 /// Why a source is not sent to its end.
 #[derive(Clone, Copy, Debug, PartialEq, Eq)]
@@ -47,5 +49,17 @@ pub(crate) fn refusal(bad: SendBad) -> SendFault
     match bad {
         SendBad::Spent => SendFault::Spent,
         SendBad::LinksDown => SendFault::LinksDown,
+    }
+}
+
+// What it means here that a piece isn't read.
+pub(crate) fn unread(fault: PieceFault) -> SendFault
+    ensures value { result ≡ fault_of fault }
+    ensures source { read_fault result ≡ piece_fault fault }
+    ensures failed { result ≡ SendFault.ReadFault → fault ≡ PieceFault.ReadFault }
+{
+    match fault {
+        PieceFault::ReadFault => SendFault::ReadFault,
+        PieceFault::TooLong => SendFault::TooLong,
     }
 }

@@ -1,10 +1,9 @@
 //! The next piece of a source.
-ghost use Rattle.std.specs.Prelude.{◌≡◌, ◌≤◌, ◌+◌, ◌*◌, ◌^◌, ℕ, [], Err, IfOk, length, map};
+ghost use Rattle.std.specs.Prelude.{◌≡◌, ◌≤◌, ◌+◌, ◌*◌, ◌^◌, ℕ, [], Err, length, map};
 ghost use Rattle.outside_io.specs.Causes.{HasReadCause, fault_by};
 ghost use Rattle.sender_rules.specs.Bonding.{link_count};
 ghost use Rattle.sender_rules.specs.declared.bounds.TheConstants.{MAX_LINKS};
 ghost use Rattle.rist_sender.specs.Sender.{StaysSet};
-ghost use Rattle.rist_send.specs.Pieces.{ReadsPiece, front_of};
 ghost use Rattle.rist_send.specs.Run.{Run, setup_of};
 ghost use Rattle.rist_send.specs.Turns.{BringsPiece, BringsNext, stage_after};
 ghost use Rattle.rist_send.specs.Sending.{read_fault};
@@ -12,38 +11,13 @@ ghost use Rattle.rist_send.specs.Inside.Moves.{IsAt, Moves, IsPlace, with_source
 ghost use Rattle.rist_send.specs.declared.settings.SendSettings.{SendSettings as Settings};
 ghost use Rattle.rist_send.specs.declared.progress.Stage.TheVariants as Stage;
 
-use crate::fault::refusal;
+use crate::fault::{refusal, unread};
 use crate::progress::{Progress, Stage};
 use crate::{SendFault, SendSettings};
-use outside_io::{Source, read_full};
+use outside_io::Source;
 use outside_net::Link;
 use rist_sender::Sender;
-
-/// Octets of a whole piece.
-const PIECE_LEN: usize = 1316;
-
-/// Octets of the longest source.
-const MAX_LEN: u64 = 1 << 40;
-
-// Reads piece k, or what the source has left of it, and one octet past the longest source at most.
-fn read_piece<S: Source>(
-    k: u64,
-    source: &mut S,
-    piece: &mut [u8; PIECE_LEN],
-) -> Result<usize, SendFault>
-    requires place { 1316 * k ≤ 2 ^ 40 }
-    ensures value { ReadsPiece k (S.remaining source.old) (S.remaining source.new) (front_of piece.new result) }
-    ensures within { IfOk result (λ count. (count ≤ 1316) × (1316 * k + count ≤ 2 ^ 40)) }
-    ensures ahead { result ≡ Err SendFault.ReadFault → S.ahead source.new ≡ [] }
-    ensures cause { HasReadCause (fault_by read_fault result) (S.faults source.old) (S.faults source.new) }
-{
-    let room = (MAX_LEN + 1 - k * PIECE_LEN as u64).min(PIECE_LEN as u64) as usize;
-    match read_full(source, &mut piece[..room]) {
-        Ok(count) if count == room && room < PIECE_LEN => Err(SendFault::TooLong),
-        Ok(count) => Ok(count),
-        Err(_) => Err(SendFault::ReadFault),
-    }
-}
+use stream_pieces::{PIECE_LEN, read_piece};
 
 // What the source is at after piece k, of so many octets.
 fn stage_after(moment: u64, k: u64, count: usize) -> Stage
@@ -84,7 +58,7 @@ fn bring_piece<S: Source, L: Link>(
     let mut piece = [0; PIECE_LEN];
     let count = match read_piece(k, source, &mut piece) {
         Ok(count) => count,
-        Err(fault) => return Err(fault),
+        Err(fault) => return Err(unread(fault)),
     };
     progress.stage = stage_after(progress.moment, k, count);
     if count == 0 {

@@ -1,26 +1,16 @@
 -- What the steps of a packing answer, by the octets that a source had and has left, and those that a capture held and
 -- holds, where these are told.
-use Rattle.std.specs.Prelude.{◌≡◌, ℕ, ◌+◌, ◌*◌, ◌^◌, ◌<◌, ◌≤◌, List, [], length, take, flat_map, Result, Ok, Err, Option}
+use Rattle.std.specs.Prelude.{◌≡◌, ℕ, ◌+◌, ◌*◌, ◌^◌, ◌<◌, ◌≤◌, List, [], length, flat_map, Result, Ok, Err}
 use Rattle.outside_io.specs.Told.{Passage, Takes, IsEmpty, Appends, AppendsPart}
 use Rattle.capture_file.specs.Capture.{Record, spelling}
-use Rattle.rist_pack.specs.Pieces.{pieces_of}
+use Rattle.stream_pieces.specs.Pieces.{pieces_of}
+use Rattle.stream_pieces.specs.Reading.{DropsPart}
 use Rattle.rist_pack.specs.Capture.{records_of, capture_of}
 use Rattle.rist_pack.specs.Packing.{Reads}
 use Rattle.rist_pack.specs.declared.packing.Turn.{Turn}
 use Rattle.rist_pack.specs.declared.packing.Turn.TheVariants.{On, Over}
 use Rattle.rist_pack.specs.declared.bad.PackBad.{PackBad}
 use Rattle.rist_pack.specs.declared.bad.PackBad.TheVariants.{ReadFault, WriteFault, TooLong}
-
--- fewer octets than a whole piece has were read, and this holds of their number
-abbrev pub ReadsPart : Option (List ℕ) → Option (List ℕ) → (ℕ → Type 0) → Type 0
-ReadsPart had left P = Reads had left (λ b. (length b < 1316) × P (length b))
-
--- what the reading of piece k answers: how many octets of it stand at the front of a block, or why it is not read
-abbrev pub ReadsPiece : ℕ → Option (List ℕ) → Option (List ℕ) → List ℕ → Result ℕ PackBad → Type 0
-ReadsPiece k had left block (Ok n) = (n ≤ 1316) × (1316 * k + n ≤ 2 ^ 40) × Takes had left (take n block) × (n < 1316 → IsEmpty left)
-ReadsPiece k had left block (Err ReadFault) = ReadsPart had left (λ n. 1316 * k + n ≤ 2 ^ 40)
-ReadsPiece k had left block (Err TooLong) = ReadsPart had left (λ n. 2 ^ 40 < 1316 * k + n)
-ReadsPiece k had left block (Err WriteFault) = ⊥
 
 -- the octets of the records of pieces of which the first is piece k
 abbrev pub spelled_from : (ℕ → List ℕ → Record) → ℕ → List (List ℕ) → List ℕ
@@ -32,8 +22,8 @@ PacksPiece record_of k p (Ok On) =
     Reads p.had p.left (λ b. (length b ≡ 1316) × (1316 * k + length b ≤ 2 ^ 40) × Appends p.held p.holds (spelled_from record_of k (pieces_of b)))
 PacksPiece record_of k p (Ok Over) =
     Reads p.had p.left (λ b. IsEmpty p.left × (1316 * k + length b ≤ 2 ^ 40) × Appends p.held p.holds (spelled_from record_of k (pieces_of b)))
-PacksPiece record_of k p (Err ReadFault) = ReadsPart p.had p.left (λ n. 1316 * k + n ≤ 2 ^ 40) × Appends p.held p.holds []
-PacksPiece record_of k p (Err TooLong) = ReadsPart p.had p.left (λ n. 2 ^ 40 < 1316 * k + n) × Appends p.held p.holds []
+PacksPiece record_of k p (Err ReadFault) = DropsPart p.had p.left (λ n. 1316 * k + n ≤ 2 ^ 40) × Appends p.held p.holds []
+PacksPiece record_of k p (Err TooLong) = DropsPart p.had p.left (λ n. 2 ^ 40 < 1316 * k + n) × Appends p.held p.holds []
 PacksPiece record_of k p (Err WriteFault) =
     Reads p.had p.left (λ b. ((0 < length b) × (length b ≤ 1316)) × (1316 * k + length b ≤ 2 ^ 40)
     × AppendsPart p.held p.holds (spelled_from record_of k (pieces_of b)))

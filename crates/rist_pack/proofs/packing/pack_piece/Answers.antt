@@ -22,12 +22,12 @@ pub returns-in-Ok-2-clause-value : goal.returns-in-Ok-2-clause-value
 returns-in-Ok-2-clause-value g c =
     let is = record-is c.args.shutter.now.session c.args.shutter.now.sealer c.args.settings.now c.args.k _ c.requires.given in
     last_piece (packed_record c.args.shutter.now.session (nonces_of c.args.shutter.now.sealer) c.args.settings.now) c.args.k c.in-Ok.count _ _ c.args.capture.now.contents c.write_piece.new.capture.contents c.read_piece.new.piece
-    c.read_piece.array_long c.in-Ok.ensures.value (omega arith) (omega (arith, c.in-Ok.ensures.value))
+    c.read_piece.array_long c.in-Ok.ensures.value (omega arith) (omega (arith, c.in-Ok.ensures.within))
     (subst (λ (r : Record). Appends c.args.capture.now.contents c.write_piece.new.capture.contents (spelling r)) is c.in-Ok-2.ensures.ok)
 
-pub returns-in-Err-write_piece-clause-value : goal.returns-in-Err-write_piece-clause-value
-returns-in-Err-write_piece-clause-value g c =
+pub returns-in-Err-clause-value : goal.returns-in-Err-clause-value
+returns-in-Err-clause-value g c =
     let is = record-is c.args.shutter.now.session c.args.shutter.now.sealer c.args.settings.now c.args.k _ c.requires.given in
     part_written (packed_record c.args.shutter.now.session (nonces_of c.args.shutter.now.sealer) c.args.settings.now) c.args.k c.in-Ok.count _ _ c.args.capture.now.contents c.write_piece.new.capture.contents c.read_piece.new.piece
-    c.read_piece.array_long c.in-Ok.ensures.value (omega arith)
-    (subst (λ (r : Record). AppendsPart c.args.capture.now.contents c.write_piece.new.capture.contents (spelling r)) is c.in-Err-write_piece.ensures.err)
+    c.read_piece.array_long c.in-Ok.ensures.within.0 c.in-Ok.ensures.value (omega arith)
+    (subst (λ (r : Record). AppendsPart c.args.capture.now.contents c.write_piece.new.capture.contents (spelling r)) is c.in-Err.ensures.err)

@@ -4,7 +4,7 @@ use Rattle.rist_sender.specs.Calls.{Sends}
 use Rattle.rist_sender.specs.Sender.{rules_of}
 use Rattle.rist_sender.specs.declared.send_bad.SendBad.{SendBad}
 use Rattle.rist_send.specs.declared.progress.Progress.{Progress}
-use Rattle.rist_send.specs.Pieces.{ReadsPiece}
+use Rattle.stream_pieces.specs.Reading.{ReadsPiece}
 use Rattle.rist_send.specs.Run.{setup_of}
 use Rattle.rist_send.specs.Turns.{sent_with, stage_after, with_piece}
 use Rattle.rist_send.specs.Inside.Moves.{with_source}
@@ -21,7 +21,7 @@ returns-in-Err-clause-work g c = λ settings from at.
       left = left;
       reading = Err c.in-Err.fault;
       reads = subst (λ (had : Option (List ℕ)). ReadsPiece c.args.k had left (Err c.in-Err.fault)) (sym at.octets) c.in-Err.ensures.value;
-      sends = (refl, refl);
+      sends = (ap Err c.unread.ensures.value, refl);
     })
 
 pub returns-then-count-eq0-clause-work : goal.returns-then-count-eq0-clause-work

@@ -11,6 +11,7 @@ use Rattle.rist_send.specs.Sending.{TurnsOn}
 use Rattle.rist_send.specs.Inside.Moves.{IsPlace}
 use Rattle.rist_send.specs.Served.{Outside, new_run}
 use Rattle.rist_send.proofs.MoveLemmas.{moves_none, moves_then, moves_next, setup_same, runs_of}
+use Rattle.rist_send.proofs.GivenLemmas.{sends_source}
 use Rattle.rist_send.proofs.sending.send.Goals as goal
 
 abbrev last_with : Bool → Result Unit SendFault
@@ -78,7 +79,7 @@ returns-in-Err-clause-work g c = λ from stands.
     (moves_then _ sender loop.sender c.turn.new.sender loop.progress c.turn.new.progress _ _ links loop.links c.turn.new.links _ _ _
     (λ to. Turn (setup_of c.args.settings.now sender (length links)) (Err c.in-Err.fault) d.to to) inv.same inv.set d (c.in-Err.ensures.work d.to d.stands)
     (λ to fact. subst (λ (s : Setup). Turn s (Err c.in-Err.fault) d.to to) (setup_same c.args.settings.now sender loop.sender (length links) (length loop.links) inv.set inv.same) fact))
-    (λ at fact. record { count = loop.count; before = d.to; turns = d.fact; ends = inl (record { left = omega arith; turn = fact; stops = tt }) })
+    (λ at fact. sends_source _ _ _ from _ d.to _ d.fact (inl (record { left = omega arith; turn = fact; stops = tt })))
 
 pub returns-then-is_over-clause-work : goal.returns-then-is_over-clause-work
 returns-then-is_over-clause-work g c = λ from stands.
@@ -91,41 +92,27 @@ returns-then-is_over-clause-work g c = λ from stands.
     (moves_then _ sender loop.sender c.turn.new.sender loop.progress c.turn.new.progress _ _ links loop.links c.turn.new.links _ _ _
     (λ to. Turn (setup_of c.args.settings.now sender (length links)) (Ok tt) d.to to) inv.same inv.set d (c.in-Ok.ensures.work d.to d.stands)
     (λ to fact. subst (λ (s : Setup). Turn s (Ok tt) d.to to) (setup_same c.args.settings.now sender loop.sender (length links) (length loop.links) inv.set inv.same) fact))
-    (λ at fact. record {
-      count = loop.count;
-      before = d.to;
-      turns = d.fact;
-      ends = inl (record { left = omega arith; turn = fact; stops = ap (is_over c.args.settings.now.linger) at.progress ∙ sym c.if-is_over.ensures.value });
-    })
+    (λ at fact. sends_source _ _ _ from _ d.to _ d.fact
+    (inl (record { left = omega arith; turn = fact; stops = ap (is_over c.args.settings.now.linger) at.progress ∙ sym c.if-is_over.ensures.value })))
 
 pub returns-then-has_ended-clause-work : goal.returns-then-has_ended-clause-work
 returns-then-has_ended-clause-work g c = λ from stands.
     let loop = c.loop-count in
     let d = loop.invariant.does from stands in
     runs_of _ c.args.sender.now loop.sender loop.progress _ _ c.args.links.now loop.links from _ _ d
-    (λ at fact. record {
-      count = loop.count;
-      before = d.to;
-      turns = fact;
-      ends = inr (record {
-        all = omega arith;
-        same = refl;
-        answer = subst (λ (b : Bool). Ok tt ≡ last_with b) (sym (ap (λ (p : Progress). has_ended p.stage) at.progress ∙ sym c.if-has_ended.ensures.value)) refl;
-      });
-    })
+    (λ at fact. sends_source _ _ _ from _ d.to _ fact (inr (record {
+      all = omega arith;
+      same = refl;
+      answer = subst (λ (b : Bool). Ok tt ≡ last_with b) (sym (ap (λ (p : Progress). has_ended p.stage) at.progress ∙ sym c.if-has_ended.ensures.value)) refl;
+    })))
 
 pub returns-else-has_ended-clause-work : goal.returns-else-has_ended-clause-work
 returns-else-has_ended-clause-work g c = λ from stands.
     let loop = c.loop-count in
     let d = loop.invariant.does from stands in
     runs_of _ c.args.sender.now loop.sender loop.progress _ _ c.args.links.now loop.links from _ _ d
-    (λ at fact. record {
-      count = loop.count;
-      before = d.to;
-      turns = fact;
-      ends = inr (record {
-        all = omega arith;
-        same = refl;
-        answer = subst (λ (b : Bool). Err TurnsSpent ≡ last_with b) (sym (ap (λ (p : Progress). has_ended p.stage) at.progress ∙ sym c.if-has_ended.ensures.value)) refl;
-      });
-    })
+    (λ at fact. sends_source _ _ _ from _ d.to _ fact (inr (record {
+      all = omega arith;
+      same = refl;
+      answer = subst (λ (b : Bool). Err TurnsSpent ≡ last_with b) (sym (ap (λ (p : Progress). has_ended p.stage) at.progress ∙ sym c.if-has_ended.ensures.value)) refl;
+    })))

@@ -1,5 +1,5 @@
-use Rattle.rist_pack.proofs.LawLemmas.{pieces_joined, piece_sized}
-use Rattle.rist_pack.proofs.laws.the_pieces_are_the_whole.Goals as goal
+use Rattle.stream_pieces.proofs.PieceLemmas.{pieces_joined, piece_sized}
+use Rattle.stream_pieces.proofs.laws.the_pieces_are_the_whole.Goals as goal
 
 pub returns-clause-whole : goal.returns-clause-whole
 returns-clause-whole c = pieces_joined

@@ -1,10 +1,14 @@
--- Pieces of octets that are cut at a whole piece.
-use Rattle.std.proofs.Common.{◌≡◌, ℕ, zero, suc, ◌+◌, ◌-◌, ◌*◌, ◌/◌, ◌<◌, ◌≤◌, List, [], ◌∷◌, ◌++◌, length, take, drop, refl, sym, ap, ◌∙◌, arith, length-append, append_assoc, append-nil, length-drop}
+-- Pieces of octets.
+use Rattle.std.proofs.Common.{◌≡◌, ℕ, zero, suc, ◌+◌, ◌-◌, ◌*◌, ◌/◌, ◌<◌, ◌≤◌, List, [], ◌∷◌, ◌++◌, length, take, drop, refl, sym, ap, ◌∙◌, arith, length-append, append_assoc, append-nil, length-drop, flat_map, get_or}
 use Rattle.std.specs.Fork.{slice_chunk}
-use Rattle.std.proofs.lemmas.List.FromFn.{map-range_with_len_more, length-map-range_with_len}
-use Rattle.std.proofs.lemmas.List.{take-append-le, take_all, drop-append-le}
-use Rattle.std.proofs.Math.Seq.{drop-append-add}
-use Rattle.rist_pack.specs.Pieces.{first_pieces, pieces_of, pieces_before_last, whole_pieces_of}
+use Rattle.std.specs.Prelude.{◌⊎◌}
+use mathlib.Core.Logic.{inl, inr}
+use Rattle.std.proofs.Math.Nat.{eq-or-lt_of_le}
+use Rattle.std.proofs.lemmas.Grind.{flat_map-append}
+use Rattle.std.proofs.lemmas.List.FromFn.{map-range_with_len_more, length-map-range_with_len, get_or-map-range_with_len}
+use Rattle.std.proofs.lemmas.List.{take-append-le, take_all, drop-append-le, length-take}
+use Rattle.std.proofs.Math.Seq.{drop-append-add, take-add}
+use Rattle.stream_pieces.specs.Pieces.{first_pieces, pieces_of, pieces_before_last, whole_pieces_of}
 
 pub more : (m n : ℕ) (b : List ℕ) → m + 1 ≡ n → first_pieces n b ≡ first_pieces m b ++ slice_chunk b 1316 m ∷ []
 more m n b e = ap (λ i. first_pieces i b) (sym e) ∙ map-range_with_len_more (slice_chunk b 1316) 0 m m (omega arith)
@@ -87,3 +91,46 @@ before_last m a b size some few =
     let all : (length (a ++ b) + 1315) / 1316 - 1 ≡ m = omega (arith, length-append a b) in
     let front : (length a + 1315) / 1316 ≡ m = omega arith in
     ap (λ i. first_pieces i (a ++ b)) all ∙ front_pieces m a b (omega arith) ∙ ap (λ i. first_pieces i a) (sym front)
+
+-- ---- all pieces
+
+joined : (n : ℕ) (b : List ℕ) → flat_map (λ piece. piece) (first_pieces n b) ≡ take (n * 1316) b
+joined zero b = refl
+joined (suc n) b =
+    let on : n * 1316 + 1316 ≡ suc n * 1316 = omega arith in
+    ap (flat_map (λ piece. piece)) (more n (suc n) b (omega arith))
+    ∙ flat_map-append (λ piece. piece) (first_pieces n b) (slice_chunk b 1316 n ∷ [])
+    ∙ ap (λ l. flat_map (λ piece. piece) (first_pieces n b) ++ l) (append-nil (slice_chunk b 1316 n))
+    ∙ ap (λ l. l ++ slice_chunk b 1316 n) (joined n b)
+    ∙ sym (take-add (n * 1316) 1316 b) ∙ ap (λ i. take i b) on
+
+pub pieces_joined : (b : List ℕ) → flat_map (λ piece. piece) (pieces_of b) ≡ b
+unfolding pieces_of
+pieces_joined b = joined ((length b + 1315) / 1316) b ∙ take_all ((length b + 1315) / 1316 * 1316) b (omega arith)
+
+pub length-pieces_of : (b : List ℕ) → length (pieces_of b) ≡ (length b + 1315) / 1316
+unfolding pieces_of
+length-pieces_of b = length-map-range_with_len (slice_chunk b 1316) 0 ((length b + 1315) / 1316)
+
+piece_at : (b : List ℕ) (k : ℕ) (d : List ℕ) → k < length (pieces_of b) → get_or (pieces_of b) k d ≡ slice_chunk b 1316 k
+unfolding pieces_of
+piece_at b k d inside = get_or-map-range_with_len (slice_chunk b 1316) 0 ((length b + 1315) / 1316) k k d (omega (arith, length-pieces_of b)) (omega arith)
+
+pub piece_sized : (b : List ℕ) (k : ℕ) (d : List ℕ) → k < length (pieces_of b) → (1 ≤ length (get_or (pieces_of b) k d)) × (length (get_or (pieces_of b) k d) ≤ 1316)
+piece_sized b k d inside =
+    let at = ap length (piece_at b k d inside) in
+    let part = length-take 1316 (drop (k * 1316) b) in
+    let rest = length-drop (k * 1316) b in
+    let count = length-pieces_of b in
+    (omega (arith, at, part, rest, count), omega (arith, at, part))
+
+next_of : (piece : List ℕ) (x : ℕ) (xs : List ℕ) → 0 < length piece → length piece ≤ 1316 → (length piece < 1316 → x ∷ xs ≡ []) → (length piece ≡ 1316) ⊎ (length piece < 1316)
+    → pieces_of (piece ++ x ∷ xs) ≡ piece ∷ pieces_of (x ∷ xs)
+next_of piece x xs some few last (inl whole) =
+    pieces_behind 1 piece (x ∷ xs) (omega (arith, whole)) ∙ ap (λ ps. ps ++ pieces_of (x ∷ xs)) (one_piece piece some few)
+next_of piece x xs some few last (inr short) = let none = last short in cc
+
+-- a piece at the front is the first: a whole one, or all that there is
+pub next_piece : (piece rest : List ℕ) → 0 < length piece → length piece ≤ 1316 → (length piece < 1316 → rest ≡ []) → pieces_of (piece ++ rest) ≡ piece ∷ pieces_of rest
+next_piece piece [] some few last = ap pieces_of (append-nil piece) ∙ one_piece piece some few ∙ ap (λ ps. piece ∷ ps) (sym (no_piece [] refl))
+next_piece piece (x ∷ xs) some few last = next_of piece x xs some few last (eq-or-lt_of_le few)

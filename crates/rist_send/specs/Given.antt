@@ -1,0 +1,38 @@
+-- What a run gave its sender of the octets that its source had: the first of their pieces, in order, each once.
+use Rattle.std.specs.Prelude.{◌≡◌, ◌⊎◌, ◌+◌, ◌^◌, ◌<◌, ◌≤◌, ℕ, List, [], ◌∷◌, ◌++◌, length, flat_map, Option, Some, Result, Ok, Err}
+use Rattle.stream_pieces.specs.Pieces.{pieces_of}
+use Rattle.rist_send.specs.declared.fault.SendFault.{SendFault}
+use Rattle.rist_send.specs.declared.fault.SendFault.TheVariants.{ReadFault, LinksDown, Spent, TooLong, TurnsSpent}
+
+-- pieces, one after another
+abbrev pub joined : List (List ℕ) → List ℕ
+joined pieces = flat_map (λ piece. piece) pieces
+
+-- Which octets were read and not given, behind so many that were: where a read failed or the source was too long, those of
+-- a piece that wasn't read whole; where no pair or no number was left for a piece, that piece; and else none.
+abbrev pub Drops : SendFault → ℕ → List ℕ → List ℕ → Type 0
+Drops ReadFault given dropped rest = (length dropped < 1316) × (given + length dropped ≤ 2 ^ 40)
+Drops LinksDown given dropped rest = dropped ≡ []
+Drops Spent given dropped rest = (dropped ≡ []) ⊎ (pieces_of (dropped ++ rest) ≡ dropped ∷ pieces_of rest)
+Drops TooLong given dropped rest = (length dropped < 1316) × (2 ^ 40 < given + length dropped)
+Drops TurnsSpent given dropped rest = dropped ≡ []
+
+-- A run that failed gave the first pieces: behind them are the octets that it dropped, and the rest, which the source has left.
+pub record GivesFirst (fault : SendFault) (octets : List ℕ) (left : Option (List ℕ)) (given : List (List ℕ)) : Type 0 where
+  pub dropped : List ℕ
+  pub rest : List ℕ
+  pub told : left ≡ Some rest
+  pub whole : octets ≡ joined given ++ (dropped ++ rest)
+  pub first : pieces_of octets ≡ given ++ pieces_of (dropped ++ rest)
+  pub drops : Drops fault (length (joined given)) dropped rest
+
+-- one that came to the end gave them all
+pub record GivesAll (octets : List ℕ) (left : Option (List ℕ)) (given : List (List ℕ)) : Type 0 where
+  pub ended : left ≡ Some []
+  pub within : length octets ≤ 2 ^ 40
+  pub all : given ≡ pieces_of octets
+
+-- by the answer of a run
+abbrev pub Gives : Result Unit SendFault → List ℕ → Option (List ℕ) → List (List ℕ) → Type 0
+Gives (Ok done) octets left given = GivesAll octets left given
+Gives (Err fault) octets left given = GivesFirst fault octets left given
