@@ -3,13 +3,18 @@ use Rattle.std.specs.Prelude.{◌≡◌, ◌≤◌, ◌<◌, ℕ, List, [], ◌+
 use Rattle.std.specs.Option.{option_map}
 use Rattle.std.specs.List.{list_any}
 use Rattle.outside_io.specs.Causes.{Rose}
-use Rattle.outside_net.specs.Links.{Answer}
+use Rattle.outside_io.specs.declared.channel.Channel.{Channel}
+use Rattle.outside_net.specs.Links.{Answer, Datagram}
 use Rattle.rist_wire.specs.declared.session.Session.{Session}
 use Rattle.rist_sender.specs.Links.{Line, Tried, datagrams_taken, is_failed}
 use Rattle.rist_sender.specs.History.{Event, tried_as, tried_on}
 use Rattle.rist_sender.specs.Calls.{Work}
 use Rattle.rist_sender.specs.Sender.{SenderState, IsSenderAfter}
 use Rattle.rist_send.specs.Run.{Run, no_progress}
+
+-- what links tell, and their counts
+abbrev pub line_of : {L : Type 0} → (L → Option (List Datagram)) → (L → Channel → Bool) → (L → ℕ) → (L → Option (ℕ → Answer)) → (L → ℕ) → Line L
+line_of taken knows faults reads ends = record { taken = taken; knows = knows; faults = faults; reads = reads; ends = ends }
 
 -- the count of faults of a link rose where a write on it failed; else it may have risen by a read that failed
 abbrev pub RisesWith : Bool → ℕ → ℕ → Type 0

@@ -7,6 +7,7 @@ ghost use Rattle.rist_sender.specs.Sender.{StaysSet};
 ghost use Rattle.rist_send.specs.Run.{Run, setup_of};
 ghost use Rattle.rist_send.specs.Turns.{BringsPiece, BringsNext, stage_after};
 ghost use Rattle.rist_send.specs.Sending.{read_fault};
+ghost use Rattle.rist_send.specs.Served.{line_of};
 ghost use Rattle.rist_send.specs.Inside.Moves.{IsAt, Moves, IsPlace, with_source};
 ghost use Rattle.rist_send.specs.declared.settings.SendSettings.{SendSettings as Settings};
 ghost use Rattle.rist_send.specs.declared.progress.Stage.TheVariants as Stage;
@@ -46,7 +47,7 @@ fn bring_piece<S: Source, L: Link>(
     requires few { length links.old ≤ MAX_LINKS }
     ensures work { (settings : Settings) (from : Run)
         → IsAt sender.old progress.old (with_source from (S.remaining source.old) (map L.reads links.old)) from
-        → Moves (record { taken = L.taken; knows = L.knows; faults = L.faults; reads = L.reads; ends = L.ends })
+        → Moves (line_of L.taken L.knows L.faults L.reads L.ends)
         sender.old sender.new progress.new (with_source from (S.remaining source.new) (map L.reads links.new))
         links.old links.new from
         (BringsPiece (setup_of settings sender.old (length links.old)) k result from) }
@@ -86,7 +87,7 @@ fn bring_due<S: Source, L: Link>(
     requires few { length links.old ≤ MAX_LINKS }
     ensures work { (from : Run)
         → IsAt sender.old progress.old (with_source from (S.remaining source.old) (map L.reads links.old)) from
-        → Moves (record { taken = L.taken; knows = L.knows; faults = L.faults; reads = L.reads; ends = L.ends })
+        → Moves (line_of L.taken L.knows L.faults L.reads L.ends)
         sender.old sender.new progress.new (with_source from (S.remaining source.new) (map L.reads links.new))
         links.old links.new from
         (BringsNext (setup_of settings.now sender.old (length links.old)) (Stage.Reading k) result from) }
@@ -116,7 +117,7 @@ pub(crate) fn bring_next<S: Source, L: Link>(
     requires few { length links.old ≤ MAX_LINKS }
     ensures work { (from : Run)
         → IsAt sender.old progress.old (with_source from (S.remaining source.old) (map L.reads links.old)) from
-        → Moves (record { taken = L.taken; knows = L.knows; faults = L.faults; reads = L.reads; ends = L.ends })
+        → Moves (line_of L.taken L.knows L.faults L.reads L.ends)
         sender.old sender.new progress.new (with_source from (S.remaining source.new) (map L.reads links.new))
         links.old links.new from
         (BringsNext (setup_of settings.now sender.old (length links.old)) from.progress.stage result from) }

@@ -9,6 +9,7 @@ ghost use Rattle.rist_sender.specs.Sender.{IsSenderAfter, StaysSet};
 ghost use Rattle.rist_send.specs.Run.{Run, setup_of};
 ghost use Rattle.rist_send.specs.Turns.{AnswersTo, AnswersIf, ReadsOn, ReadsLink, ReadsInTurn, compound_in, is_read};
 ghost use Rattle.rist_send.specs.Sending.{read_fault};
+ghost use Rattle.rist_send.specs.Served.{line_of};
 ghost use Rattle.rist_send.specs.Inside.Moves.{IsAt, Moves, ReadsAt, with_links};
 ghost use Rattle.rist_send.specs.declared.settings.SendSettings.{SendSettings as Settings};
 
@@ -25,7 +26,7 @@ use rtcp_compound::Compound;
 fn read_at<L: Link>(links: &mut [L], link: u8, block: &mut [u8; 2048]) -> Got
     requires among { link < length links.old }
     ensures within { IsWithin result }
-    ensures reads { ReadsAt (record { taken = L.taken; knows = L.knows; faults = L.faults; reads = L.reads; ends = L.ends })
+    ensures reads { ReadsAt (line_of L.taken L.knows L.faults L.reads L.ends)
         link (answer_of result block.new) links.old links.new }
 {
     links[usize::from(link)].read(block)
@@ -44,7 +45,7 @@ fn feed<L: Link>(
     requires few { length links.old ≤ MAX_LINKS }
     ensures work { (settings : Settings) (from : Run)
         → IsAt sender.old progress.now (with_links from (map L.reads links.old)) from
-        → Moves (record { taken = L.taken; knows = L.knows; faults = L.faults; reads = L.reads; ends = L.ends })
+        → Moves (line_of L.taken L.knows L.faults L.reads L.ends)
         sender.old sender.new progress.now (with_links from (map L.reads links.new)) links.old links.new from
         (AnswersTo (setup_of settings sender.old (length links.old)) link compound.now result from) }
     ensures set { StaysSet sender.old sender.new }
@@ -72,7 +73,7 @@ fn answer<L: Link>(
     requires session { opener.old ≡ sender.old.session }
     ensures work { (settings : Settings) (from : Run)
         → IsAt sender.old progress.now (with_links from (map L.reads links.old)) from
-        → Moves (record { taken = L.taken; knows = L.knows; faults = L.faults; reads = L.reads; ends = L.ends })
+        → Moves (line_of L.taken L.knows L.faults L.reads L.ends)
         sender.old sender.new progress.now (with_links from (map L.reads links.new)) links.old links.new from
         (AnswersIf (setup_of settings sender.old (length links.old)) link
         (compound_in sender.old.session (Gave (record { channel = channel; octets = octets.old }))) result from) }
@@ -111,7 +112,7 @@ fn read_on<L: Link>(
     requires session { opener.old ≡ sender.old.session }
     ensures work { (settings : Settings) (from : Run)
         → IsAt sender.old progress.old (with_links from (map L.reads links.old)) from
-        → Moves (record { taken = L.taken; knows = L.knows; faults = L.faults; reads = L.reads; ends = L.ends })
+        → Moves (line_of L.taken L.knows L.faults L.reads L.ends)
         sender.old sender.new progress.new (with_links from (map L.reads links.new)) links.old links.new from
         (ReadsOn (setup_of settings sender.old (length links.old)) link result from) }
     ensures set { StaysSet sender.old sender.new }
@@ -151,7 +152,7 @@ fn read_link<L: Link>(
     requires session { opener.old ≡ sender.old.session }
     ensures work { (settings : Settings) (from : Run)
         → IsAt sender.old progress.old (with_links from (map L.reads links.old)) from
-        → Moves (record { taken = L.taken; knows = L.knows; faults = L.faults; reads = L.reads; ends = L.ends })
+        → Moves (line_of L.taken L.knows L.faults L.reads L.ends)
         sender.old sender.new progress.new (with_links from (map L.reads links.new)) links.old links.new from
         (ReadsLink (setup_of settings sender.old (length links.old)) link result from) }
     ensures set { StaysSet sender.old sender.new }
@@ -178,7 +179,7 @@ pub(crate) fn read_links<L: Link>(
     requires session { opener.old ≡ sender.old.session }
     ensures work { (settings : Settings) (from : Run)
         → IsAt sender.old progress.old (with_links from (map L.reads links.old)) from
-        → Moves (record { taken = L.taken; knows = L.knows; faults = L.faults; reads = L.reads; ends = L.ends })
+        → Moves (line_of L.taken L.knows L.faults L.reads L.ends)
         sender.old sender.new progress.new (with_links from (map L.reads links.new)) links.old links.new from
         (ReadsInTurn (setup_of settings sender.old (length links.old))
         (range_with_len 0 (length links.old)) result from) }

@@ -8,7 +8,7 @@ ghost use Rattle.rist_sender.specs.Sender.{IsSenderAfter, StaysSet};
 ghost use Rattle.rist_send.specs.Run.{Run, setup_of};
 ghost use Rattle.rist_send.specs.Turns.{TicksOnce, ReadsAndTicks, Turn};
 ghost use Rattle.rist_send.specs.Sending.{SendsSource, read_fault};
-ghost use Rattle.rist_send.specs.Served.{Runs, new_run};
+ghost use Rattle.rist_send.specs.Served.{Runs, line_of, new_run};
 ghost use Rattle.rist_send.specs.Inside.Moves.{IsAt, Moves, IsPlace, with_links};
 ghost use Rattle.rist_send.specs.declared.settings.SendSettings.{SendSettings as Settings};
 
@@ -28,7 +28,7 @@ fn tick<L: Link>(sender: &mut Sender, links: &mut [L], progress: &Progress) -> R
     requires few { length links.old ≤ MAX_LINKS }
     ensures work { (settings : Settings) (from : Run)
         → IsAt sender.old progress.now (with_links from (map L.reads links.old)) from
-        → Moves (record { taken = L.taken; knows = L.knows; faults = L.faults; reads = L.reads; ends = L.ends })
+        → Moves (line_of L.taken L.knows L.faults L.reads L.ends)
         sender.old sender.new progress.now (with_links from (map L.reads links.new)) links.old links.new from
         (TicksOnce (setup_of settings sender.old (length links.old)) result from) }
     ensures set { StaysSet sender.old sender.new }
@@ -52,7 +52,7 @@ fn read_and_tick<L: Link>(
     requires session { opener.old ≡ sender.old.session }
     ensures work { (settings : Settings) (from : Run)
         → IsAt sender.old progress.old (with_links from (map L.reads links.old)) from
-        → Moves (record { taken = L.taken; knows = L.knows; faults = L.faults; reads = L.reads; ends = L.ends })
+        → Moves (line_of L.taken L.knows L.faults L.reads L.ends)
         sender.old sender.new progress.new (with_links from (map L.reads links.new)) links.old links.new from
         (ReadsAndTicks (setup_of settings sender.old (length links.old)) result from) }
     ensures set { StaysSet sender.old sender.new }
@@ -86,7 +86,7 @@ fn turn<S: Source, L: Link, C: Clock>(
       octets = S.remaining source.old;
       answers = map L.reads links.old;
     }) from
-        → Moves (record { taken = L.taken; knows = L.knows; faults = L.faults; reads = L.reads; ends = L.ends })
+        → Moves (line_of L.taken L.knows L.faults L.reads L.ends)
         sender.old sender.new progress.new (record {
           moments = C.moments clock.new;
           octets = S.remaining source.new;
@@ -125,7 +125,7 @@ pub fn send<S: Source, L: Link, C: Clock>(
     requires few { length links.old ≤ MAX_LINKS }
     requires session { opener.old ≡ sender.old.session }
     ensures work { (from : Work) → IsSenderAfter sender.old from
-        → Runs (record { taken = L.taken; knows = L.knows; faults = L.faults; reads = L.reads; ends = L.ends })
+        → Runs (line_of L.taken L.knows L.faults L.reads L.ends)
         sender.old sender.new (record {
           moments = C.moments clock.new;
           octets = S.remaining source.new;
