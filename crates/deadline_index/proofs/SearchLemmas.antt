@@ -1,13 +1,13 @@
 -- What a search of the level above says of a level.
-use Rattle.std.proofs.Common.{◌≡◌, ℕ, suc, ◌+◌, ◌/◌, ◌<◌, ◌≤◌, List, [], ◌∷◌, length, min, take, ◌||◌, true, false, refl, sym, ap, ◌∙◌, arith, Option, Some, None}
+use Rattle.std.proofs.Common.{◌≡◌, ℕ, suc, ◌+◌, ◌/◌, ◌<◌, ◌≤◌, List, [], ◌∷◌, length, take, ◌||◌, true, false, refl, sym, ap, ◌∙◌, arith, Option, Some, None}
 use Rattle.std.proofs.lemmas.Bool.Decides.{nat_tests}
 use Rattle.std.proofs.lemmas.List.Folds.{list_any_at}
 use Rattle.std.specs.List.{list_any}
 use Rattle.std.specs.Option.{is_some}
 use Rattle.std.proofs.lemmas.List.{length-take, get_or-take}
 use Rattle.std.specs.Prelude.{nat_le, slice_index, IfSome, IfNone}
-use Rattle.deadline_index.specs.Places.{IsFirstBy, IsLastBy, IsNoneFrom, IsNoneBelow}
-use Rattle.deadline_index.specs.Inside.Levels.{IsCover, IsNoneIn, IsLastIn, IsFirstIn}
+use Rattle.deadline_index.specs.Places.{IsFirstBy, IsNoneFrom}
+use Rattle.deadline_index.specs.Inside.Levels.{IsCover, IsNoneIn, IsFirstIn}
 
 -- where no group between two is due, no entry of these groups is
 pub none_of_groups : (at len : ℕ) (xs : List ℕ) (low high tick : ℕ) → IsCover at len xs → IsNoneIn xs (at + len) low high tick → (k : ℕ) → k < len → low ≤ k / 8 → k / 8 < high → tick < slice_index xs (at + k)
@@ -37,26 +37,6 @@ pub none_from_front : (places start tick : ℕ) (xs : List ℕ) → IsNoneIn xs 
 none_from_front places start tick xs none place low there =
     let below : place < places = omega (arith, there, length-take places xs) in
     let late = none place low below in
-    omega (arith, late, at_front places place xs below)
-
-pub last_at_front : (places end tick place : ℕ) (xs : List ℕ) → places ≤ length xs → IsLastIn xs 0 0 (min end places) tick place → IsLastBy (take places xs) end tick place
-last_at_front places end tick place xs room f =
-    let below = f.below in
-    let due = f.due in
-    record {
-      below = omega arith;
-      there = omega (arith, length-take places xs);
-      due = omega (arith, at_front places place xs (omega arith));
-      last = λ behind low high there.
-          let inside : behind < places = omega (arith, there, length-take places xs) in
-          let late = f.last behind low (omega arith) in
-          omega (arith, late, at_front places behind xs inside);
-    }
-
-pub none_below_front : (places end tick : ℕ) (xs : List ℕ) → IsNoneIn xs 0 0 (min end places) tick → IsNoneBelow (take places xs) end tick
-none_below_front places end tick xs none place high there =
-    let below : place < places = omega (arith, there, length-take places xs) in
-    let late = none place (omega arith) (omega arith) in
     omega (arith, late, at_front places place xs below)
 
 -- ---- an answer that may be none

@@ -1,8 +1,8 @@
 ghost use Rattle.std.specs.Prelude.{◌≡◌, ◌<◌, nat_le, length, replicate, slice_set, IfOk, IfSome, IfNone};
 ghost use Rattle.std.specs.List.{list_any};
-ghost use Rattle.deadline_index.specs.Places.{IsFirstBy, IsLastBy, IsNoneFrom, IsNoneBelow};
+ghost use Rattle.deadline_index.specs.Places.{IsFirstBy, IsNoneFrom};
 
-use crate::levels::{first_by, is_none_by, last_by, set_entry};
+use crate::levels::{first_by, is_none_by, set_entry};
 use std::alloc::{AllocError, Global};
 use std::marker::Model;
 
@@ -69,20 +69,5 @@ impl DeadlineIndex {
         ensures none { IfNone result (IsNoneFrom self.now start tick) }
     {
         first_by(&self.all, LEVELS, 0, self.places, start, tick)
-    }
-
-    /// The last place below `end` that is due by the tick.
-    pub fn last_by(&self, end: usize, tick: u64) -> Option<usize>
-        ensures some { IfSome result (λ place. IsLastBy self.now end tick place) }
-        ensures none { IfNone result (IsNoneBelow self.now end tick) }
-    {
-        last_by(
-            &self.all,
-            LEVELS,
-            0,
-            self.places,
-            end.min(self.places),
-            tick,
-        )
     }
 }

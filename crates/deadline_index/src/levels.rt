@@ -1,7 +1,7 @@
 //! Levels of least ticks over the places, one behind another in one list: each entry is the least of eight in the level
 //! before it.
 ghost use Rattle.std.specs.Prelude.{◌≡◌, ◌+◌, ◌*◌, ◌/◌, ◌<◌, ◌≤◌, ℕ, min, length, slice_index, slice_set, IsTrue, IfSome, IfNone};
-ghost use Rattle.deadline_index.specs.Inside.Levels.{group_count, AreLevels, IsNoneIn, IsLastIn, IsFirstIn, IsLeastIn, IsLeastBut};
+ghost use Rattle.deadline_index.specs.Inside.Levels.{group_count, AreLevels, IsNoneIn, IsFirstIn, IsLeastIn, IsLeastBut};
 
 use crate::index::NEVER;
 
@@ -26,22 +26,6 @@ fn group_end(entry: usize, len: usize) -> usize
     } else {
         len
     }
-}
-
-/// The last entry between two that is at most the tick.
-fn last_in(all: &[u64], at: usize, from: usize, end: usize, tick: u64) -> Option<usize>
-    requires within { at + end ≤ length all.now }
-    ensures some { IfSome result (IsLastIn all.now at from end tick) }
-    ensures none { IfNone result (IsNoneIn all.now at from end tick) }
-{
-    let mut rest = end;
-    while from < rest {
-        rest -= 1;
-        if all[at + rest] <= tick {
-            return Some(rest);
-        }
-    }
-    None
 }
 
 /// The first entry between two that is at most the tick.
@@ -72,45 +56,6 @@ fn least_in(all: &[u64], at: usize, from: usize, end: usize) -> u64
         next += 1;
     }
     least
-}
-
-/// The last entry before `end` of a level that is at most the tick.
-pub fn last_by(
-    all: &[u64],
-    levels: usize,
-    at: usize,
-    len: usize,
-    end: usize,
-    tick: u64,
-) -> Option<usize>
-    requires levels { AreLevels levels at len all.now }
-    requires end { end ≤ len }
-    ensures some { IfSome result (IsLastIn all.now at 0 end tick) }
-    ensures none { IfNone result (IsNoneIn all.now at 0 end tick) }
-{
-    let mut rest = end;
-    while 0 < rest {
-        let from = (rest - 1) / GROUP * GROUP;
-        if let Some(entry) = last_in(all, at, from, rest, tick) {
-            return Some(entry);
-        }
-        if levels == 0 {
-            rest = from;
-        } else {
-            match last_by(
-                all,
-                levels - 1,
-                at + len,
-                group_count(len),
-                from / GROUP,
-                tick,
-            ) {
-                Some(group) => rest = GROUP * group + GROUP,
-                None => return None,
-            }
-        }
-    }
-    None
 }
 
 /// The first entry from `start` on of a level that is at most the tick.

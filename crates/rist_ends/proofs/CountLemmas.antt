@@ -1,5 +1,5 @@
 -- The counts of a history with one more step.
-use Rattle.std.proofs.Common.{◌≡◌, ℕ, ◌+◌, List, [], ◌∷◌, Some, None, Option, refl, sym, subst, arith}
+use Rattle.std.proofs.Common.{◌≡◌, ℕ, ◌+◌, List, [], ◌∷◌, Some, None, Option, refl, sym, subst, ◌∙◌, arith}
 use Rattle.receiver_rules.specs.declared.verdict.Verdict.{Verdict}
 use Rattle.receiver_rules.specs.declared.verdict.Verdict.TheVariants as verdicts
 use Rattle.receiver_rules.specs.declared.limits.Limits.{Limits}
@@ -11,7 +11,7 @@ use Rattle.request_rules.specs.Steps as inputs
 use Rattle.rist_ends.specs.declared.counts.Counts.{Counts}
 use Rattle.rist_ends.specs.declared.told.What.{What}
 use Rattle.rist_ends.specs.declared.told.What.TheVariants.{Media, Control, Keepalive, Refused, Tick, End}
-use Rattle.rist_ends.specs.Counts.{AreCountsOf, capped, verdict_count, refused_count, is_of, no_counts, one_more, counts_with}
+use Rattle.rist_ends.specs.Counts.{AreCountsOf, capped, count_of, verdict_count, counted_verdict, refused_count, counted_refusal, one_where_same, no_counts, one_more, one_refused, counts_after, counts_with}
 use Rattle.rist_ends.specs.Told.{input_of}
 use Rattle.rist_ends.specs.Inside.Stepping.{SaysVerdictOn}
 
@@ -21,28 +21,28 @@ one c x e = omega (arith, e)
 same : (c x : ℕ) → c ≡ capped x → c ≡ capped (x + 0)
 same c x e = omega (arith, e)
 
--- the counts are these, with one more of the verdict of this number
-abbrev AreWith : Counts → Limits → List ReceiverStep → Verdict → Type 0
-AreWith c limits h v =
-    (c.kept ≡ capped (verdict_count 0 limits h + is_of 0 v)) ×
-    (c.stranger ≡ capped (verdict_count 1 limits h + is_of 1 v)) ×
-    (c.exhausted ≡ capped (verdict_count 2 limits h + is_of 2 v)) ×
-    (c.late ≡ capped (verdict_count 3 limits h + is_of 3 v)) ×
-    (c.behind ≡ capped (verdict_count 4 limits h + is_of 4 v)) ×
-    (c.early ≡ capped (verdict_count 5 limits h + is_of 5 v)) ×
-    (c.twice ≡ capped (verdict_count 6 limits h + is_of 6 v)) ×
-    (c.span ≡ capped (verdict_count 7 limits h + is_of 7 v)) ×
-    (c.refused ≡ capped (refused_count h))
+-- one more verdict raises its own count
+with_verdict : (v w : Verdict) (c : Counts) (x : ℕ) → count_of v c ≡ capped x → count_of v (one_more w c) ≡ capped (x + one_where_same v w)
+with_verdict verdicts.Kept verdicts.Kept c x e = one c.kept x e
+with_verdict verdicts.Stranger verdicts.Stranger c x e = one c.stranger x e
+with_verdict verdicts.Exhausted verdicts.Exhausted c x e = one c.exhausted x e
+with_verdict verdicts.Late verdicts.Late c x e = one c.late x e
+with_verdict verdicts.Behind verdicts.Behind c x e = one c.behind x e
+with_verdict verdicts.Early verdicts.Early c x e = one c.early x e
+with_verdict verdicts.Twice verdicts.Twice c x e = one c.twice x e
+with_verdict verdicts.Span verdicts.Span c x e = one c.span x e
+with_verdict v w c x e = same (count_of v c) x e
 
-with_verdict : (v : Verdict) (c : Counts) (limits : Limits) (h : List ReceiverStep) → AreCountsOf c limits h → AreWith (one_more v c) limits h v
-with_verdict verdicts.Kept c limits h a = (one c.kept (verdict_count 0 limits h) a.kept, same c.stranger (verdict_count 1 limits h) a.stranger, same c.exhausted (verdict_count 2 limits h) a.exhausted, same c.late (verdict_count 3 limits h) a.late, same c.behind (verdict_count 4 limits h) a.behind, same c.early (verdict_count 5 limits h) a.early, same c.twice (verdict_count 6 limits h) a.twice, same c.span (verdict_count 7 limits h) a.span, a.refused)
-with_verdict verdicts.Stranger c limits h a = (same c.kept (verdict_count 0 limits h) a.kept, one c.stranger (verdict_count 1 limits h) a.stranger, same c.exhausted (verdict_count 2 limits h) a.exhausted, same c.late (verdict_count 3 limits h) a.late, same c.behind (verdict_count 4 limits h) a.behind, same c.early (verdict_count 5 limits h) a.early, same c.twice (verdict_count 6 limits h) a.twice, same c.span (verdict_count 7 limits h) a.span, a.refused)
-with_verdict verdicts.Exhausted c limits h a = (same c.kept (verdict_count 0 limits h) a.kept, same c.stranger (verdict_count 1 limits h) a.stranger, one c.exhausted (verdict_count 2 limits h) a.exhausted, same c.late (verdict_count 3 limits h) a.late, same c.behind (verdict_count 4 limits h) a.behind, same c.early (verdict_count 5 limits h) a.early, same c.twice (verdict_count 6 limits h) a.twice, same c.span (verdict_count 7 limits h) a.span, a.refused)
-with_verdict verdicts.Late c limits h a = (same c.kept (verdict_count 0 limits h) a.kept, same c.stranger (verdict_count 1 limits h) a.stranger, same c.exhausted (verdict_count 2 limits h) a.exhausted, one c.late (verdict_count 3 limits h) a.late, same c.behind (verdict_count 4 limits h) a.behind, same c.early (verdict_count 5 limits h) a.early, same c.twice (verdict_count 6 limits h) a.twice, same c.span (verdict_count 7 limits h) a.span, a.refused)
-with_verdict verdicts.Behind c limits h a = (same c.kept (verdict_count 0 limits h) a.kept, same c.stranger (verdict_count 1 limits h) a.stranger, same c.exhausted (verdict_count 2 limits h) a.exhausted, same c.late (verdict_count 3 limits h) a.late, one c.behind (verdict_count 4 limits h) a.behind, same c.early (verdict_count 5 limits h) a.early, same c.twice (verdict_count 6 limits h) a.twice, same c.span (verdict_count 7 limits h) a.span, a.refused)
-with_verdict verdicts.Early c limits h a = (same c.kept (verdict_count 0 limits h) a.kept, same c.stranger (verdict_count 1 limits h) a.stranger, same c.exhausted (verdict_count 2 limits h) a.exhausted, same c.late (verdict_count 3 limits h) a.late, same c.behind (verdict_count 4 limits h) a.behind, one c.early (verdict_count 5 limits h) a.early, same c.twice (verdict_count 6 limits h) a.twice, same c.span (verdict_count 7 limits h) a.span, a.refused)
-with_verdict verdicts.Twice c limits h a = (same c.kept (verdict_count 0 limits h) a.kept, same c.stranger (verdict_count 1 limits h) a.stranger, same c.exhausted (verdict_count 2 limits h) a.exhausted, same c.late (verdict_count 3 limits h) a.late, same c.behind (verdict_count 4 limits h) a.behind, same c.early (verdict_count 5 limits h) a.early, one c.twice (verdict_count 6 limits h) a.twice, same c.span (verdict_count 7 limits h) a.span, a.refused)
-with_verdict verdicts.Span c limits h a = (same c.kept (verdict_count 0 limits h) a.kept, same c.stranger (verdict_count 1 limits h) a.stranger, same c.exhausted (verdict_count 2 limits h) a.exhausted, same c.late (verdict_count 3 limits h) a.late, same c.behind (verdict_count 4 limits h) a.behind, same c.early (verdict_count 5 limits h) a.early, same c.twice (verdict_count 6 limits h) a.twice, one c.span (verdict_count 7 limits h) a.span, a.refused)
+-- and leaves the refusals as they were
+refused_same : (w : Verdict) (c : Counts) → (one_more w c).refused ≡ c.refused
+refused_same verdicts.Kept c = refl
+refused_same verdicts.Stranger c = refl
+refused_same verdicts.Exhausted c = refl
+refused_same verdicts.Late c = refl
+refused_same verdicts.Behind c = refl
+refused_same verdicts.Early c = refl
+refused_same verdicts.Twice c = refl
+refused_same verdicts.Span c = refl
 
 same_some : {A : Type 0} {x y : A} → Some x ≡ Some y → x ≡ y
 same_some e = cc
@@ -53,23 +53,56 @@ media_step link tick arrival = record { link = link; tick = tick; input = inputs
 media_counted : (v : Option Verdict) (what : What) (c : Counts) (limits : Limits) (h : List ReceiverStep) (link tick : ℕ) (arrival : Arrival) → v ≡ Some (verdict limits (buffer_history h) tick arrival) → AreCountsOf c limits h
     → AreCountsOf (counts_with v what c) limits (media_step link tick arrival ∷ h)
 media_counted v what c limits h link tick arrival e a =
+    let w : Verdict = verdict limits (buffer_history h) tick arrival in
     subst (λ o. AreCountsOf (counts_with o what c) limits (media_step link tick arrival ∷ h)) (sym e)
-    (let w = with_verdict (verdict limits (buffer_history h) tick arrival) c limits h a in
-    record { kept = w.0; stranger = w.1; exhausted = w.2; late = w.3; behind = w.4; early = w.5; twice = w.6; span = w.7; refused = same (one_more (verdict limits (buffer_history h) tick arrival) c).refused (refused_count h) w.8 })
+    (record {
+      each = λ of. with_verdict of w c (verdict_count of limits h) (a.each of);
+      refused = refused_same w c ∙ same c.refused (refused_count h) a.refused;
+    })
 
+-- a step without a verdict leaves the counts of verdicts as they were
 silent_counted : (v : Option Verdict) (what : What) (c : Counts) (limits : Limits) (h : List ReceiverStep) (step : ReceiverStep) → v ≡ None
-    → AreCountsOf (counts_with None what c) limits (step ∷ h) → AreCountsOf (counts_with v what c) limits (step ∷ h)
-silent_counted v what c limits h step e a = subst (λ o. AreCountsOf (counts_with o what c) limits (step ∷ h)) (sym e) a
+    → ((of : Verdict) → counted_verdict of limits h step.tick step.input ≡ 0) → ((of : Verdict) → count_of of (counts_after what c) ≡ count_of of c)
+    → (counts_after what c).refused ≡ capped (refused_count h + counted_refusal step.input) → AreCountsOf c limits h
+    → AreCountsOf (counts_with v what c) limits (step ∷ h)
+silent_counted v what c limits h step e none kept refused a =
+    subst (λ o. AreCountsOf (counts_with o what c) limits (step ∷ h)) (sym e)
+    (record { each = λ of. omega (arith, a.each of, none of, kept of); refused = refused })
+
+one_refused_keeps : (of : Verdict) (c : Counts) → count_of of (one_refused c) ≡ count_of of c
+one_refused_keeps verdicts.Kept c = refl
+one_refused_keeps verdicts.Stranger c = refl
+one_refused_keeps verdicts.Exhausted c = refl
+one_refused_keeps verdicts.Late c = refl
+one_refused_keeps verdicts.Behind c = refl
+one_refused_keeps verdicts.Early c = refl
+one_refused_keeps verdicts.Twice c = refl
+one_refused_keeps verdicts.Span c = refl
 
 -- the counts of what is told, with the verdict that its step says
 pub counted : (v : Option Verdict) (what : What) (c : Counts) (limits : Limits) (h : List ReceiverStep) (link tick us : ℕ) → SaysVerdictOn v limits (buffer_history h) tick (input_of us what) → AreCountsOf c limits h
     → AreCountsOf (counts_with v what c) limits (record { link = link; tick = tick; input = input_of us what } ∷ h)
 counted v (Media arrival) c limits h link tick us e a = media_counted v (Media arrival) c limits h link tick (seen arrival) e a
-counted v (Control compound) c limits h link tick us e a = silent_counted v (Control compound) c limits h (record { link = link; tick = tick; input = control_input us compound.now }) e (record { kept = same c.kept (verdict_count 0 limits h) a.kept; stranger = same c.stranger (verdict_count 1 limits h) a.stranger; exhausted = same c.exhausted (verdict_count 2 limits h) a.exhausted; late = same c.late (verdict_count 3 limits h) a.late; behind = same c.behind (verdict_count 4 limits h) a.behind; early = same c.early (verdict_count 5 limits h) a.early; twice = same c.twice (verdict_count 6 limits h) a.twice; span = same c.span (verdict_count 7 limits h) a.span; refused = same c.refused (refused_count h) a.refused })
-counted v Keepalive c limits h link tick us e a = silent_counted v Keepalive c limits h (record { link = link; tick = tick; input = inputs.Keepalive }) e (record { kept = same c.kept (verdict_count 0 limits h) a.kept; stranger = same c.stranger (verdict_count 1 limits h) a.stranger; exhausted = same c.exhausted (verdict_count 2 limits h) a.exhausted; late = same c.late (verdict_count 3 limits h) a.late; behind = same c.behind (verdict_count 4 limits h) a.behind; early = same c.early (verdict_count 5 limits h) a.early; twice = same c.twice (verdict_count 6 limits h) a.twice; span = same c.span (verdict_count 7 limits h) a.span; refused = same c.refused (refused_count h) a.refused })
-counted v Tick c limits h link tick us e a = silent_counted v Tick c limits h (record { link = link; tick = tick; input = inputs.Tick us }) e (record { kept = same c.kept (verdict_count 0 limits h) a.kept; stranger = same c.stranger (verdict_count 1 limits h) a.stranger; exhausted = same c.exhausted (verdict_count 2 limits h) a.exhausted; late = same c.late (verdict_count 3 limits h) a.late; behind = same c.behind (verdict_count 4 limits h) a.behind; early = same c.early (verdict_count 5 limits h) a.early; twice = same c.twice (verdict_count 6 limits h) a.twice; span = same c.span (verdict_count 7 limits h) a.span; refused = same c.refused (refused_count h) a.refused })
-counted v End c limits h link tick us e a = silent_counted v End c limits h (record { link = link; tick = tick; input = inputs.End }) e (record { kept = same c.kept (verdict_count 0 limits h) a.kept; stranger = same c.stranger (verdict_count 1 limits h) a.stranger; exhausted = same c.exhausted (verdict_count 2 limits h) a.exhausted; late = same c.late (verdict_count 3 limits h) a.late; behind = same c.behind (verdict_count 4 limits h) a.behind; early = same c.early (verdict_count 5 limits h) a.early; twice = same c.twice (verdict_count 6 limits h) a.twice; span = same c.span (verdict_count 7 limits h) a.span; refused = same c.refused (refused_count h) a.refused })
-counted v Refused c limits h link tick us e a = silent_counted v Refused c limits h (record { link = link; tick = tick; input = inputs.Refused }) e (record { kept = same c.kept (verdict_count 0 limits h) a.kept; stranger = same c.stranger (verdict_count 1 limits h) a.stranger; exhausted = same c.exhausted (verdict_count 2 limits h) a.exhausted; late = same c.late (verdict_count 3 limits h) a.late; behind = same c.behind (verdict_count 4 limits h) a.behind; early = same c.early (verdict_count 5 limits h) a.early; twice = same c.twice (verdict_count 6 limits h) a.twice; span = same c.span (verdict_count 7 limits h) a.span; refused = one c.refused (refused_count h) a.refused })
+counted v (Control compound) c limits h link tick us e a =
+    silent_counted v (Control compound) c limits h (record { link = link; tick = tick; input = control_input us compound.now }) e (λ of. refl) (λ of. refl) (same c.refused (refused_count h) a.refused) a
+counted v Keepalive c limits h link tick us e a =
+    silent_counted v Keepalive c limits h (record { link = link; tick = tick; input = inputs.Keepalive }) e (λ of. refl) (λ of. refl) (same c.refused (refused_count h) a.refused) a
+counted v Tick c limits h link tick us e a =
+    silent_counted v Tick c limits h (record { link = link; tick = tick; input = inputs.Tick us }) e (λ of. refl) (λ of. refl) (same c.refused (refused_count h) a.refused) a
+counted v End c limits h link tick us e a =
+    silent_counted v End c limits h (record { link = link; tick = tick; input = inputs.End }) e (λ of. refl) (λ of. refl) (same c.refused (refused_count h) a.refused) a
+counted v Refused c limits h link tick us e a =
+    silent_counted v Refused c limits h (record { link = link; tick = tick; input = inputs.Refused }) e (λ of. refl) (λ of. one_refused_keeps of c) (one c.refused (refused_count h) a.refused) a
+
+none_at : (v : Verdict) → count_of v no_counts ≡ 0
+none_at verdicts.Kept = refl
+none_at verdicts.Stranger = refl
+none_at verdicts.Exhausted = refl
+none_at verdicts.Late = refl
+none_at verdicts.Behind = refl
+none_at verdicts.Early = refl
+none_at verdicts.Twice = refl
+none_at verdicts.Span = refl
 
 pub none_counted : (limits : Limits) → AreCountsOf no_counts limits []
-none_counted limits = record { kept = refl; stranger = refl; exhausted = refl; late = refl; behind = refl; early = refl; twice = refl; span = refl; refused = refl }
+none_counted limits = record { each = λ v. none_at v; refused = refl }

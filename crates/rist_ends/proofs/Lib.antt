@@ -1,3 +1,4 @@
 pub mod CountLemmas
 pub mod SteppingLemmas
 pub mod ReportLemmas
+mod StepLemmas

@@ -98,10 +98,10 @@ pub quiet_counts : (us link tick : ℕ) (what : What) (result : Result (Option O
     → AreCountsOf c limits (step_answered (record { link = link; tick = tick; input = input_of us what }) result ∷ h)
 quiet_counts us link tick what (Ok made) c limits h quiet a = a
 quiet_counts us link tick (Media arrival) (Err spent) c limits h quiet a = absurd (quiet refl)
-quiet_counts us link tick (Control compound) (Err spent) c limits h quiet a = record { kept = a.kept; stranger = a.stranger; exhausted = a.exhausted; late = a.late; behind = a.behind; early = a.early; twice = a.twice; span = a.span; refused = a.refused }
+quiet_counts us link tick (Control compound) (Err spent) c limits h quiet a = record { each = a.each; refused = a.refused }
 quiet_counts us link tick Keepalive (Err spent) c limits h quiet a = absurd (quiet refl)
 quiet_counts us link tick Refused (Err spent) c limits h quiet a = absurd (quiet refl)
-quiet_counts us link tick Tick (Err spent) c limits h quiet a = record { kept = a.kept; stranger = a.stranger; exhausted = a.exhausted; late = a.late; behind = a.behind; early = a.early; twice = a.twice; span = a.span; refused = a.refused }
+quiet_counts us link tick Tick (Err spent) c limits h quiet a = record { each = a.each; refused = a.refused }
 quiet_counts us link tick End (Err spent) c limits h quiet a = absurd (quiet refl)
 
 -- ---- numbers

@@ -1,5 +1,5 @@
 -- How many arrivals of a history had each verdict.
-use Rattle.std.specs.Prelude.{◌≡◌, ℕ, ◌+◌, ◌-◌, ◌^◌, min, List, [], ◌∷◌, ◌==◌, if◌then◌else◌, Option, None, Some}
+use Rattle.std.specs.Prelude.{◌≡◌, ℕ, ◌+◌, ◌-◌, ◌^◌, min, List, [], ◌∷◌, Option, None, Some}
 use Rattle.receiver_rules.specs.declared.verdict.Verdict.{Verdict}
 use Rattle.receiver_rules.specs.declared.verdict.Verdict.TheVariants as verdicts
 use Rattle.receiver_rules.specs.declared.limits.Limits.{Limits}
@@ -9,34 +9,32 @@ use Rattle.rist_ends.specs.declared.counts.Counts.{Counts}
 use Rattle.rist_ends.specs.declared.told.What.{What}
 use Rattle.rist_ends.specs.declared.told.What.TheVariants as whats
 
--- the number of a verdict: 0 for a packet that is kept, else the place of its test
-abbrev pub verdict_number : Verdict → ℕ
-verdict_number verdicts.Kept = 0
-verdict_number verdicts.Stranger = 1
-verdict_number verdicts.Exhausted = 2
-verdict_number verdicts.Late = 3
-verdict_number verdicts.Behind = 4
-verdict_number verdicts.Early = 5
-verdict_number verdicts.Twice = 6
-verdict_number verdicts.Span = 7
-
--- one where a verdict has this number
-abbrev pub is_of : ℕ → Verdict → ℕ
-is_of number v = if verdict_number v == number then 1 else 0
+-- one where two verdicts are the same
+abbrev pub one_where_same : Verdict → Verdict → ℕ
+one_where_same verdicts.Kept verdicts.Kept = 1
+one_where_same verdicts.Stranger verdicts.Stranger = 1
+one_where_same verdicts.Exhausted verdicts.Exhausted = 1
+one_where_same verdicts.Late verdicts.Late = 1
+one_where_same verdicts.Behind verdicts.Behind = 1
+one_where_same verdicts.Early verdicts.Early = 1
+one_where_same verdicts.Twice verdicts.Twice = 1
+one_where_same verdicts.Span verdicts.Span = 1
+one_where_same _ _ = 0
 
 -- one where a step brings a media packet with this verdict
-abbrev pub counted_verdict : ℕ → Limits → List Step → ℕ → Input → ℕ
-counted_verdict number limits before tick (Media arrival) = is_of number (verdict limits (buffer_history before) tick arrival)
-counted_verdict number limits before tick (Control sample request) = 0
-counted_verdict number limits before tick Keepalive = 0
-counted_verdict number limits before tick Refused = 0
-counted_verdict number limits before tick (Tick micros) = 0
-counted_verdict number limits before tick End = 0
+abbrev pub counted_verdict : Verdict → Limits → List Step → ℕ → Input → ℕ
+counted_verdict v limits before tick (Media arrival) = one_where_same v (verdict limits (buffer_history before) tick arrival)
+counted_verdict v limits before tick (Control sample request) = 0
+counted_verdict v limits before tick Keepalive = 0
+counted_verdict v limits before tick Refused = 0
+counted_verdict v limits before tick (Tick micros) = 0
+counted_verdict v limits before tick End = 0
 
--- how many media packets of a history had the verdict of this number
-abbrev pub verdict_count : ℕ → Limits → List Step → ℕ
-verdict_count number limits [] = 0
-verdict_count number limits (step ∷ before) = verdict_count number limits before + counted_verdict number limits before step.tick step.input
+-- how many media packets of a history had this verdict
+abbrev pub verdict_count : Verdict → Limits → List Step → ℕ
+verdict_count v limits [] = 0
+verdict_count v limits (step ∷ before) =
+    verdict_count v limits before + counted_verdict v limits before step.tick step.input
 
 -- one where a step is of an item that was refused
 abbrev pub counted_refusal : Input → ℕ
@@ -56,16 +54,20 @@ refused_count (step ∷ before) = refused_count before + counted_refusal step.in
 abbrev pub capped : ℕ → ℕ
 capped n = min n (2 ^ 64 - 1)
 
+-- how many had a verdict, as the counts tell
+abbrev pub count_of : Verdict → Counts → ℕ
+count_of verdicts.Kept c = c.kept
+count_of verdicts.Stranger c = c.stranger
+count_of verdicts.Exhausted c = c.exhausted
+count_of verdicts.Late c = c.late
+count_of verdicts.Behind c = c.behind
+count_of verdicts.Early c = c.early
+count_of verdicts.Twice c = c.twice
+count_of verdicts.Span c = c.span
+
 -- the counts are those of a history
 pub record AreCountsOf (c : Counts) (limits : Limits) (history : List Step) : Type 0 where
-  pub kept : c.kept ≡ capped (verdict_count 0 limits history)
-  pub stranger : c.stranger ≡ capped (verdict_count 1 limits history)
-  pub exhausted : c.exhausted ≡ capped (verdict_count 2 limits history)
-  pub late : c.late ≡ capped (verdict_count 3 limits history)
-  pub behind : c.behind ≡ capped (verdict_count 4 limits history)
-  pub early : c.early ≡ capped (verdict_count 5 limits history)
-  pub twice : c.twice ≡ capped (verdict_count 6 limits history)
-  pub span : c.span ≡ capped (verdict_count 7 limits history)
+  pub each : (v : Verdict) → count_of v c ≡ capped (verdict_count v limits history)
   pub refused : c.refused ≡ capped (refused_count history)
 
 -- ---- one more

@@ -8,6 +8,17 @@ use Rattle.request_rules.specs.Steps.{Input, Media, Control, Keepalive, Refused,
 use Rattle.rist_reporter.specs.declared.out.Outs.{Outs}
 use Rattle.rist_ends.specs.declared.outcome.Outcome.{Outcome}
 use Rattle.rist_ends.specs.declared.outcome.Outcome.TheVariants as outcomes
+use Rattle.rist_ends.specs.declared.outcome.Answer.{Answer}
+use Rattle.rist_ends.specs.declared.outcome.Answer.TheVariants as answers
+
+-- the outcome of an answer, where the datagrams that it made are these
+abbrev pub outcome_with : Answer → Outs → Outcome
+outcome_with answers.Stopped outs = outcomes.Stopped
+outcome_with answers.WriteFault outs = outcomes.WriteFault
+outcome_with (answers.Verdict v) outs = outcomes.Verdict v
+outcome_with answers.Spent outs = outcomes.Spent
+outcome_with answers.Made outs = outcomes.Made outs
+outcome_with answers.Nothing outs = outcomes.Nothing
 
 -- P holds where the step was made
 abbrev pub IfStepped : Outcome → Type 0 → Type 0

@@ -8,13 +8,14 @@ use Rattle.reorder_buffer.specs.declared.phase.Phase.TheVariants.{Open, Failed}
 use Rattle.request_rules.specs.Steps.{Step, buffer_history}
 use Rattle.rist_control.specs.Control.{ControlSettings}
 use Rattle.rist_reporter.specs.Reporter.{ReporterState, IsReporterAfter, settings_with}
-use Rattle.rist_reporter.specs.OneMore.{AnswersAfter, step_answered}
+use Rattle.rist_reporter.specs.OneMore.{AnswersAfter, TakesPairs, answer_count, step_answered}
 use Rattle.rist_ends.specs.declared.counts.Counts.{Counts}
 use Rattle.rist_ends.specs.declared.outcome.Outcome.{Outcome}
 use Rattle.rist_ends.specs.declared.told.Told.{Told}
 use Rattle.rist_ends.specs.Counts.{AreCountsOf}
-use Rattle.rist_ends.specs.Outcome.{HasVerdict, verdict_in, result_of}
-use Rattle.rist_ends.specs.Told.{step_of}
+use Rattle.rist_ends.specs.declared.outcome.Outcome.TheVariants.{Stopped, WriteFault}
+use Rattle.rist_ends.specs.Outcome.{IfStepped, HasVerdict, verdict_in, result_of}
+use Rattle.rist_ends.specs.Told.{step_of, ended_at}
 
 -- its buffer, how many arrivals had each verdict, and what sends datagrams back
 pub record ReceiverState : Type 0 where
@@ -78,3 +79,23 @@ PlaysPart r step old new =
 pub record HasFailed (b : State) : Type 0 where
   pub phase : b.phase ≡ Failed
   pub dropped : b.held ≡ []
+
+-- what a step comes to: the receiver, and what its sink told that it holds, before the step and after it
+pub record Steps (old new : ReceiverState) (told : Told) (outcome : Outcome) (before after : Option (List ℕ)) : Type 0 where
+  -- Stopped exactly where it has ended
+  pub stopped : outcome ≡ Stopped → old.buffer.phase ≢ Open
+  pub ended : old.buffer.phase ≢ Open → outcome ≡ Stopped
+  -- a media packet has the verdict of the history, and nothing else has one
+  pub verdict : IfStepped outcome (AnswersStep old (step_of told) outcome)
+  -- the datagrams that the history makes were made; Spent exactly where fewer pairs are left than they take
+  pub made : IfStepped outcome (MakesStep old (step_of told) outcome)
+  pub pairs : TakesPairs (answer_count (result_of outcome)) old.reporter.shutter new.reporter.shutter
+  -- a step that was made is one more of the history, and the sink has gained what it releases
+  pub state : IfStepped outcome (GoesOn old new (step_made told outcome))
+  pub sink : IfStepped outcome (Plays old (step_of told) before after)
+  pub phase : IfStepped outcome (new.buffer.phase ≡ ended_at told)
+  pub settings : settings_of new ≡ settings_of old
+  -- after a failed write it has ended, the step isn't counted, and the sink has gained a front part
+  pub failed : outcome ≡ WriteFault → HasFailed new.buffer
+  pub counts : outcome ≡ WriteFault → new.counts ≡ old.counts
+  pub part : outcome ≡ WriteFault → PlaysPart old (step_of told) before after

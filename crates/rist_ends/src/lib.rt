@@ -13,7 +13,7 @@ mod tests;
 mod told;
 
 pub use counts::Counts;
-pub use outcome::Outcome;
+pub use outcome::{Answer, Outcome};
 pub use receiver::Receiver;
 pub use rist_reporter::{Out, Outs};
 pub use settings::Settings;

@@ -1,5 +1,5 @@
 use crate::counts::Counts;
-use crate::outcome::Outcome;
+use crate::outcome::{Answer, Outcome, outcome_with};
 use crate::reporting::report;
 use crate::settings::Settings;
 use crate::stepping::step_buffer;
@@ -7,13 +7,13 @@ use crate::told::Told;
 use outside_io::{NoMemory, Sink};
 use psk_seal::Sealer;
 use reorder_buffer::Buffer;
-use rist_reporter::Reporter;
+use rist_reporter::{Outs, Reporter};
 use rist_wire::Session;
 use std::alloc::Global;
 use std::marker::Model;
 
-/// The receiving end. `step` brings input, and its outcome is the answer; what is played out goes to the sink. `counts`
-/// tells what came so far. Each step's moment counts as at least that of the steps before it.
+/// The receiving end. `step` brings input, and its outcome is the answer; what is played out goes to the sink. `step_into` does
+/// the same where the caller has memory for the datagrams that are made. `counts` tells what came so far. Each step's moment counts as at least that of the steps before it.
 #[derive(Drop)]
 pub struct Receiver {
     buffer: Buffer,
@@ -33,18 +33,18 @@ impl Model for Receiver {
 }
 
 impl Receiver {
-    ghost use Rattle.std.specs.Prelude.{◌≡◌, ◌≢◌, ◌≤◌, ◌<◌, ◌^◌, [], Some, None, true, false, is_some, IfOk, option_map};
+    ghost use Rattle.std.specs.Prelude.{◌≡◌, ◌≢◌, [], IfOk};
     ghost use Rattle.outside_io.specs.Causes.{RoseWhere};
     ghost use Rattle.reorder_buffer.specs.declared.phase.Phase.TheVariants.{Open};
     ghost use Rattle.rist_wire.specs.Session.{IsSession};
     ghost use Rattle.rist_wire.specs.Writing.{pairs_left};
     ghost use Rattle.rist_reporter.specs.Reporter.{IsPaired};
-    ghost use Rattle.rist_reporter.specs.OneMore.{TakesPairs, answer_count};
     ghost use Rattle.rist_ends.specs.Settings.{IsInRange, control_settings};
-    ghost use Rattle.rist_ends.specs.Receiver.{IsReceiverAfter, HasFailed, AnswersStep, MakesStep, GoesOn, Plays, PlaysPart, settings_of, step_made};
-    ghost use Rattle.rist_ends.specs.Told.{IsFit, step_of, ended_at};
-    ghost use Rattle.rist_ends.specs.Outcome.{IfStepped, verdict_in, result_of, is_write_fault};
-    ghost use Rattle.rist_ends.specs.declared.outcome.Outcome.TheVariants.{Stopped, WriteFault};
+    ghost use Rattle.rist_ends.specs.Receiver.{IsReceiverAfter, Steps, settings_of};
+    ghost use Rattle.rist_ends.specs.Told.{IsFit};
+    ghost use Rattle.rist_ends.specs.Outcome.{outcome_with, is_write_fault};
+    ghost use Rattle.rist_ends.specs.declared.outcome.Outcome.TheVariants as outcomes;
+    ghost use Rattle.rist_ends.specs.declared.outcome.Answer.TheVariants.{Stopped, Made};
 
     /// A receiver that was told nothing yet. It answers in this session; a muted one sends nothing back, and needs no sealer.
     pub fn with(
@@ -82,44 +82,44 @@ impl Receiver {
     /// Makes one step. First what is due at its moment is written; then comes the event itself.
     pub fn step<K: Sink>(&mut self, told: &Told<'_>, sink: &mut K) -> Outcome
         requires fits { IsFit told.now }
-
-        // It answers Stopped exactly where it has ended.
-        ensures stopped { result ≡ Stopped → self.old.buffer.phase ≢ Open }
-        ensures ended { self.old.buffer.phase ≢ Open → result ≡ Stopped }
-
-        // A media packet has the verdict of the history, and nothing else has one.
-        ensures verdict { IfStepped result (AnswersStep self.old (step_of told.now) result) }
-
-        // The datagrams that the history makes were made; Spent exactly where fewer pairs are left than they take.
-        ensures made { IfStepped result (MakesStep self.old (step_of told.now) result) }
-        ensures pairs { TakesPairs (answer_count (result_of result)) self.old.reporter.shutter self.new.reporter.shutter }
-
-        // A step that was made is one more of the history, and the sink has gained what it releases.
-        ensures state { IfStepped result (GoesOn self.old self.new (step_made told.now result)) }
-        ensures sink { IfStepped result
-            (Plays self.old (step_of told.now) (K.contents sink.old) (K.contents sink.new)) }
-        ensures phase { IfStepped result (self.new.buffer.phase ≡ ended_at told.now) }
-        ensures settings { settings_of self.new ≡ settings_of self.old }
-
-        // After a failed write it has ended, the step isn't counted, and the sink has gained a front part.
-        ensures failed { result ≡ WriteFault → HasFailed self.new.buffer }
-        ensures counts { result ≡ WriteFault → self.new.counts ≡ self.old.counts }
-        ensures part { result ≡ WriteFault
-            → PlaysPart self.old (step_of told.now) (K.contents sink.old) (K.contents sink.new) }
+        ensures work { Steps self.old self.new told.now result (K.contents sink.old) (K.contents sink.new) }
         ensures cause { RoseWhere (is_write_fault result) (K.faults sink.old) (K.faults sink.new) }
+        ensures same { result ≡ outcomes.Stopped → (self.new ≡ self.old) × (sink.new ≡ sink.old) }
+    {
+        let mut outs = Outs::none();
+        let answer = self.step_into(told, &mut outs, sink);
+        outcome_with(answer, outs)
+    }
+
+    /// Makes one step, and puts the datagrams that it makes into `outs`, which else stays as it was. A step without
+    /// datagrams has no room for them, so it costs less than one by `step`.
+    pub fn step_into<K: Sink>(&mut self, told: &Told<'_>, outs: &mut Outs, sink: &mut K) -> Answer
+        requires fits { IsFit told.now }
+        ensures work { Steps self.old self.new told.now (outcome_with result outs.new)
+            (K.contents sink.old) (K.contents sink.new) }
+        ensures cause { RoseWhere (is_write_fault (outcome_with result outs.new))
+            (K.faults sink.old) (K.faults sink.new) }
         ensures same { result ≡ Stopped → (self.new ≡ self.old) × (sink.new ≡ sink.old) }
+        ensures outs { result ≢ Made → outs.new ≡ outs.old }
     {
         if self.buffer.ended() {
-            return Outcome::Stopped;
+            return Answer::Stopped;
         }
         let before = self.buffer.high();
         match step_buffer(&mut self.buffer, self.time, told, sink) {
             Ok(stepped) => {
                 self.time = stepped.at;
                 self.counts.count(&told.what, stepped.verdict);
-                report(&mut self.reporter, &self.buffer, told, &stepped, before)
+                report(
+                    &mut self.reporter,
+                    &self.buffer,
+                    told,
+                    &stepped,
+                    before,
+                    outs,
+                )
             }
-            Err(_) => Outcome::WriteFault,
+            Err(_) => Answer::WriteFault,
         }
     }
 

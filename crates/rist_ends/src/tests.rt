@@ -17,35 +17,13 @@ use seq_unwrap::Width;
 use std::alloc::Global;
 use std::test::Fail;
 
-const KEPT: Reply = Reply::Verdict(Verdict::Kept);
+const KEPT: Answer = Answer::Verdict(Verdict::Kept);
 
-const LATE: Reply = Reply::Verdict(Verdict::Late);
+const LATE: Answer = Answer::Verdict(Verdict::Late);
 
-const TWICE: Reply = Reply::Verdict(Verdict::Twice);
+const TWICE: Answer = Answer::Verdict(Verdict::Twice);
 
-const STRANGER: Reply = Reply::Verdict(Verdict::Stranger);
-
-/// An outcome without what was made.
-#[derive(Clone, Copy, PartialEq, Eq)]
-enum Reply {
-    Stopped,
-    WriteFault,
-    Verdict(Verdict),
-    Spent,
-    Made,
-    Nothing,
-}
-
-fn reply_of(outcome: &Outcome) -> Reply {
-    match outcome {
-        Outcome::Stopped => Reply::Stopped,
-        Outcome::WriteFault => Reply::WriteFault,
-        Outcome::Verdict(verdict) => Reply::Verdict(*verdict),
-        Outcome::Spent => Reply::Spent,
-        Outcome::Made(_) => Reply::Made,
-        Outcome::Nothing => Reply::Nothing,
-    }
-}
+const STRANGER: Answer = Answer::Verdict(Verdict::Stranger);
 
 /// The session of RIST's Simple Profile.
 fn simple() -> Session
@@ -65,7 +43,7 @@ fn simple() -> Session
 /// What a receiver answered, counted and wrote.
 #[derive(Drop)]
 struct Played {
-    outcomes: Vec<Reply>,
+    answers: Vec<Answer>,
     counts: Counts,
     sink: Store8,
 }
@@ -75,24 +53,25 @@ fn play(alloc: Global, steps: &[Told<'_>], sink: Store8) -> Result<Played, Fail>
     requires { All IsFit steps.now }
 {
     let mut receiver = Receiver::with(alloc, &Settings::muted(1000, 8), &simple(), None)?;
-    let mut outcomes = Vec::new(alloc);
+    let mut outs = Outs::none();
+    let mut answers = Vec::new(alloc);
     let mut sink = sink;
     for told in steps {
-        outcomes.push(reply_of(&receiver.step(told, &mut sink)))?;
+        answers.push(receiver.step_into(told, &mut outs, &mut sink))?;
     }
     Ok(Played {
-        outcomes,
+        answers,
         counts: receiver.counts(),
         sink,
     })
 }
 
-/// Whether a receiver gives these outcomes, and writes these payloads one after another.
-fn answers(alloc: Global, steps: &[Told<'_>], want: &[Reply], written: &[u8]) -> Result<bool, Fail>
+/// Whether a receiver gives these answers, and writes these payloads one after another.
+fn answers(alloc: Global, steps: &[Told<'_>], want: &[Answer], written: &[u8]) -> Result<bool, Fail>
     requires { All IsFit steps.now }
 {
     let played = play(alloc, steps, Store8::with(alloc, 64, &[])?)?;
-    Ok(played.outcomes.as_slice() == want && played.sink.octets() == written)
+    Ok(played.answers.as_slice() == want && played.sink.octets() == written)
 }
 
 fn media(flow: u32, us: u64, word: u32, payload: &[u8]) -> Told<'_>
@@ -163,7 +142,7 @@ fn a_lost_packet_is_written_once_from_its_retransmissions(rt: HostRuntime) -> Re
     let want = [KEPT, KEPT, TWICE, LATE];
     assert!(rt; answers(alloc, &[first, again, twice], &want[..3], b"")?);
     assert!(rt; answers(alloc, &[first, again, twice, late], &want, b"AB")?);
-    let ended = [KEPT, KEPT, TWICE, LATE, Reply::Nothing];
+    let ended = [KEPT, KEPT, TWICE, LATE, Answer::Nothing];
     assert!(rt; answers(alloc, &[first, again, twice, late, ends()], &ended, b"AB")?);
     Ok(())
 }
@@ -175,8 +154,8 @@ fn a_retransmission_is_kept_up_to_its_deadline(rt: HostRuntime) -> Result<(), Fa
     // Ticks 90,899 and 90,900.
     let in_time = brings(1_009_989, 11, b"B");
     let late = brings(1_010_000, 11, b"B");
-    let kept = [KEPT, KEPT, KEPT, Reply::Nothing];
-    let missed = [KEPT, KEPT, LATE, Reply::Nothing];
+    let kept = [KEPT, KEPT, KEPT, Answer::Nothing];
+    let missed = [KEPT, KEPT, LATE, Answer::Nothing];
     assert!(rt; answers(alloc, &[first, third, in_time], &kept[..3], b"A")?);
     assert!(rt; answers(alloc, &[first, third, in_time, ends()], &kept, b"ABC")?);
     assert!(rt; answers(alloc, &[first, third, late], &missed[..3], b"A")?);
@@ -201,14 +180,14 @@ fn what_came_is_counted_until_the_end(rt: HostRuntime) -> Result<(), Fail> {
     let want = [
         KEPT,
         STRANGER,
-        Reply::Nothing,
+        Answer::Nothing,
         TWICE,
-        Reply::Nothing,
-        Reply::Stopped,
-        Reply::Stopped,
-        Reply::Stopped,
+        Answer::Nothing,
+        Answer::Stopped,
+        Answer::Stopped,
+        Answer::Stopped,
     ];
-    assert!(rt; played.outcomes.as_slice() == want.as_slice());
+    assert!(rt; played.answers.as_slice() == want.as_slice());
     assert_eq!(rt; played.sink.octets(), b"A".as_slice());
     let counts = Counts {
         kept: 1,
@@ -239,11 +218,11 @@ fn a_failed_write_stops_the_receiver(rt: HostRuntime) -> Result<(), Fail> {
     let want = [
         KEPT,
         KEPT,
-        Reply::WriteFault,
-        Reply::Stopped,
-        Reply::Stopped,
+        Answer::WriteFault,
+        Answer::Stopped,
+        Answer::Stopped,
     ];
-    assert!(rt; played.outcomes.as_slice() == want.as_slice());
+    assert!(rt; played.answers.as_slice() == want.as_slice());
     assert_eq!(rt; played.sink.octets(), b"A".as_slice());
     // What came before is counted still, and the step that failed is not.
     let before = play(alloc, &steps[..2], Store8::with(alloc, 64, &[])?)?;
@@ -255,13 +234,13 @@ fn a_failed_write_stops_the_receiver(rt: HostRuntime) -> Result<(), Fail> {
 fn time_alone_plays_out_what_is_due(rt: HostRuntime) -> Result<(), Fail> {
     let alloc = rt.alloc();
     let (first, second) = (brings(0, 10, b"A"), brings(100, 11, b"B"));
-    let want = [KEPT, KEPT, Reply::Nothing];
+    let want = [KEPT, KEPT, Answer::Nothing];
     // Ticks 89,999 and 90,000.
     assert!(rt; answers(alloc, &[first, second, ticks(999_999)], &want, b"")?);
     assert!(rt; answers(alloc, &[first, second, ticks(1_000_000)], &want, b"A")?);
     assert!(rt; answers(alloc, &[first, second, refuses(1_000_000)], &want, b"A")?);
     // A moment that goes back counts as the one before it.
-    let back = [KEPT, Reply::Nothing, LATE];
+    let back = [KEPT, Answer::Nothing, LATE];
     assert!(rt; answers(alloc, &[first, ticks(1_010_000), second], &back, b"A")?);
     Ok(())
 }
@@ -269,7 +248,7 @@ fn time_alone_plays_out_what_is_due(rt: HostRuntime) -> Result<(), Fail> {
 #[test]
 fn keepalives_and_refusals_move_the_time(rt: HostRuntime) -> Result<(), Fail> {
     let alloc = rt.alloc();
-    let want = [KEPT, Reply::Nothing];
+    let want = [KEPT, Answer::Nothing];
     for what in [What::Keepalive, What::Refused] {
         let told = Told {
             link: 15,
@@ -402,55 +381,40 @@ fn keepalives_come_each_second_in_the_main_profile(rt: HostRuntime) -> Result<()
     Ok(())
 }
 
+/// A request for 11 to 14 of a flow, by a range and by a mask.
+const RANGE: &[u8] =
+    b"\x80\xC9\x00\x01\x00\x00\x00\x07\x81\xCA\x00\x03\x00\x00\x00\x07\x01\x04rist\x00\x00\x80\xCC\x00\x03\x10\x20\x30\x40RIST\x00\x0B\x00\x03";
+
+const MASK: &[u8] =
+    b"\x80\xC9\x00\x01\x00\x00\x00\x07\x81\xCA\x00\x03\x00\x00\x00\x07\x01\x04rist\x00\x00\x81\xCD\x00\x03\x00\x00\x00\x07\x10\x20\x30\x40\x00\x0B\x00\x07";
+
+/// Whether the last of some steps, after 10 at tick 0 and 15 at tick 100, makes these octets.
+fn asks(alloc: Global, settings: &Settings, steps: &[Told<'_>], want: &[u8]) -> Result<bool, Fail>
+    requires settings { IsInRange settings.now }
+    requires fits { All IsFit steps.now }
+{
+    let mut all = Vec::new(alloc);
+    all.push(brings(0, 10, b"A"))?;
+    all.push(brings(1_112, 15, b"F"))?;
+    all.extend_from_slice(steps)?;
+    let octets = made(alloc, settings, &simple(), &all)?;
+    Ok(octets.as_slice() == want)
+}
+
 #[test]
 fn what_is_missing_is_asked_for_and_again(rt: HostRuntime) -> Result<(), Fail> {
     let alloc = rt.alloc();
-    // 10 at tick 0 and 15 at tick 100: 11 to 14 are missing. The first tick reports.
-    let (first, sixth) = (brings(0, 10, b"A"), brings(1_112, 15, b"F"));
+    // 11 to 14 are missing from tick 100 on. The first tick reports.
     let report = ticks(1_112);
     // Ticks 2,349, 2,350, 6,849 and 6,850.
     let (early, due) = (ticks(26_100), ticks(26_112));
     let (soon, again) = (ticks(76_100), ticks(76_112));
-    let range = [
-        0x80, 0xC9, 0, 1, 0, 0, 0, 7, 0x81, 0xCA, 0, 3, 0, 0, 0, 7, 1, 4, b'r', b'i', b's', b't',
-        0, 0, 0x80, 0xCC, 0, 3, 0x10, 0x20, 0x30, 0x40, b'R', b'I', b'S', b'T', 0, 11, 0, 3,
-    ];
-    let mask = [
-        0x80, 0xC9, 0, 1, 0, 0, 0, 7, 0x81, 0xCA, 0, 3, 0, 0, 0, 7, 1, 4, b'r', b'i', b's', b't',
-        0, 0, 0x81, 0xCD, 0, 3, 0, 0, 0, 7, 0x10, 0x20, 0x30, 0x40, 0, 11, 0, 7,
-    ];
-    let session = simple();
-    let settings = asking(NackKind::Range, 50);
-    let none = made(alloc, &settings, &session, &[first, sixth, report, early])?;
-    assert!(rt; none.is_empty());
-    let asked = made(
-        alloc,
-        &settings,
-        &session,
-        &[first, sixth, report, early, due],
-    )?;
-    assert!(rt; asked.as_slice() == range.as_slice());
-    let none = made(
-        alloc,
-        &settings,
-        &session,
-        &[first, sixth, report, due, soon],
-    )?;
-    assert!(rt; none.is_empty());
-    let asked = made(
-        alloc,
-        &settings,
-        &session,
-        &[first, sixth, report, due, soon, again],
-    )?;
-    assert!(rt; asked.as_slice() == range.as_slice());
-    let masked = made(
-        alloc,
-        &asking(NackKind::Mask, 50),
-        &session,
-        &[first, sixth, report, due],
-    )?;
-    assert!(rt; masked.as_slice() == mask.as_slice());
+    let (range, mask) = (asking(NackKind::Range, 50), asking(NackKind::Mask, 50));
+    assert!(rt; asks(alloc, &range, &[report, early], b"")?);
+    assert!(rt; asks(alloc, &range, &[report, early, due], RANGE)?);
+    assert!(rt; asks(alloc, &range, &[report, due, soon], b"")?);
+    assert!(rt; asks(alloc, &range, &[report, due, soon, again], RANGE)?);
+    assert!(rt; asks(alloc, &mask, &[report, due], MASK)?);
     Ok(())
 }
 
@@ -463,7 +427,6 @@ fn the_longest_round_trip_time_of_two_links_counts(rt: HostRuntime) -> Result<()
         b'T', 0, 0, 0, 0, 0, 0, 0, 0, 0, 0, 0, 0,
     ];
     let compound = Compound::read(&octets).ok().ok_or("a compound")?;
-    let (first, sixth) = (brings(0, 10, b"A"), brings(1_112, 15, b"F"));
     let (report, due) = (ticks(1_112), ticks(26_112));
     // 8,000 and then 16,000 microseconds on link 0 are 9,000, so 810 ticks: 3,159 and 3,160.
     let (one, two) = (
@@ -471,31 +434,12 @@ fn the_longest_round_trip_time_of_two_links_counts(rt: HostRuntime) -> Result<()
         brings_control(0, 16_000, &compound),
     );
     let (soon, again) = (ticks(35_111), ticks(35_112));
-    let session = simple();
-    let settings = asking(NackKind::Range, 5);
-    let none = made(
-        alloc,
-        &settings,
-        &session,
-        &[first, sixth, report, one, two, due, soon],
-    )?;
-    assert!(rt; none.is_empty());
-    let asked = made(
-        alloc,
-        &settings,
-        &session,
-        &[first, sixth, report, one, two, due, again],
-    )?;
-    assert!(rt; asked.len() == 40);
+    let range = asking(NackKind::Range, 5);
+    assert!(rt; asks(alloc, &range, &[report, one, two, due, soon], b"")?);
+    assert!(rt; asks(alloc, &range, &[report, one, two, due, again], RANGE)?);
     // 20,000 microseconds on link 1 are longer.
     let other = brings_control(1, 20_000, &compound);
-    let none = made(
-        alloc,
-        &settings,
-        &session,
-        &[first, sixth, report, one, two, other, due, again],
-    )?;
-    assert!(rt; none.is_empty());
+    assert!(rt; asks(alloc, &range, &[report, one, two, other, due, again], b"")?);
     Ok(())
 }
 

@@ -29,7 +29,9 @@ use Rattle.rist_reporter.specs.declared.out.Outs.{Outs}
 use Rattle.rist_reporter.specs.OneMore.{is_short, AnswersAfter, step_answered}
 use Rattle.rist_ends.specs.declared.outcome.Outcome.{Outcome}
 use Rattle.rist_ends.specs.declared.outcome.Outcome.TheVariants as outcomes
-use Rattle.rist_ends.specs.Outcome.{IfStepped}
+use Rattle.rist_ends.specs.declared.outcome.Answer.{Answer}
+use Rattle.rist_ends.specs.declared.outcome.Answer.TheVariants as answers
+use Rattle.rist_ends.specs.Outcome.{IfStepped, outcome_with}
 use Rattle.rist_ends.proofs.SteppingLemmas.{concat-map-append}
 use Rattle.rist_replay.specs.Steps.{step_of, input_read, receiver_history, history_of}
 use Rattle.rist_wire.specs.Item.{item_of}
@@ -78,31 +80,31 @@ front_of_whole session limits rs =
     )
 
 -- where a step was made
-pub on_made : (o : Outcome) (P Q : Type 0) → IfStepped o Q → (Q → P) → (o ≡ outcomes.Stopped → P) → OnOk (answer_of o) P
-on_made outcomes.Stopped P Q made to stopped = stopped refl
-on_made outcomes.WriteFault P Q made to stopped = tt
-on_made (outcomes.Verdict v) P Q made to stopped = to made
-on_made outcomes.Spent P Q made to stopped = to made
-on_made (outcomes.Made outs) P Q made to stopped = to made
-on_made outcomes.Nothing P Q made to stopped = to made
+pub on_made : (a : Answer) (outs : Outs) (P Q : Type 0) → IfStepped (outcome_with a outs) Q → (Q → P) → (outcome_with a outs ≡ outcomes.Stopped → P) → OnOk (answer_of a) P
+on_made answers.Stopped outs P Q made to stopped = stopped refl
+on_made answers.WriteFault outs P Q made to stopped = tt
+on_made (answers.Verdict v) outs P Q made to stopped = to made
+on_made answers.Spent outs P Q made to stopped = to made
+on_made answers.Made outs P Q made to stopped = to made
+on_made answers.Nothing outs P Q made to stopped = to made
 
 -- where none was made
-pub on_refused : (o : Outcome) (P : Type 0) → (o ≡ outcomes.WriteFault → P) → OnErr (answer_of o) P
-on_refused outcomes.Stopped P fault = tt
-on_refused outcomes.WriteFault P fault = fault refl
-on_refused (outcomes.Verdict v) P fault = tt
-on_refused outcomes.Spent P fault = tt
-on_refused (outcomes.Made outs) P fault = tt
-on_refused outcomes.Nothing P fault = tt
+pub on_refused : (a : Answer) (outs : Outs) (P : Type 0) → (outcome_with a outs ≡ outcomes.WriteFault → P) → OnErr (answer_of a) P
+on_refused answers.Stopped outs P fault = tt
+on_refused answers.WriteFault outs P fault = fault refl
+on_refused (answers.Verdict v) outs P fault = tt
+on_refused answers.Spent outs P fault = tt
+on_refused answers.Made outs P fault = tt
+on_refused answers.Nothing outs P fault = tt
 
 -- a step takes no memory
-pub no_memory : (o : Outcome) (P : Type 0) → IsErrOf (answer_of o) bads.Memory → P
-no_memory outcomes.Stopped P is = cc
-no_memory outcomes.WriteFault P is = cc
-no_memory (outcomes.Verdict v) P is = cc
-no_memory outcomes.Spent P is = cc
-no_memory (outcomes.Made outs) P is = cc
-no_memory outcomes.Nothing P is = cc
+pub no_memory : (a : Answer) (P : Type 0) → IsErrOf (answer_of a) bads.Memory → P
+no_memory answers.Stopped P is = cc
+no_memory answers.WriteFault P is = cc
+no_memory (answers.Verdict v) P is = cc
+no_memory answers.Spent P is = cc
+no_memory answers.Made P is = cc
+no_memory answers.Nothing P is = cc
 
 -- a step with this record's item is the record's step
 pub pushed : (session : Session) (done : List Record) (r : Record) (step : ReceiverStep) → step ≡ step_of session r → buffer_history (step ∷ receiver_history session done) ≡ history_of session (done ++ r ∷ [])

@@ -11,7 +11,7 @@ use capture_file::Head;
 use capture_walk::{VisitBad, Visitor};
 use outside_io::{Failed, Sink};
 use receiver_rules::Arrival;
-use rist_ends::{Outcome, Receiver, Told, What};
+use rist_ends::{Answer, Outs, Receiver, Told, What};
 use rist_wire::{Item, Media, Opener, WireBad};
 use ts_nulls::BLOCK_LEN;
 
@@ -22,6 +22,8 @@ pub struct Replayer {
     pub opener: Opener,
     /// Is told their items.
     pub receiver: Receiver,
+    /// Where it puts the datagrams that it makes. A muted one makes none.
+    pub outs: Outs,
     /// Where a payload is put whose null packets were deleted.
     pub block: [u8; BLOCK_LEN],
 }
@@ -68,16 +70,14 @@ fn what_of<'a>(item: &'a Result<Item<'a>, WireBad>, block: &'a mut [u8; BLOCK_LE
 }
 
 // Whether a step was made. A receiver that has ended makes none, and none ends before the walk does.
-fn answer_of(outcome: Outcome) -> Result<(), VisitBad>
-    ensures value { result ≡ answer_of outcome }
+fn answer_of(answer: Answer) -> Result<(), VisitBad>
+    ensures value { result ≡ answer_of answer }
 {
-    match outcome {
-        Outcome::WriteFault => Err(VisitBad::WriteFault),
-        Outcome::Stopped
-        | Outcome::Verdict(_)
-        | Outcome::Spent
-        | Outcome::Made(_)
-        | Outcome::Nothing => Ok(()),
+    match answer {
+        Answer::WriteFault => Err(VisitBad::WriteFault),
+        Answer::Stopped | Answer::Verdict(_) | Answer::Spent | Answer::Made | Answer::Nothing => {
+            Ok(())
+        }
     }
 }
 
@@ -106,7 +106,7 @@ impl Visitor for Replayer {
             us: head.us,
             what: what_of(&item, &mut self.block),
         };
-        answer_of(self.receiver.step(&told, sink))
+        answer_of(self.receiver.step_into(&told, &mut self.outs, sink))
     }
 
     fn finish<K: Sink>(&mut self, sink: &mut K) -> Result<(), Failed> {
@@ -115,7 +115,7 @@ impl Visitor for Replayer {
             us: 0,
             what: What::End,
         };
-        match answer_of(self.receiver.step(&told, sink)) {
+        match answer_of(self.receiver.step_into(&told, &mut self.outs, sink)) {
             Ok(()) => Ok(()),
             Err(_) => Err(Failed),
         }

@@ -12,7 +12,7 @@ use crate::replayer::Replayer;
 use capture_file::Reader;
 use capture_walk::{WalkBad, walk};
 use outside_io::{Sink, Source};
-use rist_ends::{Receiver, Settings};
+use rist_ends::{Outs, Receiver, Settings};
 use rist_wire::{Opener, Session};
 use std::alloc::Global;
 use ts_nulls::BLOCK_LEN;
@@ -52,6 +52,7 @@ pub fn replay<S: Source, K: Sink>(
     let mut replayer = Replayer {
         opener,
         receiver,
+        outs: Outs::none(),
         block: [0; BLOCK_LEN],
     };
     walk(reader, &mut replayer, sink)

@@ -1,5 +1,6 @@
 //! Datagrams that were made, in memory of a fixed size.
-ghost use Rattle.std.specs.Prelude.{◌≡◌, ◌<◌, ◌≤◌, Ok, false, length, is_some};
+ghost use Rattle.std.specs.Prelude.{◌≡◌, ◌<◌, ◌≤◌, [], None, Ok, false, length, is_some};
+ghost use Rattle.outside_io.specs.declared.channel.Channel.TheVariants.{Control};
 ghost use Rattle.outside_io.specs.declared.profile.Profile.TheVariants.{Main};
 ghost use Rattle.rtcp_compound.specs.Compound.{Content};
 ghost use Rattle.rist_wire.specs.Writing.{is_spent, after_pair};
@@ -59,6 +60,17 @@ impl Out {
         &self.places[..self.length]
     }
 
+    /// An empty datagram.
+    fn none() -> Out
+        ensures value { result ≡ record { channel = Control; octets = [] } }
+    {
+        Out {
+            channel: Channel::Control,
+            length: 0,
+            places: [0; 2048],
+        }
+    }
+
     /// The datagram of a compound, where a pair is left for it.
     pub(crate) fn control(shutter: &mut Shutter, compound: &CompoundOut) -> Out
         requires paired { is_some shutter.old.sealer ≡ is_some shutter.old.session.pass }
@@ -94,6 +106,21 @@ impl Out {
             channel,
             length,
             places,
+        }
+    }
+}
+
+impl Outs {
+    /// Room for what a step makes: an empty datagram and no words.
+    pub fn none() -> Outs
+        ensures first { result.first ≡ record { channel = Control; octets = [] } }
+        ensures second { result.second ≡ None }
+        ensures asked { result.asked ≡ [] }
+    {
+        Outs {
+            first: Out::none(),
+            second: None,
+            asked: Asked::none(),
         }
     }
 }

@@ -41,7 +41,8 @@ fn compound_out(shutter: &mut Shutter, due: &Due, asked: &Asked) -> Out
     requires paired { is_some shutter.old.sealer ≡ is_some shutter.old.session.pass }
     requires left { is_spent shutter.old.sealer ≡ false }
     requires near { AreNear asked.now }
-    ensures item { IsOpened shutter.old.session result (Compound (tick_packets due.now.kind due.now.own due.now.is_report
+    ensures item { IsOpened shutter.old.session result
+        (Compound (tick_packets due.now.kind due.now.own due.now.is_report
         due.now.flow due.now.width asked.now due.now.micros)) }
     ensures shutter { shutter.new ≡ record shutter.old { sealer = after_pair shutter.old.sealer } }
 {

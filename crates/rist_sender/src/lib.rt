@@ -3,16 +3,20 @@
 #![tactic(auto)]
 
 mod answer;
+mod answers;
 mod control;
 pub mod laws;
 mod media;
 mod numbers;
 mod on_link;
+mod payloads;
+mod sealing;
 mod send_bad;
 mod sender;
 mod settings;
 #[cfg(test)]
 mod tests;
+mod ticks;
 
 pub use answer::Answer;
 pub use send_bad::SendBad;

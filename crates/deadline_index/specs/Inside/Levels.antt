@@ -18,13 +18,6 @@ AreLevels (suc n) at len xs = IsCover at len xs × AreLevels n (at + len) (group
 abbrev pub IsNoneIn : List ℕ → ℕ → ℕ → ℕ → ℕ → Type 0
 IsNoneIn xs at from end tick = (k : ℕ) → from ≤ k → k < end → tick < slice_index xs (at + k)
 
--- the last entry before an end that is at most the tick
-pub record IsLastIn (xs : List ℕ) (at from end tick entry : ℕ) : Type 0 where
-  pub low : from ≤ entry
-  pub below : entry < end
-  pub due : slice_index xs (at + entry) ≤ tick
-  pub last : IsNoneIn xs at (suc entry) end tick
-
 -- the first entry from a start on that is at most the tick
 pub record IsFirstIn (xs : List ℕ) (at start end tick entry : ℕ) : Type 0 where
   pub low : start ≤ entry

@@ -1,5 +1,6 @@
 -- What comes of a step that the buffer has made, for each history.
-use Rattle.std.specs.Prelude.{◌≡◌, List, ◌∷◌, Option}
+use Rattle.std.specs.Prelude.{◌≡◌, List, ◌∷◌, Option, Result}
+use Rattle.psk_seal.specs.declared.sealer.Spent as seal
 use Rattle.receiver_rules.specs.declared.verdict.Verdict.{Verdict}
 use Rattle.reorder_buffer.specs.State.{State}
 use Rattle.reorder_buffer.specs.StateAfter.{IsStateAfter}
@@ -7,9 +8,10 @@ use Rattle.reorder_buffer.specs.declared.phase.Phase.TheVariants.{Open}
 use Rattle.request_rules.specs.Steps.{Step, buffer_history}
 use Rattle.rist_reporter.specs.Reporter.{ReporterState, IsReporterAfter, settings_with}
 use Rattle.rist_reporter.specs.OneMore.{AnswersAfter, step_answered}
-use Rattle.rist_ends.specs.declared.outcome.Outcome.{Outcome}
+use Rattle.rist_reporter.specs.declared.out.Outs.{Outs}
+use Rattle.rist_ends.specs.declared.outcome.Answer.{Answer}
 use Rattle.rist_ends.specs.declared.told.Told.{Told}
-use Rattle.rist_ends.specs.Outcome.{result_of}
+use Rattle.rist_ends.specs.Outcome.{outcome_with, result_of}
 use Rattle.rist_ends.specs.Told.{step_of}
 use Rattle.rist_ends.specs.Inside.Stepping.{SaysVerdict}
 
@@ -19,14 +21,19 @@ pub record IsBetween (r : ReporterState) (b : State) (told : Told) (verdict : Op
   pub buffer : IsStateAfter b (buffer_history (step_of told ∷ history))
   pub says : SaysVerdict verdict b.limits (buffer_history history) (step_of told)
 
+-- what an answer says was made, where the datagrams stand here
+abbrev pub made_in : Answer → Outs → Result (Option Outs) seal.Spent
+made_in answer outs = result_of (outcome_with answer outs)
+
 -- what the step makes was made
-abbrev pub ReportsStep : ReporterState → State → Told → Option Verdict → Outcome → Type 0
-ReportsStep r b told verdict outcome =
+abbrev pub ReportsStep : ReporterState → State → Told → Option Verdict → Result (Option Outs) seal.Spent → Type 0
+ReportsStep r b told verdict made =
     (history : List Step) → IsBetween r b told verdict history
-    → AnswersAfter (settings_with b.limits r) r.shutter history (step_of told) (result_of outcome)
+    → AnswersAfter (settings_with b.limits r) r.shutter history (step_of told) made
 
 -- the reporter stands after it
-abbrev pub StandsAfterStep : ReporterState → ReporterState → State → Told → Option Verdict → Outcome → Type 0
-StandsAfterStep old new b told verdict outcome =
+abbrev pub StandsAfterStep : ReporterState → ReporterState → State → Told → Option Verdict
+    → Result (Option Outs) seal.Spent → Type 0
+StandsAfterStep old new b told verdict made =
     (history : List Step) → IsBetween old b told verdict history → b.phase ≡ Open
-    → IsReporterAfter new b.limits (step_answered (step_of told) (result_of outcome) ∷ history)
+    → IsReporterAfter new b.limits (step_answered (step_of told) made ∷ history)

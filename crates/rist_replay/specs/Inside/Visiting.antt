@@ -2,8 +2,8 @@
 use Rattle.std.specs.Prelude.{◌≡◌, true, List, Result, Ok, Err}
 use Rattle.capture_walk.specs.declared.visitor.VisitBad.{VisitBad}
 use Rattle.capture_walk.specs.declared.visitor.VisitBad.TheVariants as bads
-use Rattle.rist_ends.specs.declared.outcome.Outcome.{Outcome}
-use Rattle.rist_ends.specs.declared.outcome.Outcome.TheVariants as outcomes
+use Rattle.rist_ends.specs.declared.outcome.Answer.{Answer}
+use Rattle.rist_ends.specs.declared.outcome.Answer.TheVariants as answers
 use Rattle.capture_file.specs.Capture.{Record}
 use Rattle.reorder_buffer.specs.declared.phase.Phase.TheVariants.{Open}
 use Rattle.rist_wire.specs.declared.session.Session.{Session}
@@ -16,11 +16,11 @@ pub record HasReplayed (session : Session) (receiver : ReceiverState) (rs : List
   pub running : receiver.buffer.phase ≡ Open
   pub muted : receiver.reporter.is_muted ≡ true
 
--- what the outcome of a step answers
-abbrev pub answer_of : Outcome → Result Unit VisitBad
-answer_of outcomes.Stopped = Ok tt
-answer_of outcomes.WriteFault = Err bads.WriteFault
-answer_of (outcomes.Verdict v) = Ok tt
-answer_of outcomes.Spent = Ok tt
-answer_of (outcomes.Made outs) = Ok tt
-answer_of outcomes.Nothing = Ok tt
+-- what a step's answer is for the walk
+abbrev pub answer_of : Answer → Result Unit VisitBad
+answer_of answers.Stopped = Ok tt
+answer_of answers.WriteFault = Err bads.WriteFault
+answer_of (answers.Verdict v) = Ok tt
+answer_of answers.Spent = Ok tt
+answer_of answers.Made = Ok tt
+answer_of answers.Nothing = Ok tt

@@ -6,8 +6,9 @@ use Rattle.request_rules.specs.Steps.{Step, buffer_history}
 use Rattle.rist_reporter.specs.Reporter.{IsReporterAfter, settings_with}
 use Rattle.rist_reporter.specs.OneMore.{AnswersAfter, step_answered, IsReceived}
 use Rattle.rist_ends.specs.declared.told.What.{What}
-use Rattle.rist_ends.specs.Told.{IsFitWhat, input_of, step_of}
+use Rattle.rist_ends.specs.Told.{IsFitWhat, input_of}
 use Rattle.rist_ends.specs.Inside.Stepping.{SaysVerdictOn}
+use Rattle.rist_ends.specs.Inside.Reporting.{made_in}
 use Rattle.rist_ends.proofs.ReportLemmas.{media_told_step, control_told_step, silent_told_stands, is_received}
 use Rattle.rist_ends.proofs.reporting.report.Goals as goal
 
@@ -27,18 +28,20 @@ pub returns-in-Control-clause-made : goal.returns-in-Control-clause-made
 returns-in-Control-clause-made c history between =
     let told = c.args.told.now in
     let settings = settings_with c.args.buffer.now.limits c.args.reporter.now in
-    subst (λ r. AnswersAfter settings c.args.reporter.now.shutter history (step_of told) r) (sym c.outcome_of.ensures.made)
-    (subst (λ (st : Step). AnswersAfter settings c.args.reporter.now.shutter history st c.answer.result) (sym (control_told_step told c.in-Control.compound c.in-Control.is))
-    (c.answer.ensures.answer c.args.buffer.now.limits history (tick_of told.us) between.reporter))
+    subst (λ (st : Step). AnswersAfter settings c.args.reporter.now.shutter history st (made_in c.answer_compound.result c.answer_compound.new.outs)) (sym (control_told_step told c.in-Control.compound c.in-Control.is))
+    (c.answer_compound.ensures.answer c.args.buffer.now.limits history (tick_of told.us) between.reporter)
 
 pub returns-in-Control-clause-state : goal.returns-in-Control-clause-state
 returns-in-Control-clause-state c history between running =
     let told = c.args.told.now in
     let limits = c.args.buffer.now.limits in
-    subst (λ r. IsReporterAfter c.answer.new.self limits (step_answered (step_of told) r ∷ history)) (sym c.outcome_of.ensures.made)
-    (subst (λ (st : Step). IsReporterAfter c.answer.new.self limits (step_answered st c.answer.result ∷ history)) (sym (control_told_step told c.in-Control.compound c.in-Control.is))
-    (c.answer.ensures.state limits history (tick_of told.us) between.reporter))
+    subst (λ (st : Step). IsReporterAfter c.answer_compound.new.reporter limits (step_answered st (made_in c.answer_compound.result c.answer_compound.new.outs) ∷ history)) (sym (control_told_step told c.in-Control.compound c.in-Control.is))
+    (c.answer_compound.ensures.state limits history (tick_of told.us) between.reporter)
 
 pub returns-in-Keepalive-clause-state : goal.returns-in-Keepalive-clause-state
 returns-in-Keepalive-clause-state c history between running =
+    silent_told_stands c.args.reporter.now c.args.buffer.now c.args.buffer.now.limits c.args.told.now history c.in-Keepalive.is c.requires.phase running between.reporter
+
+pub returns-in-Keepalive-2-clause-state : goal.returns-in-Keepalive-2-clause-state
+returns-in-Keepalive-2-clause-state c history between running =
     silent_told_stands c.args.reporter.now c.args.buffer.now c.args.buffer.now.limits c.args.told.now history c.in-Keepalive.is c.requires.phase running between.reporter
