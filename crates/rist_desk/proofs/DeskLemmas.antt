@@ -16,8 +16,11 @@ use Rattle.rist_ends.specs.declared.told.What.{What}
 use Rattle.rist_ends.specs.declared.told.What.TheVariants.{Media, Control, Keepalive, Refused, Tick, End}
 use Rattle.rist_ends.specs.declared.outcome.Outcome.{Outcome}
 use Rattle.rist_ends.specs.declared.outcome.Outcome.TheVariants as outcomes
-use Rattle.rist_ends.specs.Outcome.{IfStepped, is_write_fault, result_of}
-use Rattle.rist_ends.specs.Receiver.{ReceiverState, IsReceiverAfter, HasFailed, AnswersStep, MakesStep, GoesOn, Plays, PlaysPart, settings_of, step_made}
+use Rattle.rist_reporter.specs.declared.out.Outs.{Outs}
+use Rattle.rist_ends.specs.declared.outcome.Answer.{Answer}
+use Rattle.rist_ends.specs.declared.outcome.Answer.TheVariants as answers
+use Rattle.rist_ends.specs.Outcome.{IfStepped, is_write_fault, result_of, outcome_with}
+use Rattle.rist_ends.specs.Receiver.{ReceiverState, IsReceiverAfter, HasFailed, AnswersStep, MakesStep, GoesOn, Plays, Steps, settings_of, step_made}
 use Rattle.rist_ends.specs.Told.{step_of as told_step_of, phase_after as told_phase, ended_at}
 use Rattle.rist_desk.specs.declared.step.Mark.{Mark}
 use Rattle.rist_desk.specs.declared.step.Mark.TheVariants as marks
@@ -68,15 +71,7 @@ all_written setup (s ∷ before) octets e w = written_by (is_fault s.mark) _ _ o
 
 -- what a step did to the receiver and the sink, as the receiver's clauses say
 pub record Stepped (told : Told) (o : Outcome) (d e : DeskState) : Type 0 where
-  pub ended : d.receiver.buffer.phase ≢ Open → o ≡ outcomes.Stopped
-  pub verdict : IfStepped o (AnswersStep d.receiver (told_step_of told) o)
-  pub made : IfStepped o (MakesStep d.receiver (told_step_of told) o)
-  pub pairs : TakesPairs (answer_count (result_of o)) d.receiver.reporter.shutter e.receiver.reporter.shutter
-  pub state : IfStepped o (GoesOn d.receiver e.receiver (step_made told o))
-  pub sink : IfStepped o (Plays d.receiver (told_step_of told) d.contents e.contents)
-  pub phase : IfStepped o (e.receiver.buffer.phase ≡ ended_at told)
-  pub failed : o ≡ outcomes.WriteFault → HasFailed e.receiver.buffer
-  pub part : o ≡ outcomes.WriteFault → PlaysPart d.receiver (told_step_of told) d.contents e.contents
+  pub work : Steps d.receiver e.receiver told o d.contents e.contents
   pub cause : RoseWhere (is_write_fault o) d.faults e.faults
 
 -- the limits of the buffer are those of the settings
@@ -158,25 +153,25 @@ stands_with : (given : Given) (told : Told) (o : Outcome) (s : Step) (d e : Desk
     → step_after told o ≡ Some s → Stepped told o d e → StandsFor given d before → StandsFor given e (s ∷ before)
 stands_with given told outcomes.Stopped s d e before set is step old = absurd (cc (is))
 stands_with given told outcomes.WriteFault s d e before set is step old =
-    let going = still_open _ outcomes.WriteFault step.ended (λ f. cc (f)) in
-    let writes = subst (λ l. WritesPart d.contents e.contents (released_bytes l (buffer_history (history_of before))) (released_bytes l (buffer_history (told_step_of told ∷ history_of before)))) (limits_are given d set) (step.part refl (history_of before) old.receiver) in
-    subst (λ (x : Step). StandsFor given e (x ∷ before)) (cc (is)) (fails given told d e before going (step.failed refl) writes step.pairs old)
+    let going = still_open _ outcomes.WriteFault step.work.ended (λ f. cc (f)) in
+    let writes = subst (λ l. WritesPart d.contents e.contents (released_bytes l (buffer_history (history_of before))) (released_bytes l (buffer_history (told_step_of told ∷ history_of before)))) (limits_are given d set) (step.work.part refl (history_of before) old.receiver) in
+    subst (λ (x : Step). StandsFor given e (x ∷ before)) (cc (is)) (fails given told d e before going (step.work.failed refl) writes step.work.pairs old)
 stands_with given told (outcomes.Verdict v) s d e before set is step old =
-    let going = still_open _ (outcomes.Verdict v) step.ended (λ f. cc (f)) in
-    let said = says given told (outcomes.Verdict v) d e before set step.verdict step.made step.state old in
-    subst (λ (x : Step). StandsFor given e (x ∷ before)) (cc (is)) (goes_on given told (outcomes.Verdict v) _ d e before going (fits_verdict _ before told v _ _ said) (plays given told d e before set step.sink step.phase old) step.pairs old)
+    let going = still_open _ (outcomes.Verdict v) step.work.ended (λ f. cc (f)) in
+    let said = says given told (outcomes.Verdict v) d e before set step.work.verdict step.work.made step.work.state old in
+    subst (λ (x : Step). StandsFor given e (x ∷ before)) (cc (is)) (goes_on given told (outcomes.Verdict v) _ d e before going (fits_verdict _ before told v _ _ said) (plays given told d e before set step.work.sink step.work.phase old) step.work.pairs old)
 stands_with given told outcomes.Spent s d e before set is step old =
-    let going = still_open _ outcomes.Spent step.ended (λ f. cc (f)) in
-    let said = says given told outcomes.Spent d e before set step.verdict step.made step.state old in
-    subst (λ (x : Step). StandsFor given e (x ∷ before)) (cc (is)) (goes_on given told outcomes.Spent _ d e before going (fits_spent _ before told _ _ said) (plays given told d e before set step.sink step.phase old) step.pairs old)
+    let going = still_open _ outcomes.Spent step.work.ended (λ f. cc (f)) in
+    let said = says given told outcomes.Spent d e before set step.work.verdict step.work.made step.work.state old in
+    subst (λ (x : Step). StandsFor given e (x ∷ before)) (cc (is)) (goes_on given told outcomes.Spent _ d e before going (fits_spent _ before told _ _ said) (plays given told d e before set step.work.sink step.work.phase old) step.work.pairs old)
 stands_with given told (outcomes.Made outs) s d e before set is step old =
-    let going = still_open _ (outcomes.Made outs) step.ended (λ f. cc (f)) in
-    let said = says given told (outcomes.Made outs) d e before set step.verdict step.made step.state old in
-    subst (λ (x : Step). StandsFor given e (x ∷ before)) (cc (is)) (goes_on given told (outcomes.Made outs) _ d e before going (fits_made _ before told outs _ _ said) (plays given told d e before set step.sink step.phase old) step.pairs old)
+    let going = still_open _ (outcomes.Made outs) step.work.ended (λ f. cc (f)) in
+    let said = says given told (outcomes.Made outs) d e before set step.work.verdict step.work.made step.work.state old in
+    subst (λ (x : Step). StandsFor given e (x ∷ before)) (cc (is)) (goes_on given told (outcomes.Made outs) _ d e before going (fits_made _ before told outs _ _ said) (plays given told d e before set step.work.sink step.work.phase old) step.work.pairs old)
 stands_with given told outcomes.Nothing s d e before set is step old =
-    let going = still_open _ outcomes.Nothing step.ended (λ f. cc (f)) in
-    let said = says given told outcomes.Nothing d e before set step.verdict step.made step.state old in
-    subst (λ (x : Step). StandsFor given e (x ∷ before)) (cc (is)) (goes_on given told outcomes.Nothing _ d e before going (fits_nothing _ before told _ _ said) (plays given told d e before set step.sink step.phase old) step.pairs old)
+    let going = still_open _ outcomes.Nothing step.work.ended (λ f. cc (f)) in
+    let said = says given told outcomes.Nothing d e before set step.work.verdict step.work.made step.work.state old in
+    subst (λ (x : Step). StandsFor given e (x ∷ before)) (cc (is)) (goes_on given told outcomes.Nothing _ d e before going (fits_nothing _ before told _ _ said) (plays given told d e before set step.work.sink step.work.phase old) step.work.pairs old)
 
 -- ---- the phase and the count of faults, told or not
 
@@ -205,13 +200,13 @@ went : (given : Given) (told : Told) (o : Outcome) (d e : DeskState) → (o ≡ 
     → RoseWhere (is_failed d.receiver.buffer.phase) given.faults d.faults → Went given e
 went given told outcomes.Stopped d e made no_end step r = absurd (made refl)
 went given told outcomes.WriteFault d e made no_end step r =
-    let first : d.faults ≡ given.faults = first_faults given d (still_open _ outcomes.WriteFault step.ended (λ f. cc (f))) r in
-    let phase = (step.failed refl).phase in
+    let first : d.faults ≡ given.faults = first_faults given d (still_open _ outcomes.WriteFault step.work.ended (λ f. cc (f))) r in
+    let phase = (step.work.failed refl).phase in
     record { going = λ f. cc (phase, f); faults = subst (λ (p : Phase). RoseWhere (is_failed p) given.faults e.faults) (sym phase) (subst (λ n. Rose n e.faults) first step.cause) }
-went given told (outcomes.Verdict v) d e made no_end step r = went_on given told d e no_end step.phase step.cause (first_faults given d (still_open _ (outcomes.Verdict v) step.ended (λ f. cc (f))) r)
-went given told outcomes.Spent d e made no_end step r = went_on given told d e no_end step.phase step.cause (first_faults given d (still_open _ outcomes.Spent step.ended (λ f. cc (f))) r)
-went given told (outcomes.Made outs) d e made no_end step r = went_on given told d e no_end step.phase step.cause (first_faults given d (still_open _ (outcomes.Made outs) step.ended (λ f. cc (f))) r)
-went given told outcomes.Nothing d e made no_end step r = went_on given told d e no_end step.phase step.cause (first_faults given d (still_open _ outcomes.Nothing step.ended (λ f. cc (f))) r)
+went given told (outcomes.Verdict v) d e made no_end step r = went_on given told d e no_end step.work.phase step.cause (first_faults given d (still_open _ (outcomes.Verdict v) step.work.ended (λ f. cc (f))) r)
+went given told outcomes.Spent d e made no_end step r = went_on given told d e no_end step.work.phase step.cause (first_faults given d (still_open _ outcomes.Spent step.work.ended (λ f. cc (f))) r)
+went given told (outcomes.Made outs) d e made no_end step r = went_on given told d e no_end step.work.phase step.cause (first_faults given d (still_open _ (outcomes.Made outs) step.work.ended (λ f. cc (f))) r)
+went given told outcomes.Nothing d e made no_end step r = went_on given told d e no_end step.work.phase step.cause (first_faults given d (still_open _ outcomes.Nothing step.work.ended (λ f. cc (f))) r)
 
 -- ---- what is told stands
 
@@ -222,6 +217,15 @@ no_step told (outcomes.Verdict v) e = absurd (cc (e))
 no_step told outcomes.Spent e = absurd (cc (e))
 no_step told (outcomes.Made outs) e = absurd (cc (e))
 no_step told outcomes.Nothing e = absurd (cc (e))
+
+-- an answer says that nothing was made
+pub answer_stopped : (a : Answer) (outs : Outs) → outcome_with a outs ≡ outcomes.Stopped → a ≡ answers.Stopped
+answer_stopped answers.Stopped outs e = refl
+answer_stopped answers.WriteFault outs e = absurd (cc (e))
+answer_stopped (answers.Verdict v) outs e = absurd (cc (e))
+answer_stopped answers.Spent outs e = absurd (cc (e))
+answer_stopped answers.Made outs e = absurd (cc (e))
+answer_stopped answers.Nothing outs e = absurd (cc (e))
 
 -- a list of steps, and the one that came to it
 told_by : (old new : Option (List Step)) (s : Option Step) (list : List Step) → new ≡ option_map (steps_with s) old → new ≡ Some list → (before : List Step) × (old ≡ Some before) × (list ≡ steps_with s before)

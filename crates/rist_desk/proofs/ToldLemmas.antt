@@ -29,7 +29,7 @@ same_request : (r : ReceiverState) (h : List ReceiverStep) (link tick : ℕ) (sa
 same_request r h link tick None a b s =
     record {
       buffer = s.buffer;
-      counts = λ n. let c = s.counts n in record { kept = c.kept; stranger = c.stranger; exhausted = c.exhausted; late = c.late; behind = c.behind; early = c.early; twice = c.twice; span = c.span; refused = c.refused };
+      counts = λ n. let c = s.counts n in record { each = c.each; refused = c.refused };
       reporter = λ o.
           let p = s.reporter o in
           record {
@@ -41,7 +41,7 @@ same_request r h link tick None a b s =
 same_request r h link tick (Some x) a b s =
     record {
       buffer = s.buffer;
-      counts = λ n. let c = s.counts n in record { kept = c.kept; stranger = c.stranger; exhausted = c.exhausted; late = c.late; behind = c.behind; early = c.early; twice = c.twice; span = c.span; refused = c.refused };
+      counts = λ n. let c = s.counts n in record { each = c.each; refused = c.refused };
       reporter = λ o.
           let p = s.reporter o in
           record {

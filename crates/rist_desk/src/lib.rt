@@ -7,6 +7,8 @@ mod echoes;
 mod name;
 mod payload;
 mod step;
+#[cfg(test)]
+mod tests;
 mod trace;
 mod words;
 

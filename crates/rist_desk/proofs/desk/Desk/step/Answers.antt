@@ -2,7 +2,7 @@
 use Rattle.std.proofs.Common.{ap}
 use Rattle.rist_ends.specs.Outcome.{outcome_with}
 use Rattle.rist_desk.specs.Desk.{DeskState, state_of}
-use Rattle.rist_desk.proofs.DeskLemmas.{Stepped, desk_with}
+use Rattle.rist_desk.proofs.DeskLemmas.{answer_stopped, Stepped, desk_with}
 use Rattle.rist_desk.proofs.desk.Desk.step.Goals as goal
 
 pub invariant_of-self : goal.invariant_of-self
@@ -12,5 +12,5 @@ invariant_of-self g c =
     let told = c.args.told.now in
     let o = outcome_with c.step_into-answer.result c.step_into-answer.new.outs in
     let x = c.step_into-answer.ensures in
-    let step : Stepped told o d e = record { ended = x.ended; verdict = x.verdict; made = x.made; pairs = x.pairs; state = x.state; sink = x.sink; phase = x.phase; failed = x.failed; part = x.part; cause = x.cause } in
-    desk_with g.N.Name.given told o d e c.requires.going step (λ is. ((x.same is).0, ap g.K.Sink.contents (x.same is).1, ap g.K.Sink.faults (x.same is).1)) c.keep.ensures.list c.keep.ensures.limit x.settings c.self.invariant
+    let step : Stepped told o d e = record { work = x.work; cause = x.cause } in
+    desk_with g.N.Name.given told o d e c.requires.going step (λ is. let same = x.same (answer_stopped _ _ is) in (same.0, ap g.K.Sink.contents same.1, ap g.K.Sink.faults same.1)) c.keep.ensures.list c.keep.ensures.limit x.work.settings c.self.invariant
