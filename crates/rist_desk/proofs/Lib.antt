@@ -1,0 +1,4 @@
+pub mod ListLemmas
+pub mod ToldLemmas
+pub mod StepLemmas
+pub mod DeskLemmas

@@ -1,0 +1,4 @@
+pub mod Steps
+pub mod Legal
+pub mod Made
+pub mod Desk

@@ -1,0 +1,20 @@
+//! A receiver that several threads share, and the workers that step it, one for each link. A contract sees the list of the
+//! steps that were made on it, where its trace tells them, and each worker's own list.
+#![tactic(auto)]
+
+mod desk;
+mod echoes;
+mod name;
+mod payload;
+mod step;
+#[cfg(test)]
+mod tests;
+mod trace;
+mod words;
+
+pub use desk::Desk;
+pub use name::Name;
+pub use payload::Payload;
+pub use step::{Echoes, Event, Mark, Packet, Step};
+pub use trace::StepTrace;
+pub use words::Words;
