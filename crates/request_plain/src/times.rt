@@ -91,4 +91,3 @@ pub fn is_due(policy: &Policy, rtt: u64, t: u64, found: u64, times: &Times) -> b
         && has_passed_since(tick_of(rtt).max(policy.retry_interval), t, times.last)
         && times.count < policy.retry_limit
 }
-

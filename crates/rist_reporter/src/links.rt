@@ -36,7 +36,6 @@ impl Model for Links {
     ghost view = { λ l. record { rtts = l.rtts; reports = l.reports; keepalives = l.keepalives } };
 }
 
-
 /// Notes a tick of a link where the interval has passed.
 fn note(entries: &mut [Option<u64>; 16], interval: u64, at: u64, link: u8)
     requires link { link < 16 }
