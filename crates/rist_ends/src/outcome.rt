@@ -13,7 +13,8 @@ pub enum Outcome {
     WriteFault,
     /// What became of a media packet.
     Verdict(Verdict),
-    /// Fewer pairs are left than the datagrams that were due take. None was made; what was due to be played out was written.
+    /// Fewer pairs are left than the datagrams that were due take. None was made; what was due to be played out was
+    /// written.
     Spent,
     /// The datagrams that were made, for the link of the step.
     Made(Outs),
@@ -30,7 +31,8 @@ pub enum Answer {
     WriteFault,
     /// What became of a media packet.
     Verdict(Verdict),
-    /// Fewer pairs are left than the datagrams that were due take. None was made; what was due to be played out was written.
+    /// Fewer pairs are left than the datagrams that were due take. None was made; what was due to be played out was
+    /// written.
     Spent,
     /// Datagrams were made, for the link of the step.
     Made,

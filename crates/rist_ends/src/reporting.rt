@@ -18,7 +18,8 @@ use reorder_buffer::Buffer;
 use rist_reporter::{Outs, Reporter};
 use rtcp_compound::Compound;
 
-/// What a step came to by which datagrams were made, or for which too few pairs were left. The datagrams go into `outs`.
+/// What a step came to by which datagrams were made, or for which too few pairs were left. The datagrams go into
+/// `outs`.
 fn answer_with(made: Result<Option<Outs>, Spent>, outs: &mut Outs) -> Answer
     ensures made { made_in result outs.new ≡ made }
     ensures silent { verdict_in (outcome_with result outs.new) ≡ None }
@@ -85,8 +86,8 @@ fn answer_tick(
     answer_with(reporter.tick(at, link, us, buffer), outs)
 }
 
-/// Tells the reporter of a step that the buffer has made, and says what it came to. Before it `before` was the highest number
-/// that was kept.
+/// Tells the reporter of a step that the buffer has made, and says what it came to. Before it `before` was the highest
+/// number that was kept.
 pub fn report(
     reporter: &mut Reporter,
     buffer: &Buffer,

@@ -13,8 +13,8 @@ pub struct Settings {
     pub span: u64,
     /// How long a packet may be missing before it is asked for, in milliseconds: at most 1,000.
     pub reorder: u64,
-    /// The least time between two requests for one packet, in milliseconds: 5 to 1,000. A longer round-trip time counts in
-    /// its place.
+    /// The least time between two requests for one packet, in milliseconds: 5 to 1,000. A longer round-trip time counts
+    /// in its place.
     pub least: u64,
     /// How often one packet is asked for: at most 32 times.
     pub tries: u64,
