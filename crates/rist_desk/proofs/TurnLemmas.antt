@@ -16,7 +16,7 @@ use Rattle.rist_desk.specs.declared.worker.Limits.{Limits}
 use Rattle.rist_desk.specs.Sending.{IsKnownIn, IsSent, AreSent, IsHalfSent, Made, IsLast, CutsAt, EndsBy, Holds, Goes, Breaks, TurnEnds}
 use Rattle.rist_desk.specs.Turns.{Feed, is_tick_due, tick_steps, turn_steps, ticked_after, quiet_since, is_idle, end_by, steps_of, steps_until, last_tick, since_until, end_at, IsServed, from}
 use Rattle.rist_desk.specs.Inside.Going.{IsTask, IsGoing}
-use Rattle.rist_desk.proofs.SendLemmas.{goes_both, breaks_second}
+use Rattle.rist_desk.proofs.SendLemmas.{goes_none, goes_both, breaks_second}
 
 -- ---- what is known stays known
 
@@ -97,7 +97,7 @@ end_same : (a b : Answer) (l k : Bool) (i j : ℕ) (s r : ℕ) (m n : ℕ) → a
 end_same a b l k i j s r m n ea el ei es em =
     ap (λ x. end_by x l (is_idle i s m)) ea ∙ (ap (λ x. end_by b x (is_idle i s m)) el ∙ (ap (λ x. end_by b k (is_idle x s m)) ei ∙ (ap (λ x. end_by b k (is_idle j x m)) es ∙ ap (λ x. end_by b k (is_idle j r x)) em)))
 
-not_last : (turns n : ℕ) (last : Bool) → last ≡ nat_le turns (n + 1) → last ≡ false → n + 1 < turns
+pub not_last : (turns n : ℕ) (last : Bool) → last ≡ nat_le turns (n + 1) → last ≡ false → n + 1 < turns
 not_last turns n last e no_more = let f : nat_le turns (n + 1) ≡ false = sym e ∙ no_more in grind (arith, nat_tests)
 
 -- what a turn read, and what it was given
@@ -211,3 +211,22 @@ pub gave_served : (o : Option Ended) (session : Session) (place : ℕ) (limits :
 gave_served None session place limits last us since d m m2 a a2 peers read now new t s r p made = tt
 gave_served (Some end) session place limits last us since d m m2 a a2 peers read now new t s r p made =
     λ f n knows first task last_is old. served_after f n session place limits last us since (Gave d) m m2 a a2 knows peers read first now new t s end r p (made (is_idle limits.idle since us)) task last_is old
+
+-- ---- before the first turn
+
+from_zero : {A : Type 0} (s : ℕ → A) → from 0 s ≡ s
+from_zero s = fun_ext (from 0 s) s (λ k. let e : 0 + k ≡ k = omega arith in ap s e)
+
+pub going_first : (f : Feed) (session : Session) (place : ℕ) (limits : Limits) (knows : Channel → Bool) (m : Option (ℕ → ℕ)) (a : Option (ℕ → Answer)) (h : Holds)
+    → IsTask f session place limits → m ≡ Some f.moments → a ≡ Some f.answers → 0 < limits.turns → IsGoing f 0 knows knows m a h h None None
+going_first f session place limits knows m a h task moments answers some =
+    record {
+      within = subst (λ n. 0 < n) (sym task.turns_is) some;
+      took_moments = moments ∙ ap Some (sym (from_zero f.moments));
+      took_answers = answers ∙ ap Some (sym (from_zero f.answers));
+      peers_are = λ c known. known;
+      own = goes_none knows h;
+      ticked_is = refl;
+      since_is = refl;
+      going = λ k lt. absurd (omega (arith, lt));
+    }

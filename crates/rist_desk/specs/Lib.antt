@@ -5,4 +5,5 @@ pub mod Desk
 pub mod Items
 pub mod Turns
 pub mod Sending
+pub mod Serving
 pub mod Inside

@@ -8,6 +8,7 @@ mod ended;
 mod items;
 mod name;
 mod payload;
+mod serving;
 mod step;
 mod stepping;
 #[cfg(test)]
@@ -21,6 +22,7 @@ pub use desk::Desk;
 pub use ended::Ended;
 pub use name::Name;
 pub use payload::Payload;
+pub use serving::serve;
 pub use step::{Echoes, Event, Mark, Packet, Step};
 pub use trace::StepTrace;
 pub use words::Words;
