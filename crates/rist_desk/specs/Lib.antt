@@ -2,3 +2,8 @@ pub mod Steps
 pub mod Legal
 pub mod Made
 pub mod Desk
+pub mod Items
+pub mod Turns
+pub mod Sending
+pub mod Serving
+pub mod Inside

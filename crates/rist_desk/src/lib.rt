@@ -4,17 +4,26 @@
 
 mod desk;
 mod echoes;
+mod ended;
+mod items;
 mod name;
 mod payload;
+mod serving;
 mod step;
+mod stepping;
 #[cfg(test)]
 mod tests;
 mod trace;
+mod turn;
 mod words;
+mod worker;
 
 pub use desk::Desk;
+pub use ended::Ended;
 pub use name::Name;
 pub use payload::Payload;
+pub use serving::serve;
 pub use step::{Echoes, Event, Mark, Packet, Step};
 pub use trace::StepTrace;
 pub use words::Words;
+pub use worker::{Limits, Worker};

@@ -1,0 +1,39 @@
+-- What a worker did, by what its objects tell.
+use Rattle.std.specs.Prelude.{◌≡◌, ℕ, List, Bool, Option, Some}
+use Rattle.outside_io.specs.Causes.{RoseWhere}
+use Rattle.outside_io.specs.declared.channel.Channel.{Channel}
+use Rattle.outside_net.specs.Links.{Datagram, Answer}
+use Rattle.rist_wire.specs.declared.session.Session.{Session}
+use Rattle.rist_desk.specs.declared.ended.Ended.{Ended}
+use Rattle.rist_desk.specs.declared.step.Step.{Step}
+use Rattle.rist_desk.specs.declared.worker.Limits.{Limits}
+use Rattle.rist_desk.specs.declared.worker.Worker.{Worker}
+use Rattle.rist_desk.specs.Sending.{holds}
+use Rattle.rist_desk.specs.Turns.{Feed, IsServed}
+use Rattle.rist_desk.specs.Inside.Going.{IsTask, is_link_end, is_link_failure}
+
+-- what a kind of links tells
+pub record LinkTells (L : Type 0) : Type 0 where
+  pub reads : L → Option (ℕ → Answer)
+  pub taken : L → Option (List Datagram)
+  pub knows : L → Channel → Bool
+  pub ends : L → ℕ
+  pub faults : L → ℕ
+
+-- this is what a worker is given, where its clock and its link tell
+pub record IsFeed (f : Feed) (session : Session) (place : ℕ) (limits : Limits) (moments : Option (ℕ → ℕ)) (answers : Option (ℕ → Answer)) : Type 0 where
+  pub task : IsTask f session place limits
+  pub moments_are : moments ≡ Some f.moments
+  pub answers_are : answers ≡ Some f.answers
+
+-- the worker at this place ended: its own list has gained the steps of its turns, and its link what they made
+pub record Serves {L C U : Type 0} (moments : C → Option (ℕ → ℕ)) (tells : LinkTells L) (list : U → Option (List Step)) (limits : Limits) (place : ℕ) (old new : Worker L C U) : Type 0 where
+  pub end : Ended
+  pub ended : new.end ≡ Some end
+  pub served : (f : Feed) → IsFeed f old.opener place limits (moments old.clock) (tells.reads old.link)
+    → IsServed f (tells.knows old.link) end (moments new.clock) (tells.reads new.link)
+    (holds (list old.trace) (tells.taken old.link)) (holds (list new.trace) (tells.taken new.link))
+  pub session : new.opener ≡ old.opener
+  -- End and Failed come exactly where the link's count rose
+  pub end_cause : RoseWhere (is_link_end (Some end)) (tells.ends old.link) (tells.ends new.link)
+  pub failed_cause : RoseWhere (is_link_failure (Some end)) (tells.faults old.link) (tells.faults new.link)

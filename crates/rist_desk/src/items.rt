@@ -1,0 +1,57 @@
+//! What a receiver is told of a datagram.
+ghost use Rattle.std.specs.Prelude.{◌≡◌, ◌≤◌, ◌<◌, ℕ, length};
+ghost use Rattle.seq_unwrap.specs.Nearest.{cycle_of};
+ghost use Rattle.rist_wire.specs.Media.{content_of};
+ghost use Rattle.rist_ends.specs.Told.{IsFitArrival, IsFitWhat};
+ghost use Rattle.rist_desk.specs.Made.{packet_of, event_of, IsNoEnd};
+ghost use Rattle.rist_desk.specs.Items.{packet_read, event_read};
+
+use receiver_rules::Arrival;
+use rist_ends::What;
+use rist_wire::{Item, Media, WireBad};
+use rtp_packet::MAX_PAYLOAD;
+
+/// The payload with its null packets in their places: a view of the datagram, or of the block where some were deleted.
+fn content_in<'a>(media: &Media<'a>, block: &'a mut [u8; MAX_PAYLOAD]) -> &'a [u8]
+    ensures value { result.now ≡ content_of media.now }
+    ensures within { length result.now ≤ MAX_PAYLOAD }
+    // The bits of its number fit their width.
+    ensures fits { media.now.word < cycle_of media.now.width }
+{
+    let payload = media.payload();
+    if media.is_whole() {
+        return payload;
+    }
+    let len = media.content(block);
+    &block[..len]
+}
+
+fn arrival_in<'a>(media: &Media<'a>, block: &'a mut [u8; MAX_PAYLOAD]) -> Arrival<'a>
+    ensures value { packet_of result ≡ packet_read media.now }
+    ensures fits { IsFitArrival result }
+{
+    Arrival {
+        flow: media.flow,
+        width: media.width,
+        word: media.word,
+        stamp: media.stamp,
+        payload: content_in(media, block),
+    }
+}
+
+/// What an item brings, or that there is none.
+pub fn what_of<'a>(
+    item: &'a Result<Item<'a>, WireBad>,
+    block: &'a mut [u8; MAX_PAYLOAD],
+) -> What<'a>
+    ensures value { (us : ℕ) → event_of us result ≡ event_read us item.now }
+    ensures fits { IsFitWhat result }
+    ensures going { IsNoEnd result }
+{
+    match item {
+        Ok(Item::Media(media)) => What::Media(arrival_in(media, block)),
+        Ok(Item::Control(compound)) => What::Control(compound),
+        Ok(Item::Keepalive(_)) => What::Keepalive,
+        Err(_) => What::Refused,
+    }
+}

@@ -1,0 +1,165 @@
+//! A worker's steps on the desk, and what they make on its link.
+ghost use Rattle.std.specs.Prelude.{◌≡◌, ◌<◌, [], ◌∷◌, ◌++◌, IfErr, OnOk, OnErr, ℕ, List, Some, option_map};
+ghost use Rattle.outside_io.specs.Causes.{HasCause, RoseWhere};
+ghost use Rattle.rist_reporter.specs.OneMore.{outs_of};
+ghost use Rattle.rist_ends.specs.Told.{IsFit};
+ghost use Rattle.rist_desk.specs.Made.{IsNoEnd, event_of};
+ghost use Rattle.rist_desk.specs.Items.{unmarked, datagram_step};
+ghost use Rattle.rist_desk.specs.Turns.{is_tick_due, tick_steps, ticked_after};
+ghost use Rattle.rist_desk.specs.Sending.{Goes, CutShort, holds, written, written_where};
+ghost use Rattle.rist_desk.specs.Inside.Links.{IsKept, IsInside, SentPart, has_link_failed};
+
+use crate::desk::Desk;
+use crate::ended::Ended;
+use crate::items::what_of;
+use crate::name::Name;
+use crate::trace::{StepTrace, keep};
+use outside_io::{Channel, Failed, Sink};
+use outside_net::{Link, Trace};
+use rist_ends::{Answer, Outs, Told, What};
+use rist_reporter::Out;
+use rist_wire::Opener;
+use rtp_packet::MAX_PAYLOAD;
+use std::sync::{Mutex, Wait};
+
+/// Writes what a step made to the link.
+fn send<L: Link>(link: &mut L, outs: &Outs) -> Result<(), Failed>
+    ensures ok { OnOk result (L.taken link.new
+        ≡ option_map (λ t. t ++ written (L.knows link.old) (outs_of outs.now)) (L.taken link.old)) }
+    ensures err { OnErr result (SentPart (L.knows link.old) (outs_of outs.now) (L.taken link.old) (L.taken link.new)) }
+    ensures same { IsKept L.reads L.ends L.knows link.old link.new }
+    ensures cause { HasCause (L.faults link.old) (L.faults link.new) result }
+{
+    match link.write(outs.first.channel(), outs.first.octets()) {
+        Ok(_) => {}
+        Err(failed) => return Err(failed),
+    }
+    match &outs.second {
+        Some(out) => match link.write(out.channel(), out.octets()) {
+            Ok(_) => Ok(()),
+            Err(failed) => Err(failed),
+        },
+        None => Ok(()),
+    }
+}
+
+/// Makes a step on the desk, keeps it in the worker's own trace, and writes what it made to the link. Where the trace is full it
+/// makes none.
+fn make_step<N: Name, T: StepTrace + Drop, K: Sink + Drop, L: Link, U: StepTrace, R: Wait>(
+    rt: &R,
+    desk: &Mutex<Desk<N, T, K>>,
+    link: &mut L,
+    own: &mut U,
+    outs: &mut Outs,
+    told: &Told<'_>,
+) -> Result<(), Ended>
+    requires fits { IsFit told.now }
+    requires going { IsNoEnd told.now.what }
+    ensures ok { OnOk result (Goes (L.knows link.old) (holds (U.list own.old) (L.taken link.old))
+        (holds (U.list own.new) (L.taken link.new))
+        (unmarked told.now.link told.now.us (event_of told.now.us told.now.what) ∷ [])) }
+    ensures err { IfErr result (λ end. CutShort (L.knows link.old) end (holds (U.list own.old) (L.taken link.old))
+        (holds (U.list own.new) (L.taken link.new))
+        (unmarked told.now.link told.now.us (event_of told.now.us told.now.what) ∷ [])) }
+    ensures inside { IfErr result IsInside }
+    ensures same { IsKept L.reads L.ends L.knows link.old link.new }
+    ensures cause { RoseWhere (has_link_failed result) (L.faults link.old) (L.faults link.new) }
+{
+    match own.room() {
+        Ok(()) => {}
+        Err(_) => return Err(Ended::TraceFull),
+    }
+    let stepped = desk.lock(rt).step(told, outs);
+    let answer = match stepped {
+        Ok(answer) => answer,
+        Err(_) => return Err(Ended::TraceFull),
+    };
+    keep(own, told, answer, outs);
+    match answer {
+        Answer::Stopped => Err(Ended::Stopped),
+        Answer::WriteFault => Err(Ended::WriteFault),
+        Answer::Spent => Err(Ended::Spent),
+        Answer::Verdict(_) => Ok(()),
+        Answer::Nothing => Ok(()),
+        Answer::Made => match send(link, outs) {
+            Ok(()) => Ok(()),
+            Err(_) => Err(Ended::Failed),
+        },
+    }
+}
+
+/// Makes the step of a datagram: of its item, or as one that was refused.
+pub fn step_datagram<N: Name, T: StepTrace + Drop, K: Sink + Drop, L: Link, U: StepTrace, R: Wait>(
+    rt: &R,
+    desk: &Mutex<Desk<N, T, K>>,
+    link: &mut L,
+    own: &mut U,
+    opener: &mut Opener,
+    outs: &mut Outs,
+    place: u8,
+    us: u64,
+    channel: Channel,
+    octets: &mut [u8],
+) -> Result<(), Ended>
+    requires place { place < 16 }
+    ensures ok { OnOk result (Goes (L.knows link.old) (holds (U.list own.old) (L.taken link.old))
+        (holds (U.list own.new) (L.taken link.new)) (datagram_step opener.old place us channel octets.old ∷ [])) }
+    ensures err { IfErr result (λ end. CutShort (L.knows link.old) end (holds (U.list own.old) (L.taken link.old))
+        (holds (U.list own.new) (L.taken link.new)) (datagram_step opener.old place us channel octets.old ∷ [])) }
+    ensures inside { IfErr result IsInside }
+    ensures same { IsKept L.reads L.ends L.knows link.old link.new }
+    ensures cause { RoseWhere (has_link_failed result) (L.faults link.old) (L.faults link.new) }
+    ensures opener { opener.new ≡ opener.old }
+{
+    let mut block = [0; MAX_PAYLOAD];
+    let item = opener.take(channel, octets);
+    let told = Told {
+        link: place,
+        us,
+        what: what_of(&item, &mut block),
+    };
+    make_step(rt, desk, link, own, outs, &told)
+}
+
+/// Makes a tick where one is due.
+pub fn step_tick<N: Name, T: StepTrace + Drop, K: Sink + Drop, L: Link, U: StepTrace, R: Wait>(
+    rt: &R,
+    desk: &Mutex<Desk<N, T, K>>,
+    link: &mut L,
+    own: &mut U,
+    outs: &mut Outs,
+    place: u8,
+    us: u64,
+    ticked: &mut Option<u64>,
+) -> Result<(), Ended>
+    requires place { place < 16 }
+    ensures ok { OnOk result (Goes (L.knows link.old) (holds (U.list own.old) (L.taken link.old))
+        (holds (U.list own.new) (L.taken link.new)) (tick_steps place us (is_tick_due ticked.old us))) }
+    ensures err { IfErr result (λ end. CutShort (L.knows link.old) end (holds (U.list own.old) (L.taken link.old))
+        (holds (U.list own.new) (L.taken link.new)) (tick_steps place us (is_tick_due ticked.old us))) }
+    ensures inside { IfErr result IsInside }
+    ensures same { IsKept L.reads L.ends L.knows link.old link.new }
+    ensures cause { RoseWhere (has_link_failed result) (L.faults link.old) (L.faults link.new) }
+    ensures ticked { ticked.new ≡ ticked_after ticked.old us }
+{
+    if is_due(*ticked, us) {
+        *ticked = Some(us);
+        let told = Told {
+            link: place,
+            us,
+            what: What::Tick,
+        };
+        return make_step(rt, desk, link, own, outs, &told);
+    }
+    Ok(())
+}
+
+/// 5,000 microseconds passed since the last tick, or there was none.
+fn is_due(ticked: Option<u64>, us: u64) -> bool
+    ensures value { result ≡ is_tick_due ticked us }
+{
+    match ticked {
+        None => true,
+        Some(last) => us.saturating_sub(last) >= 5000,
+    }
+}
