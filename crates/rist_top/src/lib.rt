@@ -3,6 +3,9 @@
 #![tactic(auto)]
 
 mod sealing;
+#[cfg(test)]
+mod send_tests;
+mod sending;
 mod sessions;
 mod status;
 mod telling;
