@@ -3,8 +3,6 @@
 #![tactic(auto)]
 
 mod sealing;
-#[cfg(test)]
-mod send_tests;
 mod sending;
 mod sessions;
 mod status;
