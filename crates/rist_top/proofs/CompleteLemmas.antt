@@ -13,7 +13,7 @@ use Rattle.rist_pack.specs.Packing.{Packs}
 use Rattle.rist_pack.specs.Capture.{packed_record, nonces_of}
 use Rattle.rist_pack.specs.declared.bad.PackBad.{PackBad}
 use Rattle.rist_pack.specs.declared.bad.PackBad.TheVariants as packs
-use Rattle.rist_words.specs.CommandLine.{CommandLine, Replay, Show, Pack}
+use Rattle.rist_words.specs.CommandLine.{CommandLine, Replay, Show, Pack, Send}
 use Rattle.rist_top.specs.Sessions.{session_with, pack_settings}
 use Rattle.outside_io.specs.Causes.{HasReadCause, HasWriteCause}
 use Rattle.rist_top.specs.Causes.{fault_of}
@@ -35,6 +35,9 @@ is_memory statuses.WriteFault = inr (λ e. cc)
 is_memory (statuses.BadCapture kind at) = inr (λ e. cc)
 is_memory statuses.EntropyFault = inr (λ e. cc)
 is_memory statuses.TooLong = inr (λ e. cc)
+is_memory statuses.LinksDown = inr (λ e. cc)
+is_memory statuses.Spent = inr (λ e. cc)
+is_memory statuses.TurnsSpent = inr (λ e. cc)
 
 walk_ends : (so_far whole : List Record → List ℕ) (b : List ℕ) (p : Passage) (status : Status) → IsWholeCapture b → p.had ≡ Some b
     → (status ≡ statuses.ReadFault → ⊥) → (status ≡ statuses.WriteFault → ⊥) → (status ≡ statuses.Memory → ⊥) → Walks so_far whole p status → status ≡ statuses.Done
@@ -63,7 +66,8 @@ work_ends IsKnown (Replay c) b p status input told read write words memory work 
 work_ends IsKnown (Show c) b p status input told read write words memory work = walk_ends _ _ b p status input told read write memory work
 work_ends IsKnown (Pack c) b p status input told read write words memory (inl failed) = absurd (words failed.0)
 work_ends IsKnown (Pack c) b p status input told read write words memory (inr work) =
-    pack_ends (packed_record (session_with c.session c.nulls c.wide) (nonces_of work.0) (pack_settings c)) b p status work.3.0 input told work.3.1 read write work.3.2
+    pack_ends (packed_record (session_with c.session c.stream.nulls c.stream.wide) (nonces_of work.0) (pack_settings c)) b p status work.3.0 input told work.3.1 read write work.3.2
+work_ends IsKnown (Send c) b p status input told read write words memory work = absurd work
 
 ran_done : {I O E L C : Type 0} (tells : Tells I O E) (old new : Shelf I O E L C) (c : CommandLine) (status : Status)
     (source : I) (b : List ℕ) → old.sources (source_name c) ≡ Here source → tells.remaining source ≡ Some b → IsWholeInput c b → NoneFailed tells old new c

@@ -3,3 +3,4 @@ pub mod ExactLemmas
 pub mod CompleteLemmas
 pub mod UntouchedLemmas
 pub mod LineLemmas
+pub mod SendLemmas

@@ -1,4 +1,5 @@
 -- Which call failed, by the status of a command.
+use Rattle.std.specs.Prelude.{◌≡◌, ◌⊎◌}
 use Rattle.outside_io.specs.Causes.{Fault, NoFault, Read, Write, Open}
 use Rattle.rist_top.specs.declared.status.Status.{Status}
 use Rattle.rist_top.specs.declared.status.Status.TheVariants as statuses
@@ -14,3 +15,10 @@ fault_of statuses.WriteFault = Write
 fault_of (statuses.BadCapture kind at) = NoFault
 fault_of statuses.EntropyFault = NoFault
 fault_of statuses.TooLong = NoFault
+fault_of statuses.LinksDown = NoFault
+fault_of statuses.Spent = NoFault
+fault_of statuses.TurnsSpent = NoFault
+
+-- nothing is begun where nothing is handed out, where memory is refused, or where random words fail
+abbrev pub CanRefuse : Status → Type 0
+CanRefuse status = (status ≡ statuses.OpenFault) ⊎ ((status ≡ statuses.Memory) ⊎ (status ≡ statuses.EntropyFault))

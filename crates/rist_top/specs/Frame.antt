@@ -1,15 +1,16 @@
 -- What a run leaves as it stood.
 use Rattle.std.specs.Prelude.{◌≡◌, ◌≢◌, ℕ, List, Bool, false, is_some}
 use Rattle.outside_host.specs.Shelf.{Shelf}
-use Rattle.rist_words.specs.CommandLine.{CommandLine, Replay, Show, Pack}
+use Rattle.rist_words.specs.CommandLine.{CommandLine, Replay, Show, Pack, Send}
 use Rattle.rist_top.specs.Places.{CameBack, KeepsLive}
 use Rattle.rist_top.specs.Ran.{source_name, sink_name}
 
--- whether a command draws random words: a packing under a passphrase
+-- whether a command draws random words: a packing or a sending under a passphrase
 abbrev pub draws_words : CommandLine → Bool
 draws_words (Replay c) = false
 draws_words (Show c) = false
 draws_words (Pack c) = is_some c.session.pass
+draws_words (Send c) = is_some c.session.pass
 
 -- what a line doesn't speak of stands as it stood, and what it speaks of came back: its source, its sink, and the first
 -- random words where it draws some

@@ -7,6 +7,7 @@ pub mod Sessions
 pub mod Works
 pub mod Places
 pub mod Sealing
+pub mod Sent
 pub mod Ran
 pub mod Frame
 pub mod Untouched

@@ -1,4 +1,4 @@
--- What is left where the sealer of a packing is made, or can't be.
+-- What is left where a sealer is made, or can't be.
 use Rattle.std.specs.Prelude.{◌≡◌, ◌≢◌, ℕ, Bool, false}
 use Rattle.psk_seal.specs.Nonces.{Draws}
 use Rattle.psk_seal.specs.Sealer.{SealerState}

@@ -1,12 +1,16 @@
 -- The session and the settings that a line speaks of.
-use Rattle.std.specs.Prelude.{Bool, false, if◌then◌else◌}
+use Rattle.std.specs.Prelude.{◌*◌, ℕ, List, length, Option, Some, None, Bool, false, if◌then◌else◌}
 use Rattle.seq_unwrap.specs.declared.width.Width.TheVariants.{W16, W32}
 use Rattle.receiver_rules.specs.declared.limits.Limits.{Limits}
 use Rattle.rist_wire.specs.declared.session.Session.{Session}
-use Rattle.rist_words.specs.CommandLine.{ReplayCommand, PackCommand}
+use Rattle.rist_words.specs.CommandLine.{ReplayCommand, PackCommand, SendCommand}
 use Rattle.rist_pack.specs.declared.settings.PackSettings.{PackSettings}
 use Rattle.rist_words.specs.CommandLine as lines
 use Rattle.rist_ends.specs.Settings.{limits_of, muted_settings}
+use Rattle.sender_rules.specs.Bonding.{Bonding, Duplicate, Share}
+use Rattle.rist_sender.specs.Calls.{Rules}
+use Rattle.rist_sender.specs.Sender.{has_keepalives}
+use Rattle.rist_send.specs.Run.{Setup}
 
 -- a session whose datagrams are written with null packets deleted, or with numbers of 32 bits
 abbrev pub session_with : lines.Session → Bool → Bool → Session
@@ -23,4 +27,34 @@ replay_limits c = limits_of (muted_settings c.delay c.span)
 
 -- the flow that a source is packed as
 abbrev pub pack_settings : PackCommand → PackSettings
-pack_settings c = record { flow = c.flow; first = c.first; gap = c.gap }
+pack_settings c = record { flow = c.stream.flow; first = c.stream.first; gap = c.gap }
+
+-- how so many links have a stream's packets: each has all, or they share them by their weights
+abbrev pub bonding_with : ℕ → Option (List ℕ) → Bonding
+bonding_with links None = Duplicate links
+bonding_with links (Some weights) = Share weights
+
+-- the session whose datagrams are sent
+abbrev pub session_sent : SendCommand → Session
+session_sent c = session_with c.session c.stream.nulls c.stream.wide
+
+-- what the sender of a sending is set to. A packet is sent again after `hold` milliseconds, 90 ticks each
+abbrev pub rules_sent : SendCommand → Rules
+rules_sent c = record {
+  flow = c.stream.flow;
+  first = c.stream.first;
+  hold = 90 * c.hold;
+  size = c.store;
+  bonding = bonding_with (length c.links) c.share;
+  nulls = c.stream.nulls;
+  keepalives = has_keepalives c.session.profile;
+}
+
+-- what its run is set to, with times in microseconds
+abbrev pub setup_sent : SendCommand → Setup
+setup_sent c = record {
+  settings = record { gap = c.gap; linger = 1000 * c.linger; turns = c.turns };
+  rules = rules_sent c;
+  session = session_sent c;
+  links = length c.links;
+}

@@ -2,7 +2,7 @@
 use Rattle.std.specs.Prelude.{ℕ, List, ◌++◌, codes, decimal}
 use Rattle.capture_file.specs.Text.{kind_text}
 use Rattle.rist_top.specs.declared.status.Status.{Status}
-use Rattle.rist_top.specs.declared.status.Status.TheVariants.{Done, Memory, Usage, OpenFault, ReadFault, WriteFault, BadCapture, EntropyFault, TooLong}
+use Rattle.rist_top.specs.declared.status.Status.TheVariants.{Done, Memory, Usage, OpenFault, ReadFault, WriteFault, BadCapture, EntropyFault, TooLong, LinksDown, Spent, TurnsSpent}
 
 -- for a bad capture the test that fails and the offset, in decimal digits
 abbrev pub text_of : Status → List ℕ
@@ -15,3 +15,6 @@ text_of WriteFault = codes "write failed"
 text_of (BadCapture kind at) = codes "bad capture: " ++ (kind_text kind ++ (codes " at " ++ decimal at))
 text_of EntropyFault = codes "no randomness"
 text_of TooLong = codes "input too long"
+text_of LinksDown = codes "all links down"
+text_of Spent = codes "keys spent"
+text_of TurnsSpent = codes "turns spent"

@@ -16,7 +16,7 @@ use Rattle.rist_pack.specs.Packing.{Packs}
 use Rattle.rist_pack.specs.Capture.{packed_record, nonces_of}
 use Rattle.rist_pack.specs.declared.bad.PackBad.{PackBad}
 use Rattle.rist_pack.specs.declared.bad.PackBad.TheVariants as packs
-use Rattle.rist_words.specs.CommandLine.{CommandLine, Replay, Show, Pack, ReplayCommand, ShowCommand, PackCommand}
+use Rattle.rist_words.specs.CommandLine.{CommandLine, Replay, Show, Pack, Send, Session, ReplayCommand, ShowCommand, PackCommand}
 use Rattle.rist_top.specs.Sessions.{session_with, session_read, replay_limits, pack_settings}
 use Rattle.rist_top.specs.declared.status.Status.{Status}
 use Rattle.rist_top.specs.declared.status.Status.TheVariants as statuses
@@ -50,11 +50,11 @@ Walks so_far whole p status = (end : Result Unit WalkBad) × (status ≡ walk_st
 abbrev pub PacksAs : PackCommand → Option SealerState → Passage → Status → Type 0
 PacksAs c sealer p status =
     (end : Result Unit PackBad) × (status ≡ pack_status end)
-    × Packs (packed_record (session_with c.session c.nulls c.wide) (nonces_of sealer) (pack_settings c)) p end
+    × Packs (packed_record (session_with c.session c.stream.nulls c.stream.wide) (nonces_of sealer) (pack_settings c)) p end
 
--- the sealer of a packing: one that has given no pair, exactly where there is a passphrase
-pub record IsFreshFor (c : PackCommand) (sealer : Option SealerState) : Type 0 where
-  pub paired : is_some sealer ≡ is_some c.session.pass
+-- the sealer of a session: one that has given no pair, exactly where there is a passphrase
+pub record IsFreshFor (s : Session) (sealer : Option SealerState) : Type 0 where
+  pub paired : is_some sealer ≡ is_some s.pass
   pub fresh : IfSome sealer (λ s. s.given ≡ 0)
   pub nonces : IfSome sealer (λ s. AreNonces s.nonces)
 
@@ -67,10 +67,12 @@ Replays c p status =
 abbrev pub Shows : ShowCommand → Passage → Status → Type 0
 Shows c p status = Walks (lines (session_read c.session)) (lines (session_read c.session)) p status
 
--- what a command leaves of its source and its sink, where they tell, and what else is known of the sealer of a packing
+-- what a command leaves of its source and its sink, where they tell, and what else is known of the sealer of a packing. A sending has
+-- no sink: `Sent` is for it.
 abbrev pub Works : (SealerState → Type 0) → CommandLine → Passage → Status → Type 0
 Works IsKnown (Replay c) p status = Replays c p status
 Works IsKnown (Show c) p status = Shows c p status
 Works IsKnown (Pack c) p status =
     ((status ≡ statuses.EntropyFault) × (p.left ≡ p.had) × (p.holds ≡ p.held))
-    ⊎ ((sealer : Option SealerState) × IsFreshFor c sealer × IfSome sealer IsKnown × PacksAs c sealer p status)
+    ⊎ ((sealer : Option SealerState) × IsFreshFor c.session sealer × IfSome sealer IsKnown × PacksAs c sealer p status)
+Works IsKnown (Send c) p status = ⊥

@@ -3,6 +3,7 @@
 #![tactic(auto)]
 
 mod sealing;
+mod sending;
 mod sessions;
 mod status;
 mod telling;

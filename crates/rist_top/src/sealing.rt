@@ -1,30 +1,33 @@
-//! The sealer of a packing.
+//! The sealer of a packing or a sending.
 ghost use Rattle.std.specs.Prelude.{IsTrue, IfOk, IfSome, IsErrOf, is_some};
 ghost use Rattle.outside_io.specs.Causes.{HasOpenCause};
 ghost use Rattle.outside_host.specs.Shelf.{Stays};
-ghost use Rattle.rist_words.specs.Shown.{shown_pack};
-ghost use Rattle.rist_top.specs.Causes.{fault_of};
+ghost use Rattle.rist_words.specs.Shown.{shown_session};
+ghost use Rattle.rist_top.specs.Causes.{CanRefuse, fault_of};
 ghost use Rattle.rist_top.specs.Lines.{IsFresh};
 ghost use Rattle.rist_top.specs.Works.{IsFreshFor};
 ghost use Rattle.rist_top.specs.Sealing.{KeepsObjects, DrawnFirst, FailedAt};
-ghost use Rattle.rist_top.specs.Inside.Answers.{CanRefuse, OnErrIs, status_of};
+ghost use Rattle.rist_top.specs.Inside.Answers.{OnErrIs, status_of};
 ghost use Rattle.rist_top.specs.declared.status.Status.TheVariants as statuses;
 
 use crate::status::Status;
 use crate::telling::Telling;
 use outside_host::Host;
 use psk_seal::Sealer;
-use rist_words::PackLine;
+use rist_words::SessionWords;
 
-/// The sealer of a line that has a passphrase: its nonces are drawn from the host's first source of random words.
-pub fn sealer_for<H: Host>(host: &mut H, line: &PackLine<'_>) -> Result<Option<Sealer>, Status>
-    ensures ok { IfOk result (λ sealer. IsFreshFor (shown_pack line.now) sealer) }
+/// The sealer of a session that has a passphrase: its nonces are drawn from the host's first source of random words.
+pub fn sealer_for<H: Host>(
+    host: &mut H,
+    session: &SessionWords<'_>,
+) -> Result<Option<Sealer>, Status>
+    ensures ok { IfOk result (λ sealer. IsFreshFor (shown_session session.now) sealer) }
     ensures err { OnErrIs result CanRefuse }
     ensures drawn { IsFresh H.tells (H.shelf host.old)
         → IfOk result (λ sealer. IfSome sealer
         (DrawnFirst ⟦<H as Telling>⟧.objects (H.shelf host.old).entropies (H.shelf host.new).entropies)) }
     ensures others { IsTrue H.tells
-        → KeepsObjects (H.shelf host.old) (H.shelf host.new) (is_some (shown_pack line.now).session.pass) }
+        → KeepsObjects (H.shelf host.old) (H.shelf host.new) (is_some (shown_session session.now).pass) }
     // Words are drawn only where a sealer is made, or where they fail.
     ensures closed { IsTrue H.tells → IsErrOf result statuses.OpenFault
         → Stays (H.shelf host.old).entropies (H.shelf host.new).entropies }
@@ -34,7 +37,7 @@ pub fn sealer_for<H: Host>(host: &mut H, line: &PackLine<'_>) -> Result<Option<S
     ensures random { IsFresh H.tells (H.shelf host.old) → IsErrOf result statuses.EntropyFault
         → FailedAt ⟦<H as Telling>⟧.objects (H.shelf host.old) (H.shelf host.new) }
 {
-    if line.session.pass.is_none() {
+    if session.pass.is_none() {
         return Ok(None);
     }
     let mut words = match host.entropy() {

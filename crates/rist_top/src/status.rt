@@ -3,6 +3,7 @@ use capture_file::CapKind;
 use capture_walk::WalkBad;
 use outside_host::HostBad;
 use rist_pack::PackBad;
+use rist_send::SendFault;
 use std::fmt::{self, Display, Formatter, Write};
 
 /// How a command ended.
@@ -26,6 +27,12 @@ pub enum Status {
     EntropyFault,
     /// A record ends, or what was read of a source goes, past 2^40 octets.
     TooLong,
+    /// Every link of a sending is down: a write on each has failed.
+    LinksDown,
+    /// The sealer had no pair for the next datagram, or the sequence numbers have ended.
+    Spent,
+    /// The turns of a sending were made before its source's end.
+    TurnsSpent,
 }
 
 impl Status {
@@ -46,6 +53,9 @@ impl Status {
             Status::BadCapture(..) => 7,
             Status::EntropyFault => 11,
             Status::TooLong => 12,
+            Status::LinksDown => 6,
+            Status::Spent => 10,
+            Status::TurnsSpent => 13,
         }
     }
 }
@@ -53,6 +63,7 @@ impl Status {
 impl Status {
     ghost use Rattle.std.specs.Prelude.{◌≡◌};
     ghost use Rattle.rist_top.specs.Works.{walk_status, pack_status, host_status};
+    ghost use Rattle.rist_top.specs.Sent.{send_status};
 
     /// How a walk over a capture ended.
     pub(crate) fn of_walk(end: Result<(), WalkBad>) -> Status
@@ -77,6 +88,20 @@ impl Status {
             Err(PackBad::ReadFault) => Status::ReadFault,
             Err(PackBad::WriteFault) => Status::WriteFault,
             Err(PackBad::TooLong) => Status::TooLong,
+        }
+    }
+
+    /// How a sending ended.
+    pub(crate) fn of_sending(end: Result<(), SendFault>) -> Status
+        ensures value { result ≡ send_status end }
+    {
+        match end {
+            Ok(()) => Status::Done,
+            Err(SendFault::ReadFault) => Status::ReadFault,
+            Err(SendFault::LinksDown) => Status::LinksDown,
+            Err(SendFault::Spent) => Status::Spent,
+            Err(SendFault::TooLong) => Status::TooLong,
+            Err(SendFault::TurnsSpent) => Status::TurnsSpent,
         }
     }
 
@@ -108,6 +133,9 @@ impl Display for Status {
             Status::BadCapture(kind, at) => write!(f, "bad capture: {kind} at {at}"),
             Status::EntropyFault => f.write_str("no randomness"),
             Status::TooLong => f.write_str("input too long"),
+            Status::LinksDown => f.write_str("all links down"),
+            Status::Spent => f.write_str("keys spent"),
+            Status::TurnsSpent => f.write_str("turns spent"),
         }
     }
 }

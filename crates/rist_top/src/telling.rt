@@ -1,5 +1,6 @@
 //! What the objects of a host tell, as one value of the contracts.
 ghost use Rattle.rist_top.specs.Objects.{Tells};
+ghost use Rattle.rist_top.specs.Sent.{TellsLive};
 
 use outside_host::Host;
 
@@ -7,6 +8,9 @@ use outside_host::Host;
 pub trait Telling: Host {
     /// What its sources, its sinks and its random words tell.
     ghost objects: { Tells Self.Input Self.Output Self.Random };
+
+    /// What its links and its clocks tell.
+    ghost live: { TellsLive Self.Wire Self.Time };
 }
 
 impl<H: Host> Telling for H {
@@ -17,5 +21,16 @@ impl<H: Host> Telling for H {
       write_faults = H.Output.faults;
       words = H.Random.remaining;
       word_faults = H.Random.faults;
+    } };
+
+    ghost live = { record {
+      line = record {
+        taken = H.Wire.taken;
+        knows = H.Wire.knows;
+        faults = H.Wire.faults;
+        reads = H.Wire.reads;
+        ends = H.Wire.ends;
+      };
+      moments = H.Time.moments;
     } };
 }

@@ -1,17 +1,19 @@
 //! The top call, and a line from its objects to its status.
 ghost use Rattle.std.specs.Prelude.{◌≡◌, ◌≢◌, ◌⊎◌, IsTrue};
 ghost use Rattle.outside_io.specs.Causes.{HasOpenCause, Rose};
-ghost use Rattle.rist_words.specs.CommandLine.{Replay, ReplayCommand};
+ghost use Rattle.rist_words.specs.CommandLine.{Replay, ReplayCommand, Send, SendCommand};
 ghost use Rattle.rist_words.specs.Shown.{shown};
 ghost use Rattle.rist_words.specs.Ranges.{IsInRange};
-ghost use Rattle.rist_top.specs.Causes.{fault_of};
-ghost use Rattle.rist_top.specs.Lines.{IsLine, IsNoLine, IfLine, IsFresh};
+ghost use Rattle.rist_top.specs.Causes.{CanRefuse, fault_of};
+ghost use Rattle.rist_top.specs.Lines.{IsLine, IsNoLine, IsOverFiles, IfFiles, IfSending, IsFresh};
 ghost use Rattle.rist_top.specs.Ran.{Ran, source_name, sink_name};
 ghost use Rattle.rist_top.specs.Frame.{KeepsOthers, OpensSourceFirst};
 ghost use Rattle.rist_top.specs.Untouched.{Untouched, LeavesAtMemory};
 ghost use Rattle.rist_top.specs.Exact.{WritesReached};
+ghost use Rattle.rist_top.specs.Sent.{IsUnused, Sent, Unsent};
 ghost use Rattle.rist_top.specs.Complete.{Completes};
 
+use crate::sending::send_line;
 use crate::status::Status;
 use crate::telling::Telling;
 use crate::working::{Worked, work};
@@ -31,23 +33,23 @@ pub fn run<H: Host>(alloc: Global, words: &[String], host: &mut H) -> Status
     // What is no line touches nothing, and a line only what it speaks of.
     ensures same { IsTrue H.tells → IsNoLine words.now → H.shelf host.new ≡ H.shelf host.old }
     ensures others { IsFresh H.tells (H.shelf host.old)
-        → IfLine words.now (λ c. KeepsOthers (H.shelf host.old) (H.shelf host.new) c) }
+        → IfFiles words.now (λ c. KeepsOthers (H.shelf host.old) (H.shelf host.new) c) }
 
     // A sink is opened only after its source.
     ensures order { IsTrue H.tells
-        → IfLine words.now (λ c. OpensSourceFirst (H.shelf host.old) (H.shelf host.new) c) }
+        → IfFiles words.now (λ c. OpensSourceFirst (H.shelf host.old) (H.shelf host.new) c) }
 
     // Every other answer but want of memory is about what the host's objects tell.
     ensures ran { IsFresh H.tells (H.shelf host.old) → result ≢ Status.OpenFault → result ≢ Status.Memory
-        → IfLine words.now (λ c.
+        → IfFiles words.now (λ c.
         Ran ⟦<H as Telling>⟧.objects (H.shelf host.old) (H.shelf host.new) c result) }
 
     // Where nothing can be opened, all comes back as it was.
     ensures closed { IsTrue H.tells → result ≡ Status.OpenFault
-        → IfLine words.now (λ c. Untouched (H.shelf host.old) (H.shelf host.new) c) }
+        → IfFiles words.now (λ c. Untouched (H.shelf host.old) (H.shelf host.new) c) }
     // Where memory is refused, a packing has touched nothing. A walk over a capture may have written what it read before.
     ensures memory { IsFresh H.tells (H.shelf host.old) → result ≡ Status.Memory
-        → IfLine words.now (λ c.
+        → IfFiles words.now (λ c.
         LeavesAtMemory ⟦<H as Telling>⟧.objects (H.shelf host.old) (H.shelf host.new) c) }
 
     // What a replay leaves is the exact release set, in sent numbers.
@@ -55,9 +57,17 @@ pub fn run<H: Host>(alloc: Global, words: &[String], host: &mut H) -> Status
         → IsFresh H.tells (H.shelf host.old) → result ≡ Status.Done
         → WritesReached ⟦<H as Telling>⟧.objects (H.shelf host.old) (H.shelf host.new) c }
 
+    // A source is sent onto the links of its line by the first clock, and source, links and clock come back; or nothing
+    // was read of it and nothing written.
+    ensures sent { IsUnused H.tells (H.shelf host.old) → (CanRefuse result → ⊥)
+        → IfSending words.now (λ c.
+        Sent ⟦<H as Telling>⟧.objects ⟦<H as Telling>⟧.live (H.shelf host.old) (H.shelf host.new) c result) }
+    ensures unsent { IsUnused H.tells (H.shelf host.old) → CanRefuse result
+        → IfSending words.now (λ c. Unsent (H.shelf host.old) (H.shelf host.new) c) }
+
     // Where no call fails, a capture is taken to its end, and so is a source.
     ensures complete { IsFresh H.tells (H.shelf host.old) → (Rose (H.faults host.old) (H.faults host.new) → ⊥)
-        → IfLine words.now (λ c.
+        → IfFiles words.now (λ c.
         Completes ⟦<H as Telling>⟧.objects (H.shelf host.old) (H.shelf host.new) c result) }
 {
     match line(alloc, words) {
@@ -70,6 +80,39 @@ pub fn run<H: Host>(alloc: Global, words: &[String], host: &mut H) -> Status
 /// Does a line.
 fn run_line<H: Host>(alloc: Global, host: &mut H, line: &Line<'_>) -> Status
     requires range { IsInRange (shown line.now) }
+    ensures line { result ≢ Status.Usage }
+    ensures opened { HasOpenCause (fault_of result) (H.faults host.old) (H.faults host.new) }
+    ensures others { IsFresh H.tells (H.shelf host.old) → IsOverFiles (shown line.now)
+        → KeepsOthers (H.shelf host.old) (H.shelf host.new) (shown line.now) }
+    ensures order { IsTrue H.tells → IsOverFiles (shown line.now)
+        → OpensSourceFirst (H.shelf host.old) (H.shelf host.new) (shown line.now) }
+    ensures ran { IsFresh H.tells (H.shelf host.old) → result ≢ Status.OpenFault → result ≢ Status.Memory
+        → IsOverFiles (shown line.now)
+        → Ran ⟦<H as Telling>⟧.objects (H.shelf host.old) (H.shelf host.new) (shown line.now) result }
+    ensures closed { IsTrue H.tells → result ≡ Status.OpenFault → IsOverFiles (shown line.now)
+        → Untouched (H.shelf host.old) (H.shelf host.new) (shown line.now) }
+    ensures memory { IsFresh H.tells (H.shelf host.old) → result ≡ Status.Memory → IsOverFiles (shown line.now)
+        → Untouched (H.shelf host.old) (H.shelf host.new) (shown line.now)
+        ⊎ Ran ⟦<H as Telling>⟧.objects (H.shelf host.old) (H.shelf host.new) (shown line.now) result }
+    ensures sent { (c : SendCommand) → shown line.now ≡ Send c
+        → IsUnused H.tells (H.shelf host.old) → (CanRefuse result → ⊥)
+        → Sent ⟦<H as Telling>⟧.objects ⟦<H as Telling>⟧.live (H.shelf host.old) (H.shelf host.new) c result }
+    ensures unsent { (c : SendCommand) → shown line.now ≡ Send c
+        → IsUnused H.tells (H.shelf host.old) → CanRefuse result
+        → Unsent (H.shelf host.old) (H.shelf host.new) c }
+{
+    match line {
+        Line::Replay(_) => file_line(alloc, host, line),
+        Line::Show(_) => file_line(alloc, host, line),
+        Line::Pack(_) => file_line(alloc, host, line),
+        Line::Send(line) => send_line(alloc, host, line),
+    }
+}
+
+/// Does a line over a source and a sink.
+fn file_line<H: Host>(alloc: Global, host: &mut H, line: &Line<'_>) -> Status
+    requires range { IsInRange (shown line.now) }
+    requires files { IsOverFiles (shown line.now) }
     ensures line { result ≢ Status.Usage }
     ensures opened { HasOpenCause (fault_of result) (H.faults host.old) (H.faults host.new) }
     ensures others { IsFresh H.tells (H.shelf host.old)
@@ -112,16 +155,19 @@ fn source_name<'a>(line: &Line<'a>) -> &'a str
         Line::Replay(line) => line.capture,
         Line::Show(line) => line.capture,
         Line::Pack(line) => line.source,
+        Line::Send(line) => line.source,
     }
 }
 
-/// The name of a line's sink.
+/// The name of the sink of a line that has one.
 fn sink_name<'a>(line: &Line<'a>) -> &'a str
+    requires files { IsOverFiles (shown line.now) }
     ensures value { result.now ≡ sink_name (shown line.now) }
 {
     match line {
         Line::Replay(line) => line.out,
         Line::Show(_) => "-",
         Line::Pack(line) => line.capture,
+        Line::Send(_) => unreachable!(),
     }
 }

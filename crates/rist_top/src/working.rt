@@ -5,7 +5,7 @@ ghost use Rattle.rist_words.specs.Shown.{shown, shown_session, shown_replay, sho
 ghost use Rattle.rist_words.specs.Ranges.{IsInRange, IsInSession, IsInReplay, IsInPack};
 ghost use Rattle.rist_top.specs.Causes.{fault_of};
 ghost use Rattle.rist_top.specs.Frame.{draws_words};
-ghost use Rattle.rist_top.specs.Lines.{IsFresh};
+ghost use Rattle.rist_top.specs.Lines.{IsFresh, IsOverFiles};
 ghost use Rattle.rist_top.specs.Objects.{passage};
 ghost use Rattle.rist_top.specs.Works.{Works, Replays, Shows, PacksAs, IsFreshFor};
 ghost use Rattle.rist_top.specs.Sealing.{KeepsObjects, DrawnFirst, FailedAt};
@@ -103,7 +103,7 @@ pub fn pack_line<S: Source, K: Sink>(
     sink: K,
 ) -> Worked<S, K>
     requires range { IsInPack (shown_pack line.now) }
-    requires fresh { IsFreshFor (shown_pack line.now) sealer }
+    requires fresh { IsFreshFor (shown_pack line.now).session sealer }
     ensures line { IsOwn result.status }
     ensures work { PacksAs (shown_pack line.now) sealer
         (record {
@@ -115,10 +115,10 @@ pub fn pack_line<S: Source, K: Sink>(
     ensures read { HasReadCause (fault_of result.status) (S.faults source) (S.faults result.source) }
     ensures write { HasWriteCause (fault_of result.status) (K.faults sink) (K.faults result.sink) }
 {
-    let session = session_of(&line.session, line.nulls, line.wide);
+    let session = session_of(&line.session, line.stream.nulls, line.stream.wide);
     let settings = PackSettings {
-        flow: line.flow,
-        first: line.first,
+        flow: line.stream.flow,
+        first: line.stream.first,
         gap: line.gap,
     };
     let mut capture = Writer::over(sink);
@@ -139,6 +139,7 @@ pub fn work<H: Host>(
     sink: H::Output,
 ) -> Worked<H::Input, H::Output>
     requires range { IsInRange (shown line.now) }
+    requires files { IsOverFiles (shown line.now) }
     ensures line { result.status ≢ Status.Usage }
     ensures work { IsFresh H.tells (H.shelf host.old)
         → result.status ≢ Status.OpenFault → result.status ≢ Status.Memory
@@ -165,7 +166,7 @@ pub fn work<H: Host>(
     match line {
         Line::Replay(line) => replay_line(alloc, line, source, sink),
         Line::Show(line) => show_line(alloc, line, source, sink),
-        Line::Pack(line) => match sealer_for(host, line) {
+        Line::Pack(line) => match sealer_for(host, &line.session) {
             Ok(sealer) => pack_line(line, sealer, source, sink),
             Err(status) => Worked {
                 source,
@@ -173,5 +174,6 @@ pub fn work<H: Host>(
                 status,
             },
         },
+        Line::Send(_) => unreachable!(),
     }
 }

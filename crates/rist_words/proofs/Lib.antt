@@ -2,3 +2,4 @@ pub mod CommandLemmas
 pub mod ParseLemmas
 pub mod RangeLemmas
 mod Rows
+pub mod LinkLemmas

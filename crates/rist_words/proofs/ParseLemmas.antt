@@ -13,7 +13,7 @@ use Rattle.clap.specs.Facts.{Entry}
 use Rattle.clap.specs.Walk.{row_of}
 use Rattle.clap.specs.declared.parser.matches.Found.{Found}
 use Rattle.clap.specs.declared.ArgMatches.{ArgMatches}
-use Rattle.clap.specs.Words.{App, Kinds, HasKind, HasMatchesOf, Text, fault_of, first_of, first_value, is_simple, is_simple_and_free, kind_of, rows_of, subcommand_of, subcommand_rows_of}
+use Rattle.clap.specs.Words.{App, Kinds, HasKind, HasMatchesOf, Text, all_of, fault_of, first_of, first_value, matched_of, raw_values, is_simple, is_simple_and_free, kind_of, rows_of, subcommand_of, subcommand_rows_of}
 use Rattle.clap.specs.declared.error.Error.{Error}
 use Rattle.clap.specs.declared.error.ErrorKind.TheVariants.{OutOfMemory}
 use Rattle.clap.proofs.OnLiterals.{clap_on_literals}
@@ -68,6 +68,23 @@ value_among_rows id (e ∷ es) = value_step id e es (bytes_eq e.0.now id) refl (
 -- a value of a parse is that of its rows
 pub first_of_found : (f : Found) (id : List ℕ) → first_value f id ≡ first_of id (rows_of f)
 first_of_found f id = value_among_rows id f.entries.items
+
+-- all values of the first entry with an id, among these entries; and among their rows
+abbrev values_among : List ℕ → List Entry → Option (List (List ℕ))
+values_among id es = option_map raw_values (option_map (λ e. e.1) (find (λ e. bytes_eq e.0.now id) es))
+
+values_step : (id : List ℕ) (e : Entry) (es : List Entry) (t : Bool) → bytes_eq e.0.now id ≡ t → values_among id es ≡ all_of id (map row_of es)
+    → values_among id (e ∷ es) ≡ all_of id (map row_of (e ∷ es))
+values_step id e es true is rest = rw is refl
+values_step id e es false is rest = rw is rest
+
+values_among_rows : (id : List ℕ) (es : List Entry) → values_among id es ≡ all_of id (map row_of es)
+values_among_rows id [] = refl
+values_among_rows id (e ∷ es) = values_step id e es (bytes_eq e.0.now id) refl (values_among_rows id es)
+
+-- all values of a parse are those of its rows
+pub all_of_found : (f : Found) (id : List ℕ) → option_map raw_values (matched_of f id) ≡ all_of id (rows_of f)
+all_of_found f id = values_among_rows id f.entries.items
 
 -- digits parse to their number where it fits
 own : IsNumeralModel (λ ds. list_all is_ascii_digit ds ≡ true) (digits_value 10)

@@ -3,7 +3,7 @@ use Rattle.std.proofs.Common.{◌≡◌, [], ◌∷◌, Some, None, codes, false
 use Rattle.clap.proofs.OnLiterals.{clap_on_literals}
 use Rattle.outside_io.specs.declared.profile.Profile.TheVariants.{Main, Simple}
 use Rattle.rist_words.specs.Commands.{command_in, faults_of}
-use Rattle.rist_words.specs.CommandLine.{Pack, Replay, Session, Show, line_of}
+use Rattle.rist_words.specs.CommandLine.{Pack, Replay, Send, Session, Show, Stream, line_of}
 
 -- a session without options
 abbrev plain : Session
@@ -57,10 +57,44 @@ unfolding clap_on_literals faults_of command_in
 sealed_in_simple = refl
 
 wide : line_of (codes "rist" ∷ codes "pack" ∷ codes "--profile=main" ∷ codes "--wide" ∷ codes "a" ∷ codes "b" ∷ codes "--first=65536" ∷ [])
-    ≡ Some (Pack (record { source = codes "a"; capture = codes "b"; session = record plain { profile = Main }; nulls = false; wide = true; flow = 270544960; first = 65536; gap = 1000 }))
+    ≡ Some (Pack (record {
+      source = codes "a";
+      capture = codes "b";
+      session = record plain { profile = Main };
+      stream = record { nulls = false; wide = true; flow = 270544960; first = 65536 };
+      gap = 1000;
+    }))
 unfolding clap_on_literals faults_of command_in
 wide = refl
 
 not_wide : line_of (codes "rist" ∷ codes "pack" ∷ codes "--profile=main" ∷ codes "a" ∷ codes "b" ∷ codes "--first=65536" ∷ []) ≡ None
 unfolding clap_on_literals faults_of command_in
 not_wide = refl
+
+-- a stream without options
+abbrev plain_stream : Stream
+plain_stream = record { nulls = false; wide = false; flow = 270544960; first = 0 }
+
+shared : line_of (codes "rist" ∷ codes "send" ∷ codes "-" ∷ codes "127.0.0.1:5000" ∷ codes "--share=3:1" ∷ codes "010.0.0.255:5002" ∷ [])
+    ≡ Some (Send (record {
+      source = codes "-";
+      links = record { address = 127 ∷ 0 ∷ 0 ∷ 1 ∷ []; port = 5000 } ∷ record { address = 10 ∷ 0 ∷ 0 ∷ 255 ∷ []; port = 5002 } ∷ [];
+      session = plain;
+      stream = plain_stream;
+      gap = 1000;
+      store = 4096;
+      hold = 20;
+      share = Some (3 ∷ 1 ∷ []);
+      linger = 1000;
+      turns = 1099511627776;
+    }))
+unfolding clap_on_literals faults_of command_in
+shared = refl
+
+odd_port : line_of (codes "rist" ∷ codes "send" ∷ codes "a" ∷ codes "127.0.0.1:5001" ∷ []) ≡ None
+unfolding clap_on_literals faults_of command_in
+odd_port = refl
+
+no_link : line_of (codes "rist" ∷ codes "send" ∷ codes "a" ∷ []) ≡ None
+unfolding clap_on_literals faults_of command_in
+no_link = refl

@@ -1,11 +1,13 @@
 -- What a command line is: the command with all its values, where the words are taken and each value reads (this profile).
-use Rattle.std.specs.Prelude.{Bool, ℕ, List, [], ◌∷◌, Option, Some, None, option_and_then, option_map, if◌then◌else◌, codes}
+use Rattle.std.specs.Prelude.{Bool, ℕ, List, [], ◌∷◌, length, Option, Some, None, option_and_then, option_map, if◌then◌else◌, codes}
 use Rattle.std.specs.Str.{bytes_eq}
-use Rattle.clap.specs.Words.{Kinds, Row, Text, first_of}
+use Rattle.clap.specs.Words.{Kinds, Row, Text, all_of, first_of}
 use Rattle.outside_io.specs.declared.profile.Profile.{Profile}
 use Rattle.rist_words.specs.declared.values.Numbers.{Numbers}
 use Rattle.rist_words.specs.Commands.{faults_of, command_in}
-use Rattle.rist_words.specs.Values.{flag_of, name_of, number_of, phrase_of, profile_of}
+use Rattle.outside_net.specs.declared.link_spec.LinkSpec.{LinkSpec}
+use Rattle.rist_words.specs.Values.{flag_of, name_of, number_of, phrase_of, profile_of, ◌>>=◌}
+use Rattle.rist_words.specs.Links.{links_of, shares_of}
 
 -- how the datagrams of a session are made: the UDP port of media, the passphrase if there is one, and the bits of its key
 pub record Session : Type 0 where
@@ -27,23 +29,43 @@ pub record ShowCommand : Type 0 where
   pub capture : Text
   pub session : Session
 
--- a capture of a stream's datagrams: whether null packets are deleted and sequence numbers have 32 bits, the SSRC, the first
--- sequence number, the time between two datagrams in microseconds
-pub record PackCommand : Type 0 where
-  pub source : Text
-  pub capture : Text
-  pub session : Session
+-- how the datagrams of a stream are made: whether null packets are deleted and sequence numbers have 32 bits, the SSRC and
+-- the first sequence number
+pub record Stream : Type 0 where
   pub nulls : Bool
   pub wide : Bool
   pub flow : ℕ
   pub first : ℕ
+
+-- a capture of a stream's datagrams, with the time between two of them in microseconds
+pub record PackCommand : Type 0 where
+  pub source : Text
+  pub capture : Text
+  pub session : Session
+  pub stream : Stream
   pub gap : ℕ
+
+-- a stream sent on links: the time between two datagrams in microseconds; how many packets are stored, and for how many
+-- milliseconds none is sent again; the links' weights, where they share the stream; for how many milliseconds requests are
+-- answered after the source's end; how many turns are made at most
+pub record SendCommand : Type 0 where
+  pub source : Text
+  pub links : List LinkSpec
+  pub session : Session
+  pub stream : Stream
+  pub gap : ℕ
+  pub store : ℕ
+  pub hold : ℕ
+  pub share : Option (List ℕ)
+  pub linger : ℕ
+  pub turns : ℕ
 
 -- what the program is told to do
 pub data CommandLine : Type 0 where
   Replay : ReplayCommand → CommandLine
   Show : ShowCommand → CommandLine
   Pack : PackCommand → CommandLine
+  Send : SendCommand → CommandLine
 
 -- the numbers that each option takes. Those of `--port`: an even UDP port
 abbrev pub ports : Numbers
@@ -73,11 +95,21 @@ firsts wide = record { default = 0; least = 0; most = if wide then 4294967295 el
 abbrev pub gaps : Numbers
 gaps = record { default = 1000; least = 1; most = 1000000; multiple_of = 1 }
 
--- one reading after another: where one fails, all do
-infixl 10 ◌>>=◌
-abbrev pub ◌>>=◌ : {A B : Type 0} → Option A → (A → Option B) → Option B
-None >>= f = None
-(Some x) >>= f = f x
+-- `--store`, in packets
+abbrev pub stores : Numbers
+stores = record { default = 4096; least = 1; most = 65536; multiple_of = 1 }
+
+-- `--hold`, in milliseconds
+abbrev pub holds : Numbers
+holds = record { default = 20; least = 1; most = 1000; multiple_of = 1 }
+
+-- `--linger`, in milliseconds
+abbrev pub lingers : Numbers
+lingers = record { default = 1000; least = 0; most = 60000; multiple_of = 1 }
+
+-- `--turns`
+abbrev pub turn_counts : Numbers
+turn_counts = record { default = 1099511627776; least = 1; most = 1099511627776; multiple_of = 1 }
 
 -- the session that a command's values give
 abbrev pub session_of : List Row → Option Session
@@ -105,25 +137,47 @@ show_of rows = do
   session ← session_of rows
   Some (record { capture = capture; session = session })
 
--- the values of a packing. Its flags are those of the session's profile, and the first number is one of its width
+-- the stream that a command's values give. Its flags are those of the session's profile, and the first number is one of its width
+abbrev pub stream_of : Profile → List Row → Option Stream
+stream_of profile rows = do
+  nulls ← flag_of profile (first_of (codes "nulls") rows)
+  wide ← flag_of profile (first_of (codes "wide") rows)
+  flow ← number_of flows (first_of (codes "flow") rows)
+  first ← number_of (firsts wide) (first_of (codes "first") rows)
+  Some (record { nulls = nulls; wide = wide; flow = flow; first = first })
+
+-- the values of a packing
 abbrev pub pack_of : List Row → Option PackCommand
 pack_of rows = do
   source ← name_of (first_of (codes "source") rows)
   capture ← name_of (first_of (codes "capture") rows)
   session ← session_of rows
-  nulls ← flag_of session.profile (first_of (codes "nulls") rows)
-  wide ← flag_of session.profile (first_of (codes "wide") rows)
-  flow ← number_of flows (first_of (codes "flow") rows)
-  first ← number_of (firsts wide) (first_of (codes "first") rows)
+  stream ← stream_of session.profile rows
   gap ← number_of gaps (first_of (codes "gap") rows)
-  Some (record { source = source; capture = capture; session = session; nulls = nulls; wide = wide; flow = flow; first = first; gap = gap })
+  Some (record { source = source; capture = capture; session = session; stream = stream; gap = gap })
+
+-- the values of a sending
+abbrev pub send_of : List Row → Option SendCommand
+send_of rows = do
+  source ← name_of (first_of (codes "source") rows)
+  session ← session_of rows
+  links ← links_of session.profile (all_of (codes "link") rows)
+  stream ← stream_of session.profile rows
+  gap ← number_of gaps (first_of (codes "gap") rows)
+  store ← number_of stores (first_of (codes "store") rows)
+  hold ← number_of holds (first_of (codes "hold") rows)
+  share ← shares_of (length links) (first_of (codes "share") rows)
+  linger ← number_of lingers (first_of (codes "linger") rows)
+  turns ← number_of turn_counts (first_of (codes "turns") rows)
+  Some (record { source = source; links = links; session = session; stream = stream; gap = gap; store = store; hold = hold; share = share; linger = linger; turns = turns })
 
 -- the line of a command with what is given to it
 abbrev pub command_line : Text → List Row → Option CommandLine
 command_line name rows =
     if bytes_eq name (codes "replay") then option_map Replay (replay_of rows)
     else (if bytes_eq name (codes "show") then option_map Show (show_of rows)
-    else (if bytes_eq name (codes "pack") then option_map Pack (pack_of rows) else None))
+    else (if bytes_eq name (codes "pack") then option_map Pack (pack_of rows)
+    else (if bytes_eq name (codes "send") then option_map Send (send_of rows) else None)))
 
 -- with nothing against the words, the line of the command that they name
 abbrev pub taken_line : Kinds → Option (Text × List Row) → Option CommandLine

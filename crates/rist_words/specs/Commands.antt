@@ -1,14 +1,15 @@
 -- The commands of the program with their options and positions (this profile), as the command line parser takes them.
 use Rattle.std.specs.Prelude.{true, List, [], ◌∷◌, Option, Some, fold, codes}
 use Rattle.clap.specs.Words.{App, Kinds, Row, Rule, Text, fault_of, new_app, new_rule, subcommand_of, with_rule, with_subcommand}
-use Rattle.clap.specs.declared.builder.ArgAction.TheVariants.{Set, SetTrue}
+use Rattle.clap.specs.declared.builder.ArgAction.TheVariants.{Append, Set, SetTrue}
 use Rattle.rist_words.specs.declared.command.Kind.{Kind}
-use Rattle.rist_words.specs.declared.command.Kind.TheVariants.{Flag, Position, Valued}
+use Rattle.rist_words.specs.declared.command.Kind.TheVariants.{Flag, Position, Positions, Valued}
 
--- an argument that is given by its place, and has to be; one that is given as `--name value` or `--name=value`, and need not;
+-- an argument that is given by its place, and has to be; one that is given by its place once or more; one that is given as `--name value` or `--name=value`, and need not;
 -- and a flag, given as `--name`
 abbrev pub rule_for : Kind → Text → Rule
 rule_for Position name = record (new_rule name) { required = true; action = Some Set }
+rule_for Positions name = record (new_rule name) { required = true; action = Some Append }
 rule_for Valued name = record (new_rule name) { long = Some name; action = Some Set }
 rule_for Flag name = record (new_rule name) { long = Some name; action = Some SetTrue }
 
@@ -37,9 +38,15 @@ abbrev pub pack_app : App
 pack_app = with_arguments (session_app (codes "pack")) (codes "flow" ∷ codes "first" ∷ codes "gap" ∷ []) (codes "nulls" ∷ codes "wide" ∷ [])
     (codes "source" ∷ codes "capture" ∷ [])
 
+-- a sending: its options, its flags and its positions, of which the last takes one link or more
+abbrev pub send_app : App
+send_app = with_rules Positions (with_arguments (session_app (codes "send"))
+    (codes "flow" ∷ codes "first" ∷ codes "gap" ∷ codes "store" ∷ codes "hold" ∷ codes "share" ∷ codes "linger" ∷ codes "turns" ∷ [])
+    (codes "nulls" ∷ codes "wide" ∷ []) (codes "source" ∷ [])) (codes "link" ∷ [])
+
 -- the program
 abbrev pub rist_app : App
-rist_app = with_subcommand (with_subcommand (with_subcommand (new_app (codes "rist")) replay_app.top) show_app.top) pack_app.top
+rist_app = with_subcommand (with_subcommand (with_subcommand (with_subcommand (new_app (codes "rist")) replay_app.top) show_app.top) pack_app.top) send_app.top
 
 -- what stands against taking the words, the program's name first; where nothing does, they are taken
 unfoldable pub faults_of : List Text → Kinds

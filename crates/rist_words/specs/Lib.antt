@@ -1,5 +1,6 @@
 pub mod Commands
 pub mod Values
+pub mod Links
 pub mod CommandLine
 pub mod Ranges
 pub mod Shown

@@ -9,6 +9,12 @@ use Rattle.rist_words.specs.declared.values.Numbers.{Numbers}
 use Rattle.outside_io.specs.declared.profile.Profile.{Profile}
 use Rattle.outside_io.specs.declared.profile.Profile.TheVariants.{Simple, Main}
 
+-- one reading after another: where one fails, all do
+infixl 10 ◌>>=◌
+abbrev pub ◌>>=◌ : {A B : Type 0} → Option A → (A → Option B) → Option B
+None >>= f = None
+(Some x) >>= f = f x
+
 -- a number is 1 to 20 decimal digits, leading zeros among them, with no sign
 abbrev pub is_numeral : Text → Bool
 is_numeral text = nat_lt 0 (length text) && (nat_lt (length text) 21 && list_all is_ascii_digit text)

@@ -20,13 +20,24 @@ static PACK: [&str; 2] = ["source", "capture"];
 
 static PACK_OPTIONS: [&str; 3] = ["flow", "first", "gap"];
 
-static PACK_FLAGS: [&str; 2] = ["nulls", "wide"];
+static SEND: [&str; 1] = ["source"];
+
+static SEND_LINKS: [&str; 1] = ["link"];
+
+static SEND_OPTIONS: [&str; 8] = [
+    "flow", "first", "gap", "store", "hold", "share", "linger", "turns",
+];
+
+/// The flags of each command that makes the datagrams of a stream.
+static STREAM_FLAGS: [&str; 2] = ["nulls", "wide"];
 
 /// How an argument is given.
 #[derive(Clone, Copy)]
 pub enum Kind {
     /// By its place. It has to be given.
     Position,
+    /// By its place, once or more.
+    Positions,
     /// As `--name value` or `--name=value`.
     Valued,
     /// As `--name`.
@@ -45,8 +56,12 @@ pub fn program<'a>(alloc: Global) -> Result<Command<'a>, AllocError>
     let show = with_arguments(alloc, show, &[], &[], &SHOW)?;
     let program = below(program, show)?;
     let pack = session(alloc, "pack")?;
-    let pack = with_arguments(alloc, pack, &PACK_OPTIONS, &PACK_FLAGS, &PACK)?;
-    Ok(below(program, pack)?)
+    let pack = with_arguments(alloc, pack, &PACK_OPTIONS, &STREAM_FLAGS, &PACK)?;
+    let program = below(program, pack)?;
+    let send = session(alloc, "send")?;
+    let send = with_arguments(alloc, send, &SEND_OPTIONS, &STREAM_FLAGS, &SEND)?;
+    let send = with_all(alloc, send, Kind::Positions, &SEND_LINKS)?;
+    Ok(below(program, send)?)
 }
 
 /// A command that speaks of a session.
@@ -116,6 +131,7 @@ fn argument<'a>(alloc: Global, kind: Kind, name: &'a str) -> Arg<'a>
     let argument = Arg::new(alloc, name).action(ArgAction::Set);
     match kind {
         Kind::Position => argument.required(true),
+        Kind::Positions => argument.required(true).action(ArgAction::Append),
         Kind::Valued => argument.long(name),
         Kind::Flag => argument.long(name).action(ArgAction::SetTrue),
     }

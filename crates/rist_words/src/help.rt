@@ -18,6 +18,16 @@ usage: rist COMMAND [OPTION..] ARGUMENT..
       --nulls                 delete null packets (main profile)
       --wide                  sequence numbers of 32 bits (main profile)
 
+  rist send SOURCE LINK..     send a stream on links, each a.b.c.d:port, one to sixteen
+      --flow, --first, --gap, --nulls, --wide, as of pack
+      --store PACKETS         packets kept for retransmission, 1 to 65536 (default 4096)
+      --hold MS               no packet is sent again within this time, 1 to 1000 (default 20)
+      --share W:W..           the links' weights, 1 to 100 each, one for each link, by which they
+                              share the stream (default: each datagram goes on all links)
+      --linger MS             how long requests are answered after the end, 0 to 60000
+                              (default 1000)
+      --turns TURNS           turns at most, 1 to 1099511627776 (default 1099511627776)
+
   each command
       --profile PROFILE       simple or main (default simple)
       --port PORT             UDP port of media, even, 2 to 65534 (default 1968)

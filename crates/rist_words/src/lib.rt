@@ -6,6 +6,7 @@ mod command;
 mod help;
 pub mod laws;
 mod lines;
+mod links;
 mod matching;
 mod reading;
 mod session;
@@ -14,5 +15,7 @@ mod tests;
 mod values;
 
 pub use help::USAGE;
-pub use lines::{Line, PackLine, Refused, ReplayLine, SessionWords, ShowLine};
+pub use lines::{
+    Line, PackLine, Refused, ReplayLine, SendLine, SessionWords, ShowLine, StreamWords,
+};
 pub use reading::line;

@@ -1,9 +1,11 @@
 //! The lines of the program.
 use outside_io::Profile;
+use outside_net::LinkSpec;
+use std::alloc::AllocError;
 use std::fmt::{self, Display, Formatter, Write};
 
 /// What the words of a command line tell the program to do.
-#[derive(Clone, Copy, Debug, PartialEq, Eq)]
+#[derive(Debug, PartialEq, Eq, Drop)]
 pub enum Line<'a> {
     /// `replay CAPTURE OUT`
     Replay(ReplayLine<'a>),
@@ -11,6 +13,8 @@ pub enum Line<'a> {
     Show(ShowLine<'a>),
     /// `pack SOURCE CAPTURE`
     Pack(PackLine<'a>),
+    /// `send SOURCE LINK..`
+    Send(SendLine<'a>),
 }
 
 /// How the datagrams of a session are made and read.
@@ -50,6 +54,19 @@ pub struct ShowLine<'a> {
     pub session: SessionWords<'a>,
 }
 
+/// How the datagrams of a stream are made.
+#[derive(Clone, Copy, Debug, PartialEq, Eq)]
+pub struct StreamWords {
+    /// Null packets are deleted. In the Main Profile only.
+    pub nulls: bool,
+    /// Sequence numbers have 32 bits. In the Main Profile only.
+    pub wide: bool,
+    /// The SSRC, an even number.
+    pub flow: u32,
+    /// The first sequence number, below 65,536 unless they are wide.
+    pub first: u32,
+}
+
 /// Write a capture of the media datagrams that carry a stream.
 #[derive(Clone, Copy, Debug, PartialEq, Eq)]
 pub struct PackLine<'a> {
@@ -59,16 +76,36 @@ pub struct PackLine<'a> {
     pub capture: &'a str,
     /// How its datagrams are made.
     pub session: SessionWords<'a>,
-    /// Null packets are deleted. In the Main Profile only.
-    pub nulls: bool,
-    /// Sequence numbers have 32 bits. In the Main Profile only.
-    pub wide: bool,
-    /// The SSRC, an even number.
-    pub flow: u32,
-    /// The first sequence number, below 65,536 unless they are wide.
-    pub first: u32,
+    /// What is in them.
+    pub stream: StreamWords,
     /// The time between two datagrams in microseconds, 1 to 1,000,000.
     pub gap: u64,
+}
+
+/// Send a stream on links.
+#[derive(Debug, PartialEq, Eq, Drop)]
+pub struct SendLine<'a> {
+    /// The stream's name.
+    pub source: &'a str,
+    /// Where its datagrams go, one to sixteen addresses.
+    pub links: Vec<LinkSpec>,
+    /// How they are made.
+    pub session: SessionWords<'a>,
+    /// What is in them.
+    pub stream: StreamWords,
+    /// The time between two datagrams in microseconds, 1 to 1,000,000.
+    pub gap: u64,
+    /// How many packets are stored for retransmission, 1 to 65,536.
+    pub store: u64,
+    /// For how long no packet is sent again once it was, in milliseconds, 1 to 1,000.
+    pub hold: u64,
+    /// The weights by which the links share the stream, 1 to 100 each and one for each link. Without them each datagram
+    /// goes on all links.
+    pub share: Option<Vec<u8>>,
+    /// For how long requests are answered after the source's end, in milliseconds, 0 to 60,000.
+    pub linger: u64,
+    /// How many turns are made at most, 1 to 2^40.
+    pub turns: u64,
 }
 
 /// Why there is no line.
@@ -78,6 +115,17 @@ pub enum Refused {
     Memory,
     /// The words are no line of the program.
     Usage,
+}
+
+impl From<AllocError> for Refused {
+    ghost use Rattle.std.specs.Prelude.{◌≡◌};
+    ghost use Rattle.rist_words.specs.declared.lines.Refused.TheVariants.{Memory};
+
+    ghost from_gives = { λ _ e. e ≡ Memory };
+
+    fn from(_: AllocError) -> Self {
+        Refused::Memory
+    }
 }
 
 impl Display for Refused {

@@ -1,13 +1,14 @@
 //! The line that the words are.
 ghost use Rattle.std.specs.Prelude.{◌≡◌, Err, Some, None, IfOk, map, option_map, string_bytes};
 ghost use Rattle.clap.specs.Words.{found_of, rows_of};
-ghost use Rattle.rist_words.specs.CommandLine.{firsts, line_of, command_line, replay_of, show_of, pack_of};
-ghost use Rattle.rist_words.specs.Shown.{shown, shown_replay, shown_show, shown_pack};
+ghost use Rattle.rist_words.specs.CommandLine.{line_of, command_line, replay_of, show_of, pack_of, send_of};
+ghost use Rattle.rist_words.specs.Shown.{shown, shown_replay, shown_show, shown_pack, shown_send};
 
-use crate::lines::{Line, PackLine, Refused, ReplayLine, ShowLine};
+use crate::lines::{Line, PackLine, Refused, ReplayLine, SendLine, ShowLine};
+use crate::links::{links, share};
 use crate::matching::matched;
-use crate::session::session;
-use crate::values::{Numbers, flag, name, number};
+use crate::session::{session, stream};
+use crate::values::{Numbers, name, number};
 use clap::ArgMatches;
 use std::alloc::Global;
 
@@ -25,17 +26,38 @@ const SPAN: Numbers = Numbers {
     multiple_of: 1,
 };
 
-const FLOW: Numbers = Numbers {
-    default: 270_544_960,
-    least: 0,
-    most: 4_294_967_295,
-    multiple_of: 2,
-};
-
 const GAP: Numbers = Numbers {
     default: 1000,
     least: 1,
     most: 1_000_000,
+    multiple_of: 1,
+};
+
+const STORE: Numbers = Numbers {
+    default: 4096,
+    least: 1,
+    most: 65_536,
+    multiple_of: 1,
+};
+
+const HOLD: Numbers = Numbers {
+    default: 20,
+    least: 1,
+    most: 1000,
+    multiple_of: 1,
+};
+
+const LINGER: Numbers = Numbers {
+    default: 1000,
+    least: 0,
+    most: 60_000,
+    multiple_of: 1,
+};
+
+const TURNS: Numbers = Numbers {
+    default: 1 << 40,
+    least: 1,
+    most: 1 << 40,
     multiple_of: 1,
 };
 
@@ -46,26 +68,42 @@ pub fn line<'a>(alloc: Global, words: &'a [String]) -> Result<Line<'a>, Refused>
 {
     let matches = matched(alloc, words)?;
     match matches.subcommand() {
-        Some((command, values)) => match command_line(command, values) {
-            Some(line) => Ok(line),
-            None => Err(Refused::Usage),
-        },
+        Some((command, values)) => command_line(alloc, command, values),
         None => Err(Refused::Usage),
     }
 }
 
 /// The line of a command with these values.
-fn command_line<'a>(command: &str, values: &ArgMatches<'a>) -> Option<Line<'a>>
-    ensures { option_map shown result ≡ command_line command.now (rows_of (found_of values.now)) }
+fn command_line<'a>(
+    alloc: Global,
+    command: &str,
+    values: &ArgMatches<'a>,
+) -> Result<Line<'a>, Refused>
+    ensures ok { IfOk result (λ l. command_line command.now (rows_of (found_of values.now)) ≡ Some (shown l)) }
+    ensures usage { result ≡ Err Refused.Usage → command_line command.now (rows_of (found_of values.now)) ≡ None }
 {
     if command == "replay" {
-        Some(Line::Replay(replay_line(values)?))
+        match replay_line(values) {
+            Some(line) => Ok(Line::Replay(line)),
+            None => Err(Refused::Usage),
+        }
     } else if command == "show" {
-        Some(Line::Show(show_line(values)?))
+        match show_line(values) {
+            Some(line) => Ok(Line::Show(line)),
+            None => Err(Refused::Usage),
+        }
     } else if command == "pack" {
-        Some(Line::Pack(pack_line(values)?))
+        match pack_line(values) {
+            Some(line) => Ok(Line::Pack(line)),
+            None => Err(Refused::Usage),
+        }
+    } else if command == "send" {
+        match send_line(alloc, values) {
+            Ok(line) => Ok(Line::Send(line)),
+            Err(refused) => Err(refused),
+        }
     } else {
-        None
+        Err(Refused::Usage)
     }
 }
 
@@ -96,28 +134,37 @@ fn pack_line<'a>(values: &ArgMatches<'a>) -> Option<PackLine<'a>>
     let source = name(values, "source")?;
     let capture = name(values, "capture")?;
     let session = session(values)?;
-    let nulls = flag(values, "nulls", session.profile)?;
-    let wide = flag(values, "wide", session.profile)?;
     Some(PackLine {
         source,
         capture,
         session,
-        nulls,
-        wide,
-        flow: number(values, "flow", FLOW)? as u32,
-        first: number(values, "first", firsts(wide))? as u32,
+        stream: stream(values, session.profile)?,
         gap: number(values, "gap", GAP)?,
     })
 }
 
-/// The numbers that can be the first: of 16 bits, or of 32 where they are wide.
-fn firsts(wide: bool) -> Numbers
-    ensures { result ≡ firsts wide }
+fn send_line<'a>(alloc: Global, values: &ArgMatches<'a>) -> Result<SendLine<'a>, Refused>
+    ensures ok { IfOk result (λ l. send_of (rows_of (found_of values.now)) ≡ Some (shown_send l)) }
+    ensures usage { result ≡ Err Refused.Usage → send_of (rows_of (found_of values.now)) ≡ None }
 {
-    Numbers {
-        default: 0,
-        least: 0,
-        most: if wide { 4_294_967_295 } else { 65_535 },
-        multiple_of: 1,
-    }
+    let source = name(values, "source").ok_or(Refused::Usage)?;
+    let session = session(values).ok_or(Refused::Usage)?;
+    let links = links(alloc, values, session.profile)?;
+    let stream = stream(values, session.profile).ok_or(Refused::Usage)?;
+    let gap = number(values, "gap", GAP).ok_or(Refused::Usage)?;
+    let store = number(values, "store", STORE).ok_or(Refused::Usage)?;
+    let hold = number(values, "hold", HOLD).ok_or(Refused::Usage)?;
+    let share = share(alloc, values, links.len())?;
+    Ok(SendLine {
+        source,
+        links,
+        session,
+        stream,
+        gap,
+        store,
+        hold,
+        share,
+        linger: number(values, "linger", LINGER).ok_or(Refused::Usage)?,
+        turns: number(values, "turns", TURNS).ok_or(Refused::Usage)?,
+    })
 }

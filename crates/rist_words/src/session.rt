@@ -1,12 +1,13 @@
-//! The session of a line.
+//! The session of a line, and its stream.
 ghost use Rattle.std.specs.Prelude.{◌≡◌, option_map};
 ghost use Rattle.clap.specs.Words.{found_of, rows_of};
-ghost use Rattle.rist_words.specs.CommandLine.{session_of};
-ghost use Rattle.rist_words.specs.Shown.{shown_session};
+ghost use Rattle.rist_words.specs.CommandLine.{firsts, session_of, stream_of};
+ghost use Rattle.rist_words.specs.Shown.{shown_session, shown_stream};
 
-use crate::lines::SessionWords;
-use crate::values::{Numbers, number, phrase, profile};
+use crate::lines::{SessionWords, StreamWords};
+use crate::values::{Numbers, flag, number, phrase, profile};
 use clap::ArgMatches;
+use outside_io::Profile;
 
 const PORT: Numbers = Numbers {
     default: 1968,
@@ -33,4 +34,37 @@ pub fn session<'a>(values: &ArgMatches<'a>) -> Option<SessionWords<'a>>
         pass: phrase(values, "pass", profile)?,
         bits: number(values, "bits", BITS)? as u16,
     })
+}
+
+const FLOW: Numbers = Numbers {
+    default: 270_544_960,
+    least: 0,
+    most: 4_294_967_295,
+    multiple_of: 2,
+};
+
+/// The stream that a command's values speak of.
+pub fn stream(values: &ArgMatches<'_>, profile: Profile) -> Option<StreamWords>
+    ensures { option_map shown_stream result ≡ stream_of profile (rows_of (found_of values.now)) }
+{
+    let nulls = flag(values, "nulls", profile)?;
+    let wide = flag(values, "wide", profile)?;
+    Some(StreamWords {
+        nulls,
+        wide,
+        flow: number(values, "flow", FLOW)? as u32,
+        first: number(values, "first", firsts(wide))? as u32,
+    })
+}
+
+/// The numbers that can be the first: of 16 bits, or of 32 where they are wide.
+fn firsts(wide: bool) -> Numbers
+    ensures { result ≡ firsts wide }
+{
+    Numbers {
+        default: 0,
+        least: 0,
+        most: if wide { 4_294_967_295 } else { 65_535 },
+        multiple_of: 1,
+    }
 }

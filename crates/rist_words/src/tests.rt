@@ -1,6 +1,9 @@
 //! Command lines that are taken and refused.
-use crate::{Line, PackLine, Refused, ReplayLine, SessionWords, ShowLine, line};
+use crate::{
+    Line, PackLine, Refused, ReplayLine, SendLine, SessionWords, ShowLine, StreamWords, line,
+};
 use outside_io::Profile;
+use outside_net::LinkSpec;
 use std::alloc::Global;
 use std::test::Fail;
 
@@ -9,6 +12,13 @@ const PLAIN: SessionWords<'static> = SessionWords {
     port: 1968,
     pass: None,
     bits: 128,
+};
+
+const STREAM: StreamWords = StreamWords {
+    nulls: false,
+    wide: false,
+    flow: 270_544_960,
+    first: 0,
 };
 
 /// Whether the words between blanks are this line, or are refused.
@@ -58,7 +68,7 @@ static REPLAYS: [(&str, &str, &str, u64, u64); 14] = [
     (" replay a b", "a", "b", 1000, 2048),
 ];
 
-static REFUSED: [&str; 49] = [
+static REFUSED: [&str; 69] = [
     "",
     "rist",
     "rist play a b",
@@ -104,6 +114,26 @@ static REFUSED: [&str; 49] = [
     "rist show a --bits 192",
     "rist show a --pass x",
     "rist show a --profile main --pass=",
+    "rist send a",
+    "rist send a 127.0.0.1",
+    "rist send a 127.0.0.1:",
+    "rist send a 127.0.0.1:0",
+    "rist send a 127.0.0.1:65536",
+    "rist send a 127.0.0.1:5001",
+    "rist send a 127.0.0:5000",
+    "rist send a 127.0.0.1.1:5000",
+    "rist send a 127.0.0.256:5000",
+    "rist send a 127.0..1:5000",
+    "rist send a 127.0.0.+1:5000",
+    "rist send a 127.0.0.1:5000:1",
+    "rist send a 127.0.0.1:5000 --share 1:1",
+    "rist send a 127.0.0.1:5000 127.0.0.1:5002 --share 1",
+    "rist send a 127.0.0.1:5000 127.0.0.1:5002 --share 1:101",
+    "rist send a 127.0.0.1:5000 127.0.0.1:5002 --share 0:1",
+    "rist send a 127.0.0.1:5000 --linger 60001",
+    "rist send a 127.0.0.1:5000 --turns 1099511627777",
+    "rist send a 127.0.0.1:5000 --store 0",
+    "rist send a 1.1.1.1:2 1.1.1.1:2 1.1.1.1:2 1.1.1.1:2 1.1.1.1:2 1.1.1.1:2 1.1.1.1:2 1.1.1.1:2 1.1.1.1:2 1.1.1.1:2 1.1.1.1:2 1.1.1.1:2 1.1.1.1:2 1.1.1.1:2 1.1.1.1:2 1.1.1.1:2 1.1.1.1:2",
     "rist --help",
     "rist replay --help",
     "rist help",
@@ -161,10 +191,7 @@ fn all_packed(alloc: Global) -> Result<bool, Fail> {
         source: "a",
         capture: "b",
         session: PLAIN,
-        nulls: false,
-        wide: false,
-        flow: 270_544_960,
-        first: 0,
+        stream: STREAM,
         gap: 1000,
     };
     let full = PackLine {
@@ -172,10 +199,12 @@ fn all_packed(alloc: Global) -> Result<bool, Fail> {
             profile: Profile::Main,
             ..PLAIN
         },
-        nulls: true,
-        wide: true,
-        flow: 2,
-        first: 4_294_967_295,
+        stream: StreamWords {
+            nulls: true,
+            wide: true,
+            flow: 2,
+            first: 4_294_967_295,
+        },
         gap: 1_000_000,
         ..plain
     };
@@ -187,12 +216,65 @@ fn all_packed(alloc: Global) -> Result<bool, Fail> {
     )
 }
 
+/// The line of these links, and of these weights.
+fn send_line(
+    alloc: Global,
+    session: SessionWords<'static>,
+    ports: &[u16],
+    share: Option<&[u8]>,
+) -> Result<SendLine<'static>, Fail> {
+    let mut links = Vec::new(alloc);
+    for port in ports {
+        links.push(LinkSpec {
+            address: [127, 0, 0, 1],
+            port: *port,
+        })?;
+    }
+    let share = match share {
+        Some(weights) => Some(Vec::from_slice(alloc, weights)?),
+        None => None,
+    };
+    Ok(SendLine {
+        source: "a",
+        links,
+        session,
+        stream: STREAM,
+        gap: 1000,
+        store: 4096,
+        hold: 20,
+        share,
+        linger: 1000,
+        turns: 1 << 40,
+    })
+}
+
+fn all_sent(alloc: Global) -> Result<bool, Fail> {
+    let main = SessionWords {
+        profile: Profile::Main,
+        ..PLAIN
+    };
+    let plain = send_line(alloc, PLAIN, &[2, 65_534], Some(&[100, 1]))?;
+    let full = SendLine {
+        gap: 1,
+        store: 65_536,
+        hold: 1000,
+        linger: 0,
+        turns: 1,
+        ..send_line(alloc, main, &[65_535], None)?
+    };
+    let shared = "rist send a 127.0.0.1:2 127.000.0.1:65534 --share 100:1";
+    let text = "rist send a --profile main --gap 1 --store 65536 --hold 1000 --linger 0 \
+                --turns 1 127.0.0.1:65535";
+    Ok(reads(alloc, shared, Ok(Line::Send(plain)))? && reads(alloc, text, Ok(Line::Send(full)))?)
+}
+
 #[test]
 fn words_are_a_line_or_refused(rt: HostRuntime) -> Result<(), Fail> {
     let alloc = rt.alloc();
     assert!(rt; all_replays(alloc)?);
     assert!(rt; all_shown(alloc)?);
     assert!(rt; all_packed(alloc)?);
+    assert!(rt; all_sent(alloc)?);
     assert!(rt; all_refused(alloc)?);
     assert_eq!(rt; line(alloc, &[]), Err(Refused::Usage));
     for (refused, text) in [

@@ -23,7 +23,7 @@ pub struct Numbers {
 }
 
 /// The text that is given to an option or at a position.
-fn given<'a>(matches: &ArgMatches<'a>, id: &str) -> Option<&'a str>
+pub fn given<'a>(matches: &ArgMatches<'a>, id: &str) -> Option<&'a str>
     ensures { option_map (λ s. s.now) result ≡ first_of id.now (rows_of (found_of matches.now)) }
 {
     matches.get_str(id)
@@ -43,7 +43,7 @@ pub fn number(matches: &ArgMatches<'_>, option: &str, numbers: Numbers) -> Optio
 }
 
 /// The number that a text is, if it is one that the option takes.
-fn number_in(text: &str, numbers: Numbers) -> Option<u64>
+pub fn number_in(text: &str, numbers: Numbers) -> Option<u64>
     requires step { 0 < numbers.multiple_of }
     ensures value { result ≡ number_in numbers text.now }
     ensures within { IfSome result (λ n. n ≤ numbers.most) }

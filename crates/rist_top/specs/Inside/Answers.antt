@@ -15,10 +15,6 @@ pub record IsOwn (status : Status) : Type 0 where
   pub opened : status ≢ statuses.OpenFault
   pub random : status ≢ statuses.EntropyFault
 
--- a sealer can't be had where nothing is handed out, or where words fail
-abbrev pub CanRefuse : Status → Type 0
-CanRefuse status = (status ≡ statuses.OpenFault) ⊎ ((status ≡ statuses.Memory) ⊎ (status ≡ statuses.EntropyFault))
-
 -- P holds of an error
 abbrev pub OnErrIs : {T E : Type 0} → Result T E → (E → Type 0) → Type 0
 OnErrIs (Ok x) P = Unit {0}
@@ -29,3 +25,15 @@ pub record IsUnbegun {I O E L C : Type 0} (source spent : I) (sink filled : O) (
   pub unread : spent ≡ source
   pub unwritten : filled ≡ sink
   pub entropies : Stays old.entropies new.entropies
+
+-- sources, sinks and links stand as they stood, and which links were opened
+pub record KeepsButTiming {I O E L C : Type 0} (old new : Shelf I O E L C) : Type 0 where
+  pub sources : new.sources ≡ old.sources
+  pub sinks : new.sinks ≡ old.sinks
+  pub links : new.links ≡ old.links
+  pub opened : new.opened_links ≡ old.opened_links
+
+-- sources and sinks stand as they stood
+pub record KeepsFiles {I O E L C : Type 0} (old new : Shelf I O E L C) : Type 0 where
+  pub sources : new.sources ≡ old.sources
+  pub sinks : new.sinks ≡ old.sinks

@@ -6,6 +6,7 @@ use Rattle.rist_words.specs.CommandLine.{Replay}
 use Rattle.outside_io.specs.Causes.{HasOpenCause}
 use Rattle.rist_top.specs.Causes.{fault_of}
 use Rattle.rist_top.specs.Frame.{OpensSourceFirst}
+use Rattle.rist_top.specs.Lines.{IsOverFiles}
 use Rattle.rist_top.specs.Untouched.{Untouched}
 use Rattle.rist_top.specs.declared.status.Status.TheVariants as statuses
 use Rattle.rist_top.proofs.LineLemmas.{same_line, ran_line}
@@ -24,27 +25,35 @@ pub run_line-requires : goal.run_line-requires
 run_line-requires g c = record { range = line_range _ _ c.in-Ok.ensures.ok }
 
 pub returns-in-Ok-clause-order : goal.returns-in-Ok-clause-order
-returns-in-Ok-clause-order g c tells k is =
-    subst (OpensSourceFirst (g.H.Host.shelf c.args.host.now) (g.H.Host.shelf c.run_line.new.host)) (same_line _ _ (sym c.in-Ok.ensures.ok ∙ is)) (c.run_line.ensures.order tells)
+returns-in-Ok-clause-order g c tells k is files =
+    let same = same_line _ _ (sym c.in-Ok.ensures.ok ∙ is) in
+    subst (OpensSourceFirst (g.H.Host.shelf c.args.host.now) (g.H.Host.shelf c.run_line.new.host)) same (c.run_line.ensures.order tells (subst IsOverFiles (sym same) files))
 
 pub returns-in-Ok-clause-closed : goal.returns-in-Ok-clause-closed
-returns-in-Ok-clause-closed g c tells unopened k is =
-    subst (Untouched (g.H.Host.shelf c.args.host.now) (g.H.Host.shelf c.run_line.new.host)) (same_line _ _ (sym c.in-Ok.ensures.ok ∙ is)) (c.run_line.ensures.closed tells unopened)
+returns-in-Ok-clause-closed g c tells unopened k is files =
+    let same = same_line _ _ (sym c.in-Ok.ensures.ok ∙ is) in
+    subst (Untouched (g.H.Host.shelf c.args.host.now) (g.H.Host.shelf c.run_line.new.host)) same (c.run_line.ensures.closed tells unopened (subst IsOverFiles (sym same) files))
 
 pub returns-in-Ok-clause-memory : goal.returns-in-Ok-clause-memory
-returns-in-Ok-clause-memory g c fresh memory k is =
+returns-in-Ok-clause-memory g c fresh memory k is files =
+    let same = same_line _ _ (sym c.in-Ok.ensures.ok ∙ is) in
     line_at_memory _ (g.H.Host.shelf c.args.host.now) (g.H.Host.shelf c.run_line.new.host) _ k c.run_line.result
-    (c.run_line.ensures.memory fresh memory) (same_line _ _ (sym c.in-Ok.ensures.ok ∙ is)) memory
+    (c.run_line.ensures.memory fresh memory (subst IsOverFiles (sym same) files)) same memory
 
 pub returns-in-Ok-clause-reached : goal.returns-in-Ok-clause-reached
 returns-in-Ok-clause-reached g c r is fresh done =
+    let same = same_line _ _ (sym c.in-Ok.ensures.ok ∙ is) in
     ran_reached _ (g.H.Host.shelf c.args.host.now) (g.H.Host.shelf c.run_line.new.host) r c.run_line.result
     (line_range _ (Replay r) is).some_delay done
-    (ran_line _ _ _ _ _ _ (same_line _ _ (sym c.in-Ok.ensures.ok ∙ is))
-    (c.run_line.ensures.ran fresh (λ e. not_open (sym done ∙ e)) (λ e. not_memory (sym done ∙ e))))
+    (ran_line _ _ _ _ _ _ same
+    (c.run_line.ensures.ran fresh (λ e. not_open (sym done ∙ e)) (λ e. not_memory (sym done ∙ e)) (subst IsOverFiles (sym same) tt)))
 
 pub returns-in-Ok-clause-complete : goal.returns-in-Ok-clause-complete
-returns-in-Ok-clause-complete g c fresh opened k is =
+returns-in-Ok-clause-complete g c fresh opened k is files =
+    let same = same_line _ _ (sym c.in-Ok.ensures.ok ∙ is) in
     ran_completes _ (g.H.Host.shelf c.args.host.now) (g.H.Host.shelf c.run_line.new.host) k c.run_line.result
     (λ e. opened (subst (λ s. HasOpenCause (fault_of s) (g.H.Host.faults c.args.host.now) (g.H.Host.faults c.run_line.new.host)) e c.run_line.ensures.opened))
-    (λ unopened memory. ran_line _ _ _ _ _ _ (same_line _ _ (sym c.in-Ok.ensures.ok ∙ is)) (c.run_line.ensures.ran fresh unopened memory))
+    (λ unopened memory. ran_line _ _ _ _ _ _ same (c.run_line.ensures.ran fresh unopened memory (subst IsOverFiles (sym same) files)))
+
+pub returns-in-Ok-clause-sent : goal.returns-in-Ok-clause-sent
+returns-in-Ok-clause-sent g c unused ran k is = c.run_line.ensures.sent k (same_line _ _ (sym c.in-Ok.ensures.ok ∙ is)) unused ran

@@ -1,0 +1,28 @@
+-- Links that a host hands out one after another, and takes back.
+use Rattle.std.specs.Prelude.{◌≡◌, ◌⊎◌, ◌<◌, ◌≤◌, ℕ, List, [], Bool, IsTrue, length, slice_index_or}
+use Rattle.outside_host.specs.Shelf.{Shelf}
+use Rattle.outside_host.specs.declared.host.Place.{Place}
+use Rattle.outside_host.specs.declared.host.Place.TheVariants.{Here, Out, Back}
+
+-- a host that tells has handed out no link yet
+abbrev pub HasOpenedNone : {I O E L C : Type 0} → Bool → Shelf I O E L C → Type 0
+HasOpenedNone tells shelf = IsTrue tells × (shelf.opened_links ≡ [])
+
+-- these objects were handed out from the first places, in order, and all others stand as they stood
+pub record AreOut {L : Type 0} (old new : ℕ → Place L) (links : List L) : Type 0 where
+  pub was : (place : ℕ) (d : L) → place < length links → old place ≡ Here (slice_index_or links place d)
+  pub now : (place : ℕ) → place < length links → new place ≡ Out
+  pub others : (place : ℕ) → length links ≤ place → new place ≡ old place
+
+-- these objects came back to the first places, in order, where those were out, and all others stand as they stood
+pub record AreBack {L : Type 0} (old new : ℕ → Place L) (links : List L) : Type 0 where
+  pub now : (place : ℕ) (d : L) → place < length links → old place ≡ Out → new place ≡ Back (slice_index_or links place d)
+  pub others : (place : ℕ) → length links ≤ place → new place ≡ old place
+
+-- an object stands as it stood, or it was handed out and came back as it was
+abbrev pub IsAsItWas : {X : Type 0} → Place X → Place X → Type 0
+IsAsItWas {X} old new = (new ≡ old) ⊎ ((object : X) × (old ≡ Here object) × (new ≡ Back object))
+
+-- each does
+abbrev pub AreAsTheyWere : {X : Type 0} → (ℕ → Place X) → (ℕ → Place X) → Type 0
+AreAsTheyWere old new = (place : ℕ) → IsAsItWas (old place) (new place)

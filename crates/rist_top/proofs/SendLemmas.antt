@@ -1,0 +1,116 @@
+-- What a sending leaves, part by part.
+use Rattle.std.proofs.Common.{◌≡◌, ◌⊎◌, ◌*◌, ◌<◌, ◌∷◌, ◌++◌, take, drop, ℕ, List, [], length, map, Option, IfSome, refl, sym, ap, ◌∙◌, subst, slice_index_or}
+use mathlib.Core.Logic.{inl, inr}
+use Rattle.std.specs.Prelude.{Result, Bool}
+use Rattle.outside_host.specs.Shelf.{Shelf}
+use Rattle.outside_host.specs.declared.host.Place.{Place}
+use Rattle.outside_host.specs.declared.host.Place.TheVariants.{Here, Back}
+use Rattle.host_links.specs.Opening.{AreOut, AreBack, AreAsTheyWere}
+use Rattle.host_links.proofs.OpeningLemmas.{all_as_they_were}
+use Rattle.psk_seal.specs.Sealer.{SealerState}
+use Rattle.rist_sender.specs.Links.{Line}
+use Rattle.rist_sender.specs.Sender.{SenderState}
+use Rattle.rist_send.specs.Run.{setup_of}
+use Rattle.rist_send.specs.Sending.{SendsSource}
+use Rattle.rist_send.specs.Served.{Outside, AreServed, Runs, new_run}
+use Rattle.rist_send.specs.declared.fault.SendFault.{SendFault}
+use Rattle.rist_send.specs.declared.settings.SendSettings.{SendSettings}
+use Rattle.rist_words.specs.CommandLine.{SendCommand}
+use Rattle.rist_top.specs.Objects.{Tells}
+use Rattle.rist_top.specs.Sealing.{DrawnFirst}
+use Rattle.rist_top.specs.Sessions.{bonding_with, session_sent, setup_sent}
+use Rattle.rist_top.specs.Sent.{IsUnused, SendsAs, SentByClock, SentOnLinks, TellsLive, no_work, send_status}
+use Rattle.rist_top.specs.declared.status.Status.{Status}
+
+-- a sender is set to what a line says
+pub record IsSetTo (s : SenderState) (c : SendCommand) : Type 0 where
+  pub flow : s.flow ≡ c.stream.flow
+  pub first : s.first ≡ c.stream.first
+  pub hold : s.hold ≡ 90 * c.hold
+  pub size : s.store.size ≡ c.store
+  pub bonding : s.bonding ≡ bonding_with (length c.links) c.share
+  pub session : s.session ≡ session_sent c
+
+same_setup : (c : SendCommand) (s : SenderState) (links : ℕ) → IsSetTo s c → links ≡ length c.links
+    → setup_of (record { gap = c.gap; linger = 1000 * c.linger; turns = c.turns }) s links ≡ setup_sent c
+same_setup c s links set is = rw (set.flow, set.first, set.hold, set.size, set.bonding, set.session, is) refl
+
+-- what a run left is what the line asks for
+pub sends_as : {L : Type 0} (line : Line L) (c : SendCommand) (sealer : Option SealerState) (s after : SenderState) (had has : Outside) (was is : List L) (end : Result Unit SendFault) (status : Status)
+    → IsSetTo s c → length was ≡ length c.links → status ≡ send_status end
+    → Runs line s after has was is (no_work sealer) (SendsSource (setup_of (record { gap = c.gap; linger = 1000 * c.linger; turns = c.turns }) s (length was)) end (new_run (no_work sealer) had))
+    → SendsAs line c sealer had has was is status
+sends_as line c sealer s after had has was is end status set count answer runs = record {
+  end = end;
+  answer = answer;
+  to = runs.to;
+  sends = subst (λ setup. SendsSource setup end (new_run (no_work sealer) had) runs.to) (same_setup c s (length was) set count) runs.fact;
+  moments = runs.moments;
+  octets = runs.octets;
+  answers = runs.answers;
+  given = subst (λ f. AreServed line f (session_sent c) [] runs.to.work.history was is) set.flow
+      (subst (λ x. AreServed line s.flow x [] runs.to.work.history was is) set.session runs.given);
+}
+
+-- links that were handed out and are given back as they were
+pub links_as_they_were : {L : Type 0} (old mid later new : ℕ → Place L) (links given : List L) → AreOut old mid links → later ≡ mid → given ≡ links → AreBack later new given → AreAsTheyWere old new
+links_as_they_were old mid later new links given out same is back =
+    all_as_they_were old mid later new links out (λ place. inl (ap (λ f. f place) same)) (λ place less. ap (λ f. f place) same) (subst (AreBack later new) is back)
+
+-- what was sent by a clock, over shelves that are the same but for the sources
+pub by_clock_between : {I O E L C : Type 0} (tells : Tells I O E) (live : TellsLive L C) (old mid later new : Shelf I O E L C) (c : SendCommand) (source spent : I) (was is : List L) (status : Status)
+    → mid.clocks ≡ old.clocks → mid.entropies ≡ old.entropies → new.clocks ≡ later.clocks → new.entropies ≡ later.entropies
+    → SentByClock tells live mid later c source spent was is status → SentByClock tells live old new c source spent was is status
+by_clock_between tells live old mid later new c source spent was is status k e l f s = record {
+  clock = s.clock;
+  later = s.later;
+  sealer = s.sealer;
+  took = ap (λ x. x 0) (sym k) ∙ s.took;
+  gave = ap (λ x. x 0) l ∙ s.gave;
+  fresh = s.fresh;
+  drawn = subst (λ x. IfSome s.sealer (DrawnFirst tells x new.entropies)) e (subst (λ x. IfSome s.sealer (DrawnFirst tells mid.entropies x)) (sym f) s.drawn);
+  sends = s.sends;
+}
+
+-- likewise what was sent on links
+pub on_links_between : {I O E L C : Type 0} (tells : Tells I O E) (live : TellsLive L C) (old mid later new : Shelf I O E L C) (c : SendCommand) (source spent : I) (status : Status)
+    → mid ≡ record old { sources = mid.sources } → new ≡ record later { sources = new.sources }
+    → SentOnLinks tells live mid later c source spent status → SentOnLinks tells live old new c source spent status
+on_links_between tells live old mid later new c source spent status e f s = record {
+  was = s.was;
+  is = s.is;
+  count = s.count;
+  took = λ place d less. ap (λ x. x.links place) (sym e) ∙ s.took place d less;
+  gave = λ place d less. ap (λ x. x.links place) f ∙ s.gave place d less;
+  sent = by_clock_between tells live old mid later new c source spent s.was s.is status (ap (λ x. x.clocks) e) (ap (λ x. x.entropies) e) (ap (λ x. x.clocks) f) (ap (λ x. x.entropies) f) s.sent;
+}
+
+-- a host that hands out a source is as unused as before
+pub still_unused : {I O E L C : Type 0} (tells : Bool) (old mid : Shelf I O E L C) → mid ≡ record old { sources = mid.sources } → IsUnused tells old → IsUnused tells mid
+still_unused tells old mid e unused = record {
+  told = unused.told;
+  entropy = ap (λ x. x.next_entropy) e ∙ unused.entropy;
+  links = ap (λ x. x.opened_links) e ∙ unused.links;
+  clock = ap (λ x. x.next_clock) e ∙ unused.clock;
+}
+
+-- a front that was taken out and put back
+front_of : {A : Type 0} (ys rest : List A) → take (length ys) (ys ++ rest) ≡ ys
+front_of [] rest = refl
+front_of (y ∷ ys) rest = ap (λ l. y ∷ l) (front_of ys rest)
+
+pub put_back : {A : Type 0} (n : ℕ) (xs ys : List A) → n ≡ length ys → xs ≡ ys → take n (xs ++ drop (length xs) ys) ≡ ys
+put_back n xs ys count same = rw (count, same) (front_of ys (drop (length ys) ys))
+
+-- words that were drawn between the same places
+pub drawn_between : {I O E : Type 0} (tells : Tells I O E) (sealer : Option SealerState) (old mid later new : ℕ → Place E) → mid ≡ old → new ≡ later
+    → IfSome sealer (DrawnFirst tells mid later) → IfSome sealer (DrawnFirst tells old new)
+drawn_between tells sealer old mid later new e f drawn =
+    subst (λ x. IfSome sealer (DrawnFirst tells x new)) e (subst (λ x. IfSome sealer (DrawnFirst tells mid x)) (sym f) drawn)
+
+-- what a run left, under the names of its caller
+pub sends_same : {I L C : Type 0} (line : Line L) (moments : C → Option (ℕ → ℕ)) (remaining : I → Option (List ℕ)) (c : SendCommand) (sealer : Option SealerState) (had : Outside) (was : List L)
+    (clock clock' : C) (source source' : I) (links links' : List L) (status status' : Status) → clock' ≡ clock → source' ≡ source → links' ≡ links → status' ≡ status
+    → SendsAs line c sealer had (record { moments = moments clock; octets = remaining source; answers = map line.reads links }) was links status
+    → SendsAs line c sealer had (record { moments = moments clock'; octets = remaining source'; answers = map line.reads links' }) was links' status'
+sends_same line moments remaining c sealer had was clock clock' source source' links links' status status' a b d e sends = rw (a, b, d, e) sends

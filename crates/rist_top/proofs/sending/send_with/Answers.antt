@@ -1,0 +1,18 @@
+-- The run's answer and what it left are the line's.
+use Rattle.std.proofs.Common.{rules, arith, ◌≡◌, ◌∙◌, ap, sym}
+use Rattle.rist_words.specs.Shown.{shown_send}
+use Rattle.rist_top.proofs.SendLemmas.{sends_as}
+use Rattle.rist_top.specs.Sent.{no_work}
+use Rattle.rist_top.proofs.sending.send_with.Goals as goal
+
+pub returns-clause-work : goal.returns-clause-work
+returns-clause-work g c =
+    λ ran. sends_as _ (shown_send c.args.line.now) c.args.sealer c.in-Ok-with.sender _ _ _ _ _ c.send-end.result _
+    (record {
+      flow = c.in-Ok-with.ensures.set.0;
+      first = c.in-Ok-with.ensures.set.1;
+      hold = c.in-Ok-with.ensures.set.2;
+      size = c.in-Ok-with.ensures.set.3;
+      bonding = c.in-Ok-with.ensures.set.4 ∙ c.bond_of.ensures.value;
+      session = c.in-Ok-with.ensures.set.5 ∙ c.session_of-session.ensures.value;
+    }) c.requires.count c.of_sending.ensures.value (c.send-end.ensures.work (no_work c.args.sealer) c.in-Ok-with.ensures.state)

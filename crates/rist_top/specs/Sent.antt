@@ -1,0 +1,97 @@
+-- What a sending leaves of the objects of its host.
+use Rattle.std.specs.Prelude.{◌≡◌, ◌≢◌, ◌<◌, ◌≤◌, ℕ, List, [], length, map, slice_index_or, is_some, false, Option, None, IfSome, Bool, IsTrue, Result, Ok, Err}
+use Rattle.outside_io.specs.Causes.{HasReadCause}
+use Rattle.outside_host.specs.Shelf.{Shelf}
+use Rattle.outside_host.specs.declared.host.Place.TheVariants.{Here, Back}
+use Rattle.host_links.specs.Opening.{AreAsTheyWere, HasOpenedNone}
+use Rattle.psk_seal.specs.Sealer.{SealerState}
+use Rattle.rist_sender.specs.Links.{Line}
+use Rattle.rist_sender.specs.Calls.{Work}
+use Rattle.rist_send.specs.Run.{Run}
+use Rattle.rist_send.specs.Sending.{SendsSource}
+use Rattle.rist_send.specs.Served.{Outside, AreServed, new_run}
+use Rattle.rist_send.specs.declared.fault.SendFault.{SendFault}
+use Rattle.rist_send.specs.declared.fault.SendFault.TheVariants as faults
+use Rattle.rist_words.specs.CommandLine.{SendCommand}
+use Rattle.rist_top.specs.Causes.{fault_of}
+use Rattle.rist_top.specs.Objects.{Tells}
+use Rattle.rist_top.specs.Places.{CameBack, IsAsItWas}
+use Rattle.rist_top.specs.Sealing.{DrawnFirst}
+use Rattle.rist_top.specs.Sessions.{session_sent, setup_sent}
+use Rattle.rist_top.specs.Works.{IsFreshFor}
+use Rattle.rist_top.specs.declared.status.Status.{Status}
+use Rattle.rist_top.specs.declared.status.Status.TheVariants as statuses
+
+-- how a sending ended, as a status
+abbrev pub send_status : Result Unit SendFault → Status
+send_status (Ok x) = statuses.Done
+send_status (Err faults.ReadFault) = statuses.ReadFault
+send_status (Err faults.LinksDown) = statuses.LinksDown
+send_status (Err faults.Spent) = statuses.Spent
+send_status (Err faults.TooLong) = statuses.TooLong
+send_status (Err faults.TurnsSpent) = statuses.TurnsSpent
+
+-- what links and clocks of a host tell
+pub record TellsLive (L C : Type 0) : Type 0 where
+  pub line : Line L
+  pub moments : C → Option (ℕ → ℕ)
+
+-- a host tells what stands on its shelf, and has handed out no random words, no link and no clock yet
+pub record IsUnused {I O E L C : Type 0} (tells : Bool) (shelf : Shelf I O E L C) : Type 0 where
+  pub told : IsTrue tells
+  pub entropy : shelf.next_entropy ≡ 0
+  pub links : shelf.opened_links ≡ []
+  pub clock : shelf.next_clock ≡ 0
+
+-- a sender has done nothing yet, under a sealer, where there is one
+abbrev pub no_work : Option SealerState → Work
+no_work sealer = record { history = []; sealer = sealer; is_short = false }
+
+-- a source was sent onto links under a sealer, where there is one, and it ended so: clock, source and links have given
+-- just what the run took, and each link was given just the datagrams that the sender made for it
+pub record SendsAs {L : Type 0} (line : Line L) (c : SendCommand) (sealer : Option SealerState) (had has : Outside) (was is : List L) (status : Status) : Type 0 where
+  pub end : Result Unit SendFault
+  pub answer : status ≡ send_status end
+  pub to : Run
+  pub sends : SendsSource (setup_sent c) end (new_run (no_work sealer) had) to
+  pub moments : to.moments ≡ has.moments
+  pub octets : to.octets ≡ has.octets
+  pub answers : to.answers ≡ has.answers
+  pub given : AreServed line c.stream.flow (session_sent c) [] to.work.history was is
+
+-- the next clock and, under a passphrase, random words were handed out, a source was sent so, and both came back
+pub record SentByClock {I O E L C : Type 0} (tells : Tells I O E) (live : TellsLive L C) (old new : Shelf I O E L C) (c : SendCommand) (source spent : I) (was is : List L) (status : Status) : Type 0 where
+  pub clock : C
+  pub later : C
+  pub sealer : Option SealerState
+  pub took : old.clocks 0 ≡ Here clock
+  pub gave : new.clocks 0 ≡ Back later
+  pub fresh : IsFreshFor c.session sealer
+  pub drawn : IfSome sealer (DrawnFirst tells old.entropies new.entropies)
+  pub sends : SendsAs live.line c sealer
+      (record { moments = live.moments clock; octets = tells.remaining source; answers = map live.line.reads was })
+      (record { moments = live.moments later; octets = tells.remaining spent; answers = map live.line.reads is }) was is status
+
+-- the links of a line were handed out from the first places, in order, a source was sent on them, and they came back
+pub record SentOnLinks {I O E L C : Type 0} (tells : Tells I O E) (live : TellsLive L C) (old new : Shelf I O E L C) (c : SendCommand) (source spent : I) (status : Status) : Type 0 where
+  pub was : List L
+  pub is : List L
+  pub count : length was ≡ length c.links
+  pub took : (place : ℕ) (d : L) → place < length was → old.links place ≡ Here (slice_index_or was place d)
+  pub gave : (place : ℕ) (d : L) → place < length was → new.links place ≡ Back (slice_index_or is place d)
+  pub sent : SentByClock tells live old new c source spent was is status
+
+-- a line's source was sent
+pub record Sent {I O E L C : Type 0} (tells : Tells I O E) (live : TellsLive L C) (old new : Shelf I O E L C) (c : SendCommand) (status : Status) : Type 0 where
+  pub source : I
+  pub spent : I
+  pub took : old.sources c.source ≡ Here source
+  pub gave : new.sources c.source ≡ Back spent
+  pub sent : SentOnLinks tells live old new c source spent status
+  pub read : HasReadCause (fault_of status) (tells.read_faults source) (tells.read_faults spent)
+
+-- a sending didn't begin: its source, its links and its clock stand as they stood, or came back as they were
+pub record Unsent {I O E L C : Type 0} (old new : Shelf I O E L C) (c : SendCommand) : Type 0 where
+  pub source : IsAsItWas (old.sources c.source) (new.sources c.source)
+  pub links : AreAsTheyWere old.links new.links
+  pub clock : IsAsItWas (old.clocks 0) (new.clocks 0)

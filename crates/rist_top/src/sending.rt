@@ -1,0 +1,190 @@
+//! A sending, from its objects to its status.
+ghost use Rattle.std.specs.Prelude.{◌≡◌, ◌≢◌, IsTrue, length, map};
+ghost use Rattle.outside_io.specs.Causes.{HasOpenCause, HasReadCause};
+ghost use Rattle.outside_host.specs.Shelf.{Stays};
+ghost use Rattle.host_links.specs.Opening.{AreAsTheyWere};
+ghost use Rattle.rist_words.specs.Shown.{shown_send};
+ghost use Rattle.rist_words.specs.Ranges.{IsInSend};
+ghost use Rattle.rist_top.specs.Causes.{CanRefuse, fault_of};
+ghost use Rattle.rist_top.specs.Places.{IsAsItWas};
+ghost use Rattle.rist_top.specs.Sealing.{FailedAt};
+ghost use Rattle.rist_top.specs.Sessions.{bonding_with};
+ghost use Rattle.rist_top.specs.Works.{IsFreshFor};
+ghost use Rattle.rist_top.specs.Inside.Answers.{KeepsButTiming, KeepsFiles};
+ghost use Rattle.rist_top.specs.Sent.{IsUnused, SendsAs, SentByClock, SentOnLinks, Sent, Unsent};
+
+use crate::sealing::sealer_for;
+use crate::sessions::session_of;
+use crate::status::Status;
+use crate::telling::Telling;
+use bond_links::Bond;
+use host_links::{back_links, open_links};
+use outside_host::Host;
+use outside_io::Source;
+use outside_net::{Clock, Link, Role};
+use psk_seal::Sealer;
+use rist_send::{SendSettings, send};
+use rist_sender::{Sender, Settings};
+use rist_wire::Opener;
+use rist_words::SendLine;
+use std::alloc::Global;
+
+// How the links of a line have its packets.
+fn bond_of(line: &SendLine<'_>) -> Bond
+    requires range { IsInSend (shown_send line.now) }
+    ensures value { result ≡ bonding_with (length line.now.links.items) (shown_send line.now).share }
+{
+    match &line.share {
+        None => Bond::duplicate(line.links.len() as u8),
+        Some(weights) => Bond::share(weights.as_slice()),
+    }
+}
+
+// Sends a source onto links.
+fn send_with<S: Source, L: Link, C: Clock>(
+    alloc: Global,
+    line: &SendLine<'_>,
+    sealer: Option<Sealer>,
+    source: &mut S,
+    links: &mut [L],
+    clock: &mut C,
+) -> Status
+    requires range { IsInSend (shown_send line.now) }
+    requires fresh { IsFreshFor (shown_send line.now).session sealer }
+    requires count { length links.old ≡ length line.now.links.items }
+    ensures work { (CanRefuse result → ⊥) → SendsAs
+        (record { taken = L.taken; knows = L.knows; faults = L.faults; reads = L.reads; ends = L.ends })
+        (shown_send line.now) sealer (record {
+          moments = C.moments clock.old;
+          octets = S.remaining source.old;
+          answers = map L.reads links.old;
+        }) (record {
+          moments = C.moments clock.new;
+          octets = S.remaining source.new;
+          answers = map L.reads links.new;
+        }) links.old links.new result }
+    ensures memory { CanRefuse result → (result ≡ Status.Memory)
+        × (source.new ≡ source.old) × (links.new ≡ links.old) × (clock.new ≡ clock.old) }
+    ensures line { result ≢ Status.Usage }
+    ensures read { HasReadCause (fault_of result) (S.faults source.old) (S.faults source.new) }
+    ensures count { length links.new ≡ length links.old }
+{
+    let session = session_of(&line.session, line.stream.nulls, line.stream.wide);
+    let settings = Settings {
+        flow: line.stream.flow,
+        first: line.stream.first,
+        store: line.store as usize,
+        hold: line.hold as u16,
+        bond: bond_of(line),
+    };
+    let Ok(mut opener) = Opener::with(alloc, &session) else {
+        return Status::Memory;
+    };
+    let Ok(mut sender) = Sender::with(alloc, settings, &session, sealer) else {
+        return Status::Memory;
+    };
+    let pace = SendSettings {
+        gap: line.gap,
+        linger: 1000 * line.linger,
+        turns: line.turns,
+    };
+    let end = send(&pace, &mut sender, &mut opener, source, links, clock);
+    Status::of_sending(end)
+}
+
+// Sends a source onto links by the host's next clock, under a sealer where the line has a passphrase.
+fn send_by_clock<H: Host>(
+    alloc: Global,
+    host: &mut H,
+    line: &SendLine<'_>,
+    source: &mut H::Input,
+    links: &mut [H::Wire],
+) -> Status
+    requires range { IsInSend (shown_send line.now) }
+    requires count { length links.old ≡ length line.now.links.items }
+    ensures sent { IsTrue H.tells → (H.shelf host.old).next_clock ≡ 0 → (H.shelf host.old).next_entropy ≡ 0
+        → (CanRefuse result → ⊥) → SentByClock ⟦<H as Telling>⟧.objects ⟦<H as Telling>⟧.live
+        (H.shelf host.old) (H.shelf host.new) (shown_send line.now)
+        source.old source.new links.old links.new result }
+    ensures unsent { CanRefuse result → (source.new ≡ source.old) × (links.new ≡ links.old) }
+    ensures clock { IsTrue H.tells → (H.shelf host.old).next_clock ≡ 0 → CanRefuse result
+        → IsAsItWas ((H.shelf host.old).clocks 0) ((H.shelf host.new).clocks 0) }
+    ensures random { IsTrue H.tells → (H.shelf host.old).next_entropy ≡ 0 → result ≡ Status.EntropyFault
+        → FailedAt ⟦<H as Telling>⟧.objects (H.shelf host.old) (H.shelf host.new) }
+    ensures others { IsTrue H.tells → KeepsButTiming (H.shelf host.old) (H.shelf host.new) }
+    ensures line { result ≢ Status.Usage }
+    ensures opened { HasOpenCause (fault_of result) (H.faults host.old) (H.faults host.new) }
+    ensures read { HasReadCause (fault_of result) (H.Input.faults source.old) (H.Input.faults source.new) }
+    ensures count { length links.new ≡ length links.old }
+{
+    let mut clock = match host.clock() {
+        Ok(clock) => clock,
+        Err(bad) => return Status::of_host(bad),
+    };
+    let status = match sealer_for(host, &line.session) {
+        Ok(sealer) => send_with(alloc, line, sealer, source, links, &mut clock),
+        Err(status) => status,
+    };
+    host.back_clock(0, clock);
+    status
+}
+
+// Sends a source onto the links of a line.
+fn send_on_links<H: Host>(
+    alloc: Global,
+    host: &mut H,
+    line: &SendLine<'_>,
+    source: &mut H::Input,
+) -> Status
+    requires range { IsInSend (shown_send line.now) }
+    ensures sent { IsUnused H.tells (H.shelf host.old)
+        → (CanRefuse result → ⊥) → SentOnLinks ⟦<H as Telling>⟧.objects ⟦<H as Telling>⟧.live
+        (H.shelf host.old) (H.shelf host.new) (shown_send line.now) source.old source.new result }
+    ensures unsent { CanRefuse result → source.new ≡ source.old }
+    ensures others { IsTrue H.tells → KeepsFiles (H.shelf host.old) (H.shelf host.new) }
+    ensures links { IsUnused H.tells (H.shelf host.old) → CanRefuse result
+        → AreAsTheyWere (H.shelf host.old).links (H.shelf host.new).links }
+    ensures clock { IsUnused H.tells (H.shelf host.old) → CanRefuse result
+        → IsAsItWas ((H.shelf host.old).clocks 0) ((H.shelf host.new).clocks 0) }
+    ensures random { IsUnused H.tells (H.shelf host.old) → result ≡ Status.EntropyFault
+        → FailedAt ⟦<H as Telling>⟧.objects (H.shelf host.old) (H.shelf host.new) }
+    ensures line { result ≢ Status.Usage }
+    ensures opened { HasOpenCause (fault_of result) (H.faults host.old) (H.faults host.new) }
+    ensures read { HasReadCause (fault_of result) (H.Input.faults source.old) (H.Input.faults source.new) }
+{
+    let mut links = match open_links(
+        alloc,
+        host,
+        line.links.as_slice(),
+        Role::Sends,
+        line.session.profile,
+    ) {
+        Ok(links) => links,
+        Err(bad) => return Status::of_host(bad),
+    };
+    let status = send_by_clock(alloc, host, line, source, links.as_mut_slice());
+    back_links(host, links);
+    status
+}
+
+/// Does the line of a sending.
+pub fn send_line<H: Host>(alloc: Global, host: &mut H, line: &SendLine<'_>) -> Status
+    requires range { IsInSend (shown_send line.now) }
+    ensures sent { IsUnused H.tells (H.shelf host.old)
+        → (CanRefuse result → ⊥) → Sent ⟦<H as Telling>⟧.objects ⟦<H as Telling>⟧.live
+        (H.shelf host.old) (H.shelf host.new) (shown_send line.now) result }
+    ensures unsent { IsUnused H.tells (H.shelf host.old) → CanRefuse result
+        → Unsent (H.shelf host.old) (H.shelf host.new) (shown_send line.now) }
+    ensures random { IsUnused H.tells (H.shelf host.old) → result ≡ Status.EntropyFault
+        → FailedAt ⟦<H as Telling>⟧.objects (H.shelf host.old) (H.shelf host.new) }
+    ensures line { result ≢ Status.Usage }
+    ensures opened { HasOpenCause (fault_of result) (H.faults host.old) (H.faults host.new) }
+{
+    let mut source = match host.source(line.source) {
+        Ok(source) => source,
+        Err(bad) => return Status::of_host(bad),
+    };
+    let status = send_on_links(alloc, host, line, &mut source);
+    host.back_source(line.source, source);
+    status
+}

@@ -1,0 +1,85 @@
+-- How links, and the weights by which they share a stream, are written on a command line (this profile).
+use Rattle.std.specs.Prelude.{ℕ, zero, suc, List, [], ◌∷◌, length, Bool, nat_lt, ◌&&◌, ◌==◌, if◌then◌else◌, Option, Some, None, option_map}
+use Rattle.std.specs.List.{before_first, after_first, position_or_len}
+use Rattle.clap.specs.Words.{Text}
+use Rattle.outside_io.specs.declared.profile.Profile.{Profile}
+use Rattle.outside_io.specs.declared.profile.Profile.TheVariants.{Simple, Main}
+use Rattle.outside_net.specs.declared.link_spec.LinkSpec.{LinkSpec}
+use Rattle.rist_words.specs.declared.values.Numbers.{Numbers}
+use Rattle.rist_words.specs.Values.{number_in, ◌>>=◌}
+
+-- the text before the first of a mark and the text behind it, where there is one
+abbrev pub split_at : ℕ → Text → Option (Text × Text)
+split_at mark text =
+    if nat_lt (position_or_len (λ c. c == mark) text) (length text)
+    then Some (before_first (λ c. c == mark) text, after_first (λ c. c == mark) text) else None
+
+-- the marks between a link's address and its port, or two weights; and between the numbers of an address
+abbrev pub colon : ℕ
+colon = 58
+
+-- likewise
+abbrev pub dot : ℕ
+dot = 46
+
+-- a number of an address
+abbrev pub address_numbers : Numbers
+address_numbers = record { default = 0; least = 0; most = 255; multiple_of = 1 }
+
+-- a link's port. In the Simple Profile it is that of media, an even one, and the next is that of control (VSF TR-06-1)
+abbrev pub link_ports : Profile → Numbers
+link_ports Simple = record { default = 2; least = 2; most = 65534; multiple_of = 2 }
+link_ports Main = record { default = 1; least = 1; most = 65535; multiple_of = 1 }
+
+-- an address of IPv4: four numbers
+abbrev pub address_of : Text → Option (List ℕ)
+address_of text = do
+  first ← split_at dot text
+  second ← split_at dot first.1
+  third ← split_at dot second.1
+  a ← number_in address_numbers first.0
+  b ← number_in address_numbers second.0
+  c ← number_in address_numbers third.0
+  d ← number_in address_numbers third.1
+  Some (a ∷ b ∷ c ∷ d ∷ [])
+
+-- a link: its address and its port
+abbrev pub link_of : Profile → Text → Option LinkSpec
+link_of profile text = do
+  parts ← split_at colon text
+  address ← address_of parts.0
+  port ← number_in (link_ports profile) parts.1
+  Some (record { address = address; port = port })
+
+-- each of these is a link
+abbrev pub each_link : Profile → List Text → Option (List LinkSpec)
+each_link profile [] = Some []
+each_link profile (text ∷ texts) = do
+  link ← link_of profile text
+  links ← each_link profile texts
+  Some (link ∷ links)
+
+-- one to sixteen links
+abbrev pub links_of : Profile → Option (List Text) → Option (List LinkSpec)
+links_of profile None = None
+links_of profile (Some texts) =
+    if nat_lt 0 (length texts) && nat_lt (length texts) 17 then each_link profile texts else None
+
+-- a link's weight
+abbrev pub link_weights : Numbers
+link_weights = record { default = 1; least = 1; most = 100; multiple_of = 1 }
+
+-- so many weights
+abbrev pub weights_in : ℕ → Text → Option (List ℕ)
+weights_in zero text = None
+weights_in (suc zero) text = option_map (λ weight. weight ∷ []) (number_in link_weights text)
+weights_in (suc (suc links)) text = do
+  parts ← split_at colon text
+  weight ← number_in link_weights parts.0
+  weights ← weights_in (suc links) parts.1
+  Some (weight ∷ weights)
+
+-- a weight for each of so many links, or none where the option isn't given: then each datagram goes on all
+abbrev pub shares_of : ℕ → Option Text → Option (Option (List ℕ))
+shares_of links None = Some None
+shares_of links (Some text) = option_map Some (weights_in links text)

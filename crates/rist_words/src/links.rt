@@ -1,0 +1,176 @@
+//! Links, and the weights by which they share a stream.
+ghost use Rattle.std.specs.Prelude.{◌≡◌, ◌<◌, ◌≤◌, ◌++◌, ◌∷◌, [], Err, Some, None, IfOk, OnOk, codes, length, map, option_map};
+ghost use Rattle.clap.specs.Words.{all_of, first_of, found_of, rows_of};
+ghost use Rattle.rist_words.specs.Links.{address_of, each_link, link_of, link_ports, links_of, shares_of, split_at, weights_in};
+
+use crate::lines::Refused;
+use crate::values::{Numbers, given, number_in};
+use clap::ArgMatches;
+use outside_io::Profile;
+use outside_net::LinkSpec;
+use std::alloc::{AllocError, Global};
+
+/// How many links there are at most.
+const MAX_LINKS: usize = 16;
+
+const ADDRESS: Numbers = Numbers {
+    default: 0,
+    least: 0,
+    most: 255,
+    multiple_of: 1,
+};
+
+const WEIGHT: Numbers = Numbers {
+    default: 1,
+    least: 1,
+    most: 100,
+    multiple_of: 1,
+};
+
+/// The links of a command, one to sixteen.
+pub fn links(
+    alloc: Global,
+    values: &ArgMatches<'_>,
+    profile: Profile,
+) -> Result<Vec<LinkSpec>, Refused>
+    ensures ok { IfOk result (λ links. links_of profile (all_of (codes "link") (rows_of (found_of values.now))) ≡ Some links.items) }
+    ensures usage { result ≡ Err Refused.Usage → links_of profile (all_of (codes "link") (rows_of (found_of values.now))) ≡ None }
+    ensures some { IfOk result (λ links. 1 ≤ length links.items) }
+{
+    match all_given(values, "link") {
+        Some(texts) if !texts.is_empty() && texts.len() <= MAX_LINKS => {
+            each_link(alloc, profile, texts)
+        }
+        _ => Err(Refused::Usage),
+    }
+}
+
+/// The texts that are given at a position.
+fn all_given<'m, 'a>(matches: &'m ArgMatches<'a>, id: &str) -> Option<&'m [&'a str]>
+    ensures { option_map (λ texts. map (λ t. t.now) texts.now) result ≡ all_of id.now (rows_of (found_of matches.now)) }
+{
+    matches.get_strs(id)
+}
+
+/// These texts as links.
+fn each_link(alloc: Global, profile: Profile, texts: &[&str]) -> Result<Vec<LinkSpec>, Refused>
+    ensures ok { IfOk result (λ links. each_link profile (map (λ t. t.now) texts.now) ≡ Some links.items) }
+    ensures usage { result ≡ Err Refused.Usage → each_link profile (map (λ t. t.now) texts.now) ≡ None }
+    ensures count { IfOk result (λ links. length links.items ≡ length texts.now) }
+{
+    let mut links = Vec::new(alloc);
+    for text in texts {
+        match link_of(profile, text) {
+            Some(link) => push(&mut links, link)?,
+            None => return Err(Refused::Usage),
+        }
+    }
+    Ok(links)
+}
+
+/// A link: `a.b.c.d:port`.
+fn link_of(profile: Profile, text: &str) -> Option<LinkSpec>
+    ensures { result ≡ link_of profile text.now }
+{
+    let (address, port) = split_at(text, ':')?;
+    let address = address_of(address)?;
+    let port = number_in(port, link_ports(profile))? as u16;
+    Some(LinkSpec { address, port })
+}
+
+/// The ports that a link can have.
+fn link_ports(profile: Profile) -> Numbers
+    ensures { result ≡ link_ports profile }
+{
+    match profile {
+        Profile::Simple => Numbers {
+            default: 2,
+            least: 2,
+            most: 65_534,
+            multiple_of: 2,
+        },
+        Profile::Main => Numbers {
+            default: 1,
+            least: 1,
+            most: 65_535,
+            multiple_of: 1,
+        },
+    }
+}
+
+/// An address of IPv4.
+fn address_of(text: &str) -> Option<[u8; 4]>
+    ensures { result ≡ address_of text.now }
+{
+    let (a, rest) = split_at(text, '.')?;
+    let (b, rest) = split_at(rest, '.')?;
+    let (c, d) = split_at(rest, '.')?;
+    Some([
+        number_in(a, ADDRESS)? as u8,
+        number_in(b, ADDRESS)? as u8,
+        number_in(c, ADDRESS)? as u8,
+        number_in(d, ADDRESS)? as u8,
+    ])
+}
+
+/// The text before the first of a mark, and the text behind it.
+fn split_at<'a>(text: &'a str, mark: char) -> Option<(&'a str, &'a str)>
+    requires ascii { mark < 128 }
+    ensures { option_map (λ s. (s.0.now, s.1.now)) result ≡ split_at mark text.now }
+{
+    text.split_once(mark)
+}
+
+/// The weights of so many links, if some are given.
+pub fn share(
+    alloc: Global,
+    values: &ArgMatches<'_>,
+    links: usize,
+) -> Result<Option<Vec<u8>>, Refused>
+    requires some { 1 ≤ links }
+    ensures ok { IfOk result (λ share. shares_of links (first_of (codes "share") (rows_of (found_of values.now)))
+        ≡ Some (option_map (λ weights. weights.items) share)) }
+    ensures usage { result ≡ Err Refused.Usage
+        → shares_of links (first_of (codes "share") (rows_of (found_of values.now))) ≡ None }
+{
+    match given(values, "share") {
+        None => Ok(None),
+        Some(text) => match weights_in(alloc, links, text) {
+            Ok(weights) => Ok(Some(weights)),
+            Err(refused) => Err(refused),
+        },
+    }
+}
+
+/// So many weights.
+fn weights_in(alloc: Global, links: usize, text: &str) -> Result<Vec<u8>, Refused>
+    requires some { 1 ≤ links }
+    ensures ok { IfOk result (λ weights. weights_in links text.now ≡ Some weights.items) }
+    ensures usage { result ≡ Err Refused.Usage → weights_in links text.now ≡ None }
+{
+    let mut weights = Vec::new(alloc);
+    let mut rest = text;
+    for _ in 1..links {
+        let Some((front, back)) = split_at(rest, ':') else {
+            return Err(Refused::Usage);
+        };
+        match number_in(front, WEIGHT) {
+            Some(weight) => push(&mut weights, weight as u8)?,
+            None => return Err(Refused::Usage),
+        }
+        rest = back;
+    }
+    match number_in(rest, WEIGHT) {
+        Some(weight) => push(&mut weights, weight as u8)?,
+        None => return Err(Refused::Usage),
+    }
+    Ok(weights)
+}
+
+/// Adds one more behind the others.
+fn push<T: Drop>(list: &mut Vec<T>, item: T) -> Result<(), AllocError>
+    ensures ok { OnOk result (list.new.items ≡ list.old.items ++ item ∷ []) }
+{
+    list.push(item)?;
+    Ok(())
+}
