@@ -5,7 +5,7 @@ use rtp_packet::MAX_PAYLOAD;
 use std::marker::Model;
 
 /// The octets of a payload. A contract sees their list.
-#[derive(Drop)]
+#[derive(Clone, Drop)]
 pub struct Payload {
     octets: [u8; MAX_PAYLOAD],
     length: usize,
@@ -42,4 +42,24 @@ impl Payload {
     {
         &self.octets[..self.length]
     }
+}
+
+impl PartialEq for Payload {
+    ghost use Rattle.std.specs.Prelude.{nat_eq};
+    ghost use Rattle.std.specs.Cmp.Lexicographic.{pointwise, nat_list_eq_equiv};
+    ghost use Rattle.std.specs.Cmp.{partial_equiv_from_equiv};
+
+    ghost eq = { pointwise nat_eq };
+
+    ghost laws = { partial_equiv_from_equiv nat_list_eq_equiv };
+
+    fn eq(&self, other: &Payload) -> bool {
+        self.octets() == other.octets()
+    }
+}
+
+impl Eq for Payload {
+    ghost use Rattle.std.specs.Cmp.Lexicographic.{nat_list_eq_equiv};
+
+    ghost laws = { nat_list_eq_equiv };
 }

@@ -12,7 +12,7 @@ use rist_ends::{Answer, Outs, Told, What};
 use seq_unwrap::Width;
 
 /// A media packet, its null packets restored.
-#[derive(Drop)]
+#[derive(Clone, Drop, PartialEq, Eq)]
 pub struct Packet {
     pub flow: u32,
     pub width: Width,
@@ -31,7 +31,7 @@ pub struct Echoes {
 }
 
 /// What came with a step.
-#[derive(Drop)]
+#[derive(Clone, Drop, PartialEq, Eq)]
 pub enum Event {
     Media(Packet),
     Control(Echoes),
@@ -56,7 +56,7 @@ pub enum Mark {
 }
 
 /// A step of a receiver on one of its links, what it came to, how many datagrams it made, and the request words in them.
-#[derive(Drop)]
+#[derive(Clone, Drop, PartialEq, Eq)]
 pub struct Step {
     pub link: u8,
     /// The tick of its own moment.

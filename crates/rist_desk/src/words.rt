@@ -5,7 +5,7 @@ use request_rules::{AskWord, MAX_WORDS};
 use std::marker::Model;
 
 /// The words by which a step asked, at most 64. A contract sees their list.
-#[derive(Drop)]
+#[derive(Clone, Drop)]
 pub struct Words {
     words: [AskWord; MAX_WORDS],
     count: usize,
@@ -53,4 +53,27 @@ impl Words {
     {
         &self.words[..self.count]
     }
+}
+
+impl PartialEq for Words {
+    ghost use Rattle.std.specs.Prelude.{nat_eq};
+    ghost use Rattle.std.specs.Cmp.Lexicographic.{pointwise};
+    ghost use Rattle.std.specs.Cmp.Rules.{comparing};
+    ghost use Rattle.std.specs.Ordering.{on, eq_of_both};
+    ghost use Rattle.std.proofs.Common.{rules};
+
+    ghost eq = { pointwise (eq_of_both (on (λ w. w.first) nat_eq) (on (λ w. w.second) nat_eq)) };
+
+    ghost laws = { Prim.search (comparing, rules) };
+
+    fn eq(&self, other: &Words) -> bool {
+        self.words() == other.words()
+    }
+}
+
+impl Eq for Words {
+    ghost use Rattle.std.specs.Cmp.Rules.{comparing};
+    ghost use Rattle.std.proofs.Common.{rules};
+
+    ghost laws = { Prim.search (comparing, rules) };
 }
