@@ -17,7 +17,7 @@ impl OwnSteps for Own {
     }
 }
 
-/// Keepalives of link 0 are a, b, c; of link 1 p, q, r. A write failed in B and in P. e is an end, x and y are of links that have
+/// Keepalives of link 0 are a, b, c; of link 1 p, q. A write failed in B and in P. e is an end, x and y are of links that have
 /// no worker.
 fn step_of(letter: u8) -> Step {
     let (link, at) = match letter {
@@ -26,7 +26,6 @@ fn step_of(letter: u8) -> Step {
         b'c' => (0, 3),
         b'p' | b'P' => (1, 1),
         b'q' => (1, 2),
-        b'r' => (1, 3),
         b'x' => (2, 1),
         b'y' => (9, 1),
         _ => (0, 9),
