@@ -4,3 +4,5 @@ pub mod CompleteLemmas
 pub mod UntouchedLemmas
 pub mod LineLemmas
 pub mod SendLemmas
+pub mod PiecesLemmas
+pub mod FrameLemmas

@@ -7,10 +7,12 @@ ghost use Rattle.rist_words.specs.Ranges.{IsInRange};
 ghost use Rattle.rist_top.specs.Causes.{CanRefuse, fault_of};
 ghost use Rattle.rist_top.specs.Lines.{IsLine, IsNoLine, IsOverFiles, IfFiles, IfSending, IsFresh};
 ghost use Rattle.rist_top.specs.Ran.{Ran, source_name, sink_name};
-ghost use Rattle.rist_top.specs.Frame.{KeepsOthers, OpensSourceFirst};
+ghost use Rattle.rist_top.specs.Frame.{KeepsAround, KeepsOthers, OpensSourceFirst};
 ghost use Rattle.rist_top.specs.Untouched.{Untouched, LeavesAtMemory};
 ghost use Rattle.rist_top.specs.Exact.{WritesReached};
+ghost use Rattle.rist_top.specs.Sealing.{FailedAt};
 ghost use Rattle.rist_top.specs.Sent.{IsUnused, Sent, Unsent};
+ghost use Rattle.rist_top.specs.Pieces.{SentInPieces};
 ghost use Rattle.rist_top.specs.Complete.{Completes};
 
 use crate::sending::send_line;
@@ -62,8 +64,19 @@ pub fn run<H: Host>(alloc: Global, words: &[String], host: &mut H) -> Status
     ensures sent { IsUnused H.tells (H.shelf host.old) → (CanRefuse result → ⊥)
         → IfSending words.now (λ c.
         Sent ⟦<H as Telling>⟧.objects ⟦<H as Telling>⟧.live (H.shelf host.old) (H.shelf host.new) c result) }
+    // The payloads sent are the first pieces of the source's octets, in order, each once, and with Done all of them.
+    ensures pieces { IsUnused H.tells (H.shelf host.old) → (CanRefuse result → ⊥)
+        → IfSending words.now (λ c.
+        SentInPieces ⟦<H as Telling>⟧.objects ⟦<H as Telling>⟧.live (H.shelf host.old) (H.shelf host.new) c result) }
     ensures unsent { IsUnused H.tells (H.shelf host.old) → CanRefuse result
         → IfSending words.now (λ c. Unsent (H.shelf host.old) (H.shelf host.new) c) }
+
+    // A sending, too, touches only what its line speaks of, and random words fail it only where the first of them failed.
+    ensures around { IsUnused H.tells (H.shelf host.old)
+        → IfSending words.now (λ c. KeepsAround (H.shelf host.old) (H.shelf host.new) c) }
+    ensures random { IsUnused H.tells (H.shelf host.old) → result ≡ Status.EntropyFault
+        → IfSending words.now (λ c.
+        FailedAt ⟦<H as Telling>⟧.objects (H.shelf host.old) (H.shelf host.new)) }
 
     // Where no call fails, a capture is taken to its end, and so is a source.
     ensures complete { IsFresh H.tells (H.shelf host.old) → (Rose (H.faults host.old) (H.faults host.new) → ⊥)
@@ -100,6 +113,12 @@ fn run_line<H: Host>(alloc: Global, host: &mut H, line: &Line<'_>) -> Status
     ensures unsent { (c : SendCommand) → shown line.now ≡ Send c
         → IsUnused H.tells (H.shelf host.old) → CanRefuse result
         → Unsent (H.shelf host.old) (H.shelf host.new) c }
+    ensures around { (c : SendCommand) → shown line.now ≡ Send c
+        → IsUnused H.tells (H.shelf host.old)
+        → KeepsAround (H.shelf host.old) (H.shelf host.new) c }
+    ensures random { (c : SendCommand) → shown line.now ≡ Send c
+        → IsUnused H.tells (H.shelf host.old) → result ≡ Status.EntropyFault
+        → FailedAt ⟦<H as Telling>⟧.objects (H.shelf host.old) (H.shelf host.new) }
 {
     match line {
         Line::Replay(_) => file_line(alloc, host, line),

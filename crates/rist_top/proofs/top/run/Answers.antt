@@ -13,6 +13,7 @@ use Rattle.rist_top.proofs.LineLemmas.{same_line, ran_line}
 use Rattle.rist_top.proofs.ExactLemmas.{ran_reached}
 use Rattle.rist_top.proofs.CompleteLemmas.{ran_completes}
 use Rattle.rist_top.proofs.UntouchedLemmas.{line_at_memory}
+use Rattle.rist_top.proofs.PiecesLemmas.{in_pieces}
 use Rattle.rist_top.proofs.top.run.Goals as goal
 
 not_open : statuses.Done ≡ statuses.OpenFault → ⊥
@@ -57,3 +58,13 @@ returns-in-Ok-clause-complete g c fresh opened k is files =
 
 pub returns-in-Ok-clause-sent : goal.returns-in-Ok-clause-sent
 returns-in-Ok-clause-sent g c unused ran k is = c.run_line.ensures.sent k (same_line _ _ (sym c.in-Ok.ensures.ok ∙ is)) unused ran
+
+pub returns-in-Ok-clause-pieces : goal.returns-in-Ok-clause-pieces
+returns-in-Ok-clause-pieces g c unused ran k is =
+    in_pieces _ _ (g.H.Host.shelf c.args.host.now) (g.H.Host.shelf c.run_line.new.host) k c.run_line.result (c.run_line.ensures.sent k (same_line _ _ (sym c.in-Ok.ensures.ok ∙ is)) unused ran)
+
+pub returns-in-Ok-clause-around : goal.returns-in-Ok-clause-around
+returns-in-Ok-clause-around g c unused k is = c.run_line.ensures.around k (same_line _ _ (sym c.in-Ok.ensures.ok ∙ is)) unused
+
+pub returns-in-Ok-clause-random : goal.returns-in-Ok-clause-random
+returns-in-Ok-clause-random g c unused failed k is = c.run_line.ensures.random k (same_line _ _ (sym c.in-Ok.ensures.ok ∙ is)) unused failed
