@@ -1,8 +1,13 @@
 -- What a sending leaves as it stood, part by part.
-use Rattle.std.proofs.Common.{◌≡◌, ◌∙◌, ◌⊎◌, ◌<◌, ◌≤◌, ℕ, List, [], ◌∷◌, length, get_or, Bool, is_some, sym, ap, subst, arith}
+use Rattle.std.proofs.Common.{◌≡◌, ◌∙◌, ◌⊎◌, ◌<◌, ◌≤◌, ℕ, List, [], ◌∷◌, length, map, get_or, Bool, is_some, sym, ap, subst, arith}
 use mathlib.Core.Logic.{inl, inr}
+use Rattle.outside_io.specs.declared.profile.Profile.{Profile}
+use Rattle.outside_net.specs.declared.link_spec.LinkSpec.{LinkSpec}
+use Rattle.outside_net.specs.declared.link_spec.Role.TheVariants.{Sends}
+use Rattle.outside_host.specs.declared.host.Opened.{Opened}
 use Rattle.outside_host.specs.Shelf.{Shelf, HandsOut, TakesBack, ChangesSources}
 use Rattle.outside_host.specs.declared.host.Place.{Place}
+use Rattle.outside_host.specs.declared.host.Place.TheVariants.{Here, Back}
 use Rattle.host_links.specs.Opening.{AreOut, AreBack, AreAsTheyWere}
 use Rattle.host_links.proofs.OpeningLemmas.{below}
 use Rattle.rist_words.specs.CommandLine.{SendCommand}
@@ -61,3 +66,11 @@ around_source old mid later new c source spent out e files links times back f = 
   links = subst (λ x. KeepsLinksBut (length c.links) x new.links) (ap (λ s. s.links) e) (subst (λ x. KeepsLinksBut (length c.links) mid.links x) (sym (ap (λ s. s.links) f)) links);
   times = times_between old mid later new (is_some c.session.pass) (ap (λ s. s.clocks) e) (ap (λ s. s.entropies) e) (ap (λ s. s.clocks) f) (ap (λ s. s.entropies) f) times;
 }
+
+-- an object that came back doesn't stand as it stood
+pub not_as_it_stood : {X : Type 0} (old new : Place X) (object back : X) → old ≡ Here object → new ≡ Back back → new ≡ old → ⊥
+not_as_it_stood old new object back was now same = cc
+
+-- links that are sent to
+abbrev pub links_over : Profile → List LinkSpec → List Opened
+links_over profile specs = map (λ spec. record { spec = spec; role = Sends; profile = profile }) specs

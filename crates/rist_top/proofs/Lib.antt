@@ -6,3 +6,4 @@ pub mod LineLemmas
 pub mod SendLemmas
 pub mod PiecesLemmas
 pub mod FrameLemmas
+pub mod WholeLemmas

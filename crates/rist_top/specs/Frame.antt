@@ -1,6 +1,8 @@
 -- What a run leaves as it stood.
-use Rattle.std.specs.Prelude.{◌≡◌, ◌≢◌, ◌≤◌, ℕ, List, length, Bool, false, is_some}
-use Rattle.outside_host.specs.Shelf.{Shelf}
+use Rattle.std.specs.Prelude.{◌≡◌, ◌≢◌, ◌≤◌, ℕ, List, length, map, Bool, false, is_some}
+use Rattle.outside_net.specs.declared.link_spec.Role.TheVariants.{Sends}
+use Rattle.outside_host.specs.Shelf.{Shelf, ChangesSources}
+use Rattle.outside_host.specs.declared.host.Opened.{Opened}
 use Rattle.outside_host.specs.declared.host.Place.{Place}
 use Rattle.rist_words.specs.CommandLine.{CommandLine, Replay, Show, Pack, Send, SendCommand}
 use Rattle.rist_top.specs.Places.{CameBack, IsAsItWas, KeepsLive}
@@ -51,3 +53,12 @@ pub record KeepsAround {I O E L C : Type 0} (old new : Shelf I O E L C) (c : Sen
   pub sinks : new.sinks ≡ old.sinks
   pub links : KeepsLinksBut (length c.links) old.links new.links
   pub times : KeepsTimes old new (is_some c.session.pass)
+
+-- nothing else is opened before the source of a sending could be: where the source stands as it stood, so do links, clocks and
+-- random words
+abbrev pub OpensLinksAfter : {I O E L C : Type 0} → Shelf I O E L C → Shelf I O E L C → SendCommand → Type 0
+OpensLinksAfter old new c = new.sources c.source ≡ old.sources c.source → ChangesSources old new
+
+-- the links that a sending opens, the first first: it sends to each, in the profile of its session
+abbrev pub links_opened : SendCommand → List Opened
+links_opened c = map (λ spec. record { spec = spec; role = Sends; profile = c.session.profile }) c.links

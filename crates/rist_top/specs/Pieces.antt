@@ -1,9 +1,12 @@
 -- Which payloads a sending sent of its source, and what its links were given of them.
-use Rattle.std.specs.Prelude.{◌≡◌, ◌<◌, ℕ, List, [], length, slice_index_or, Option, Some, Result}
+use Rattle.std.specs.Prelude.{◌≡◌, ◌<◌, ◌+◌, ℕ, List, [], ◌∷◌, length, reverse, slice_index_or, Bool, Option, Some, Result}
 use Rattle.outside_host.specs.Shelf.{Shelf}
 use Rattle.outside_host.specs.declared.host.Place.TheVariants.{Here, Back}
-use Rattle.rist_sender.specs.History.{Event}
+use Rattle.sender_rules.specs.Sendings.{Packet, sent_packets}
+use Rattle.rist_sender.specs.Calls.{packet_for}
+use Rattle.rist_sender.specs.History.{Event, sendings_of}
 use Rattle.rist_send.specs.Given.{Gives}
+use Rattle.rist_send.specs.Packets.{AreSentAs}
 use Rattle.rist_send.specs.Served.{AreServed}
 use Rattle.rist_send.specs.declared.fault.SendFault.{SendFault}
 use Rattle.rist_words.specs.CommandLine.{SendCommand}
@@ -31,4 +34,5 @@ pub record SentInPieces {I O E L C : Type 0} (tells : Tells I O E) (live : Tells
   pub history : List Event
   pub given : AreServed live.line c.stream.flow (session_sent c) [] history was is
   pub sent : List (List ℕ)
+  pub packets : AreSentAs c.stream.nulls c.stream.first (reverse sent) (sent_packets (sendings_of history))
   pub pieces : (octets : List ℕ) → tells.remaining source ≡ Some octets → SendsPieces octets (tells.remaining spent) sent status

@@ -10,7 +10,7 @@ ghost use Rattle.rist_top.specs.Places.{IsAsItWas};
 ghost use Rattle.rist_top.specs.Sealing.{FailedAt};
 ghost use Rattle.rist_top.specs.Sessions.{bonding_with};
 ghost use Rattle.rist_top.specs.Works.{IsFreshFor};
-ghost use Rattle.rist_top.specs.Frame.{KeepsAround, KeepsLinksBut, KeepsTimes};
+ghost use Rattle.rist_top.specs.Frame.{KeepsAround, KeepsLinksBut, KeepsTimes, OpensLinksAfter, links_opened};
 ghost use Rattle.rist_top.specs.Inside.Answers.{KeepsButTiming, KeepsFiles};
 ghost use Rattle.rist_top.specs.Sent.{IsUnused, SendsAs, SentByClock, SentOnLinks, Sent, Unsent};
 
@@ -147,6 +147,8 @@ fn send_on_links<H: Host>(
     ensures others { IsTrue H.tells → KeepsFiles (H.shelf host.old) (H.shelf host.new) }
     ensures kept { IsUnused H.tells (H.shelf host.old)
         → KeepsLinksBut (length (shown_send line.now).links) (H.shelf host.old).links (H.shelf host.new).links }
+    ensures links_opened { IsUnused H.tells (H.shelf host.old) → (CanRefuse result → ⊥)
+        → (H.shelf host.new).opened_links ≡ links_opened (shown_send line.now) }
     ensures times { IsUnused H.tells (H.shelf host.old)
         → KeepsTimes (H.shelf host.old) (H.shelf host.new) (is_some (shown_send line.now).session.pass) }
     ensures links { IsUnused H.tells (H.shelf host.old) → CanRefuse result
@@ -184,6 +186,10 @@ pub fn send_line<H: Host>(alloc: Global, host: &mut H, line: &SendLine<'_>) -> S
         → Unsent (H.shelf host.old) (H.shelf host.new) (shown_send line.now) }
     ensures around { IsUnused H.tells (H.shelf host.old)
         → KeepsAround (H.shelf host.old) (H.shelf host.new) (shown_send line.now) }
+    ensures links_opened { IsUnused H.tells (H.shelf host.old) → (CanRefuse result → ⊥)
+        → (H.shelf host.new).opened_links ≡ links_opened (shown_send line.now) }
+    ensures order { IsTrue H.tells
+        → OpensLinksAfter (H.shelf host.old) (H.shelf host.new) (shown_send line.now) }
     ensures random { IsUnused H.tells (H.shelf host.old) → result ≡ Status.EntropyFault
         → FailedAt ⟦<H as Telling>⟧.objects (H.shelf host.old) (H.shelf host.new) }
     ensures line { result ≢ Status.Usage }

@@ -5,7 +5,7 @@ use Rattle.host_links.specs.Opening.{IsAsItWas as LinkIsAsItWas}
 use Rattle.outside_host.specs.declared.host.Place.TheVariants.{Back}
 use Rattle.rist_top.specs.Places.{IsAsItWas}
 use Rattle.rist_top.proofs.SendLemmas.{on_links_between, still_unused}
-use Rattle.rist_top.proofs.FrameLemmas.{around_source}
+use Rattle.rist_top.proofs.FrameLemmas.{around_source, not_as_it_stood}
 use Rattle.rist_top.proofs.sending.send_line.Goals as goal
 
 pub returns-clause-sent : goal.returns-clause-sent
@@ -45,3 +45,13 @@ returns-clause-around g c unused =
     let still = still_unused _ _ _ e unused in
     around_source _ _ _ _ _ _ _ (c.in-Ok.ensures.ok unused.told) e (c.send_on_links-status.ensures.others unused.told)
     (c.send_on_links-status.ensures.kept still) (c.send_on_links-status.ensures.times still) (c.back_source.ensures.state unused.told) (c.back_source.ensures.same unused.told)
+
+pub returns-clause-links_opened : goal.returns-clause-links_opened
+returns-clause-links_opened g c unused ran =
+    ap (λ s. s.opened_links) (c.back_source.ensures.same unused.told)
+    ∙ c.send_on_links-status.ensures.links_opened (still_unused _ _ _ (c.in-Ok.ensures.same unused.told) unused) ran
+
+pub returns-clause-order : goal.returns-clause-order
+returns-clause-order g c told same =
+    absurd (not_as_it_stood _ _ _ _ (c.in-Ok.ensures.ok told).was
+    ((c.back_source.ensures.state told).now (ap (λ f. f c.args.line.now.source.now) (c.send_on_links-status.ensures.others told).sources ∙ (c.in-Ok.ensures.ok told).now)) same)

@@ -1,7 +1,7 @@
 -- Links come back as they were where nothing was begun, and else with what was sent on them.
 use Rattle.std.proofs.Common.{◌∙◌, sym, ap, length}
 use Rattle.rist_top.proofs.SendLemmas.{links_as_they_were, on_opened_links, put_back, put_front}
-use Rattle.rist_top.proofs.FrameLemmas.{links_back}
+use Rattle.rist_top.proofs.FrameLemmas.{links_back, links_over}
 use Rattle.rist_top.proofs.sending.send_on_links.Goals as goal
 
 pub returns-clause-sent : goal.returns-clause-sent
@@ -25,3 +25,8 @@ returns-clause-links g c unused refused =
     links_as_they_were _ _ _ _ _ _ (c.in-Ok.ensures.ok (unused.told, unused.links)) (c.send_by_clock-status.ensures.others unused.told).links
     (put_back _ _ _ (sym c.as_mut_slice.ensures.len ∙ ap length c.as_mut_slice.ensures.value) ((c.send_by_clock-status.ensures.unsent refused).1 ∙ c.as_mut_slice.ensures.value))
     (c.back_links.ensures.state unused.told)
+
+pub returns-clause-links_opened : goal.returns-clause-links_opened
+returns-clause-links_opened g c unused ran =
+    ap (λ s. s.opened_links) (c.back_links.ensures.same unused.told) ∙ (c.send_by_clock-status.ensures.others unused.told).opened
+    ∙ c.in-Ok.ensures.opened (unused.told, unused.links) ∙ ap (λ l. links_over c.args.line.now.session.profile l) c.as_slice.ensures.value

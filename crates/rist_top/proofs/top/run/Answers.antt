@@ -14,6 +14,7 @@ use Rattle.rist_top.proofs.ExactLemmas.{ran_reached}
 use Rattle.rist_top.proofs.CompleteLemmas.{ran_completes}
 use Rattle.rist_top.proofs.UntouchedLemmas.{line_at_memory}
 use Rattle.rist_top.proofs.PiecesLemmas.{in_pieces}
+use Rattle.rist_top.proofs.WholeLemmas.{sent_completes}
 use Rattle.rist_top.proofs.top.run.Goals as goal
 
 not_open : statuses.Done ≡ statuses.OpenFault → ⊥
@@ -68,3 +69,16 @@ returns-in-Ok-clause-around g c unused k is = c.run_line.ensures.around k (same_
 
 pub returns-in-Ok-clause-random : goal.returns-in-Ok-clause-random
 returns-in-Ok-clause-random g c unused failed k is = c.run_line.ensures.random k (same_line _ _ (sym c.in-Ok.ensures.ok ∙ is)) unused failed
+
+pub returns-in-Ok-clause-links_opened : goal.returns-in-Ok-clause-links_opened
+returns-in-Ok-clause-links_opened g c unused ran k is = c.run_line.ensures.links_opened k (same_line _ _ (sym c.in-Ok.ensures.ok ∙ is)) unused ran
+
+pub returns-in-Ok-clause-links_after : goal.returns-in-Ok-clause-links_after
+returns-in-Ok-clause-links_after g c told k is = c.run_line.ensures.links_after k (same_line _ _ (sym c.in-Ok.ensures.ok ∙ is)) told
+
+pub returns-in-Ok-clause-whole : goal.returns-in-Ok-clause-whole
+returns-in-Ok-clause-whole g c unused opened k is =
+    let same = same_line _ _ (sym c.in-Ok.ensures.ok ∙ is) in
+    sent_completes _ _ (g.H.Host.shelf c.args.host.now) (g.H.Host.shelf c.run_line.new.host) k c.run_line.result
+    (λ e. opened (subst (λ s. HasOpenCause (fault_of s) (g.H.Host.faults c.args.host.now) (g.H.Host.faults c.run_line.new.host)) e c.run_line.ensures.opened))
+    (λ failed. c.run_line.ensures.random k same unused failed) (λ ran. c.run_line.ensures.sent k same unused ran)
