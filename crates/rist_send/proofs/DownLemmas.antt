@@ -13,7 +13,7 @@ use Rattle.rist_sender.specs.declared.send_bad.SendBad.{SendBad}
 use Rattle.rist_sender.specs.declared.send_bad.SendBad.TheVariants as refusals
 use Rattle.rist_sender.specs.Links.{Line, Tried, is_failed}
 use Rattle.rist_sender.specs.History.{Event, Called, Sent, Wrote, Write, is_down, tried_as, tried_on}
-use Rattle.rist_sender.specs.Calls.{Work, IfElse, AreDown, IsAnswer}
+use Rattle.rist_sender.specs.Calls.{IfElse, AreDown, IsAnswer}
 use Rattle.rist_send.specs.declared.fault.SendFault.{SendFault}
 use Rattle.rist_send.specs.declared.fault.SendFault.TheVariants as faults
 use Rattle.rist_send.specs.declared.progress.Stage.{Stage}
@@ -21,7 +21,7 @@ use Rattle.rist_send.specs.declared.progress.Stage.TheVariants.{Reading, Ended}
 use Rattle.rist_send.specs.Run.{Setup, Run, is_due, fault_of, has_ended, outcome}
 use Rattle.rist_send.specs.Turns.{Stays, GoesOn, SendsRead, BringsPiece, BringsNext, AnswersIf, ReadsOn, ReadsInTurn, TicksOnce, ReadsAndTicks, Turn, with_piece, is_read, with_answer, compound_in, with_moment}
 use Rattle.rist_send.specs.Sending.{Stops, IsSpent, SendsSource}
-use Rattle.rist_send.specs.Served.{AreServed, IsServed, RisesWith}
+use Rattle.rist_send.specs.Served.{AreServed, RisesWith}
 
 -- ---- a run
 

@@ -1,26 +1,30 @@
 -- Which packets a run's payloads were sent as, part after part.
-use Rattle.std.proofs.Common.{◌≡◌, ◌∙◌, ◌⊎◌, ℕ, zero, suc, ◌+◌, List, [], ◌∷◌, ◌++◌, length, reverse, Bool, true, false, if◌then◌else◌, Option, None, Some, Result, Ok, Err, refl, sym, ap, subst, append-nil}
+use Rattle.std.proofs.Common.{◌≡◌, ◌∙◌, ◌⊎◌, ℕ, zero, suc, ◌+◌, List, [], ◌∷◌, ◌++◌, length, reverse, Bool, true, false, if◌then◌else◌, Option, None, Some, Result, Ok, Err, refl, sym, ap, subst, append-nil, ◌*◌, ◌/◌, ◌≤◌, arith, length-append}
+use Rattle.std.specs.Fork.{slice_chunk}
+use Rattle.std.proofs.lemmas.List.FromFn.{length-map-range_with_len}
 use Rattle.std.specs.List.{range_with_len}
 use Rattle.std.proofs.lemmas.List.{reverse-append}
 use mathlib.Core.Logic.{inl, inr}
 use Rattle.rtcp_compound.specs.Compound.{Content}
 use Rattle.psk_seal.specs.declared.sealer.Pair.{Pair}
 use Rattle.stream_pieces.specs.declared.fault.PieceFault.{PieceFault}
+use Rattle.stream_pieces.specs.Pieces.{pieces_of}
 use Rattle.sender_rules.specs.Sendings.{Packet, Sending, sent_packets}
 use Rattle.rist_wire.specs.Writing.{is_spent}
 use Rattle.rist_sender.specs.declared.answer.Answer.{Answer}
 use Rattle.rist_sender.specs.declared.send_bad.SendBad.{SendBad}
 use Rattle.rist_sender.specs.declared.send_bad.SendBad.TheVariants as refusals
 use Rattle.rist_sender.specs.Messages.{Message, Original, Retransmission, Report, RttAnswer, Alive}
-use Rattle.rist_sender.specs.History.{Event, Wrote, sendings_of, sending_as, packet_count, effective_time, is_down}
-use Rattle.rist_sender.specs.Calls.{Work, Due, Rules, IfElse, WritesInTurn, Spreads, SendsPacket, IsAnswer, Sends, AnswersOn, TicksInTurn, TicksOn, after_due, after_write, without_pair, called_at, written_as, with_event, after_copy, after_sent, is_settled, is_ended, packet_for, is_sharing, links_tried}
+use Rattle.rist_sender.specs.History.{Wrote, sendings_of, sending_as, packet_count, effective_time, is_down}
+use Rattle.rist_sender.specs.Calls.{Work, Due, Rules, IfElse, WritesInTurn, Spreads, SendsPacket, IsAnswer, Sends, TicksInTurn, after_due, after_write, without_pair, called_at, written_as, with_event, after_copy, after_sent, is_settled, is_ended, packet_for, is_sharing, links_tried}
 use Rattle.rist_send.specs.declared.fault.SendFault.{SendFault}
 use Rattle.rist_send.specs.declared.progress.Stage.{Stage}
 use Rattle.rist_send.specs.declared.progress.Stage.TheVariants.{Reading, Ended}
 use Rattle.rist_send.specs.Run.{Setup, Run, is_due}
-use Rattle.rist_send.specs.Turns.{Stays, GoesOn, SendsPiece, SendsRead, BringsPiece, BringsNext, AnswersIf, ReadsOn, ReadsInTurn, TicksOnce, ReadsAndTicks, Turn, sent_with, with_piece, is_read, with_answer, compound_in, with_moment}
+use Rattle.rist_send.specs.Turns.{Stays, GoesOn, SendsRead, BringsPiece, BringsNext, AnswersIf, ReadsOn, ReadsInTurn, TicksOnce, ReadsAndTicks, Turn, sent_with, with_piece, is_read, with_answer, compound_in, with_moment}
 use Rattle.rist_send.specs.Sending.{TurnsOn, Stops, IsSpent, SendsSource}
 use Rattle.rist_send.specs.Packets.{AreSentAs}
+use Rattle.rist_send.specs.Given.{GivesFirst}
 
 -- ---- what adds no packet
 
@@ -192,3 +196,19 @@ pub sent_as_packets : (setup : Setup) (result : Result Unit SendFault) (from to 
     → AreSentAs setup.rules.nulls setup.rules.first (reverse from.sent) (sent_packets (sendings_of from.work.history))
     → AreSentAs setup.rules.nulls setup.rules.first (reverse to.sent) (sent_packets (sendings_of to.work.history))
 sent_as_packets setup result from to s made = made_end setup s.count result s.before to (made_turns setup s.count from s.before made s.turns) s.ends
+
+-- as many packets as payloads
+pub as_many : (nulls : Bool) (first : ℕ) (payloads : List (List ℕ)) (packets : List Packet) → AreSentAs nulls first payloads packets → length packets ≡ length payloads
+as_many nulls first [] [] made = refl
+as_many nulls first [] (packet ∷ packets) made = absurd made
+as_many nulls first (payload ∷ payloads) [] made = absurd made
+as_many nulls first (payload ∷ payloads) (packet ∷ packets) made = ap suc (as_many nulls first payloads packets made.1)
+
+few_pieces : (b : List ℕ) → 1316 * length (pieces_of b) ≤ length b + 1315
+unfolding pieces_of
+few_pieces b = let many = length-map-range_with_len (slice_chunk b 1316) 0 ((length b + 1315) / 1316) in omega (arith, many)
+
+-- a run that failed gave no more pieces than its source has
+pub few_given : (fault : SendFault) (octets : List ℕ) (left : Option (List ℕ)) (given : List (List ℕ)) → GivesFirst fault octets left given → 1316 * length given ≤ length octets + 1315
+few_given fault octets left given g =
+    omega (arith, ap length g.first, length-append given (pieces_of (g.dropped ++ g.rest)), few_pieces octets)

@@ -1,5 +1,5 @@
 -- A command whose calls don't fail comes to its end, or memory is refused.
-use Rattle.std.specs.Prelude.{◌≡◌, ◌⊎◌, ◌<◌, ◌≤◌, ◌^◌, ℕ, List, length, Some}
+use Rattle.std.specs.Prelude.{◌≡◌, ◌⊎◌, ◌<◌, ◌≤◌, ◌^◌, ℕ, List, length, Some, true, is_some}
 use Rattle.outside_io.specs.Causes.{Rose}
 use Rattle.outside_host.specs.Shelf.{Shelf}
 use Rattle.outside_host.specs.declared.host.Place.{Place}
@@ -44,12 +44,14 @@ pub record StaysUp {L : Type 0} (line : Line L) (old new : ℕ → Place L) (cou
   pub among : place < count
   pub up : (was is : L) → old place ≡ Here was → new place ≡ Back is → Rose (line.faults was) (line.faults is) → ⊥
 
--- a run came to the source's end, or it had too few turns or pairs for that, or memory was refused
-abbrev pub IsWhole : Status → Type 0
-IsWhole status = (status ≡ statuses.Done) ⊎ ((status ≡ statuses.TurnsSpent) ⊎ ((status ≡ statuses.Spent) ⊎ (status ≡ statuses.Memory)))
+-- a run came to the source's end, or it had too few turns for that, or with a passphrase too few pairs, or memory was refused
+abbrev pub IsWhole : SendCommand → Status → Type 0
+IsWhole c status =
+    (status ≡ statuses.Done)
+    ⊎ ((status ≡ statuses.TurnsSpent) ⊎ (((status ≡ statuses.Spent) × (is_some c.session.pass ≡ true)) ⊎ (status ≡ statuses.Memory)))
 
 -- a sending of such a source in which nothing failed but links, of which one stays up, ends so
 abbrev pub CompletesSending : {I O E L C : Type 0} → Tells I O E → Line L → Shelf I O E L C → Shelf I O E L C → SendCommand → Status → Type 0
 CompletesSending {I} tells line old new c status =
     (source : I) (b : List ℕ) → old.sources c.source ≡ Here source → tells.remaining source ≡ Some b → length b ≤ 2 ^ 40
-    → NoneFailed tells old new (Send c) → StaysUp line old.links new.links (length c.links) → IsWhole status
+    → NoneFailed tells old new (Send c) → StaysUp line old.links new.links (length c.links) → IsWhole c status

@@ -1,9 +1,8 @@
 -- Which payloads a sending sent of its source, and what its links were given of them.
-use Rattle.std.specs.Prelude.{◌≡◌, ◌<◌, ◌+◌, ℕ, List, [], ◌∷◌, length, reverse, slice_index_or, Bool, Option, Some, Result}
+use Rattle.std.specs.Prelude.{◌≡◌, ◌<◌, ℕ, List, [], length, reverse, slice_index_or, Option, Some, Result}
 use Rattle.outside_host.specs.Shelf.{Shelf}
 use Rattle.outside_host.specs.declared.host.Place.TheVariants.{Here, Back}
-use Rattle.sender_rules.specs.Sendings.{Packet, sent_packets}
-use Rattle.rist_sender.specs.Calls.{packet_for}
+use Rattle.sender_rules.specs.Sendings.{sent_packets}
 use Rattle.rist_sender.specs.History.{Event, sendings_of}
 use Rattle.rist_send.specs.Given.{Gives}
 use Rattle.rist_send.specs.Packets.{AreSentAs}

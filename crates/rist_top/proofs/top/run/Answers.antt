@@ -2,7 +2,7 @@
 -- nothing.
 use Rattle.std.proofs.Common.{◌≡◌, ◌∙◌, sym, subst}
 use Rattle.rist_words.proofs.RangeLemmas.{line_range}
-use Rattle.rist_words.specs.CommandLine.{Replay}
+use Rattle.rist_words.specs.CommandLine.{Replay, Send}
 use Rattle.outside_io.specs.Causes.{HasOpenCause}
 use Rattle.rist_top.specs.Causes.{fault_of}
 use Rattle.rist_top.specs.Frame.{OpensSourceFirst}
@@ -79,6 +79,6 @@ returns-in-Ok-clause-links_after g c told k is = c.run_line.ensures.links_after 
 pub returns-in-Ok-clause-whole : goal.returns-in-Ok-clause-whole
 returns-in-Ok-clause-whole g c unused opened k is =
     let same = same_line _ _ (sym c.in-Ok.ensures.ok ∙ is) in
-    sent_completes _ _ (g.H.Host.shelf c.args.host.now) (g.H.Host.shelf c.run_line.new.host) k c.run_line.result
+    sent_completes _ _ (g.H.Host.shelf c.args.host.now) (g.H.Host.shelf c.run_line.new.host) k c.run_line.result (line_range _ (Send k) is).stream.first
     (λ e. opened (subst (λ s. HasOpenCause (fault_of s) (g.H.Host.faults c.args.host.now) (g.H.Host.faults c.run_line.new.host)) e c.run_line.ensures.opened))
     (λ failed. c.run_line.ensures.random k same unused failed) (λ ran. c.run_line.ensures.sent k same unused ran)
