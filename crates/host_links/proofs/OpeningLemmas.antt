@@ -3,7 +3,7 @@ use Rattle.std.proofs.Common.{map, take, zero, suc, ◌≡◌, ◌⊎◌, ◌≤
 use mathlib.Core.Logic.{inl, inr}
 use Rattle.std.proofs.lemmas.List.{get_or_at, get_or_append_left, map-append, take_more}
 use Rattle.outside_host.specs.declared.host.Place.{Place}
-use Rattle.outside_host.specs.declared.host.Place.TheVariants.{Here, Out, Back}
+use Rattle.outside_host.specs.declared.host.Place.TheVariants.{Here, Out}
 use Rattle.host_links.specs.Opening.{AreOut, AreBack, AreAsTheyWere, IsAsItWas}
 use Rattle.host_links.specs.Inside.Steps.{IsNextOut, StayFirst}
 use Rattle.host_links.proofs.GivingLemmas.{same_place}
@@ -43,7 +43,7 @@ came_back old now after new (link ∷ links) place less out stay back =
     inr (slice_index_or (link ∷ links) place link, out.was place link less, back.now place link less (stay place less ∙ out.now place less))
 
 -- one number lies below another, or not
-below : (a b : ℕ) → (a < b) ⊎ (b ≤ a)
+pub below : (a b : ℕ) → (a < b) ⊎ (b ≤ a)
 below zero zero = inr (omega arith)
 below zero (suc b) = inl (omega arith)
 below (suc a) zero = inr (omega arith)

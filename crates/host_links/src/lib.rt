@@ -3,5 +3,7 @@
 #![tactic(auto)]
 
 mod opening;
+#[cfg(test)]
+mod tests;
 
 pub use opening::{back_links, open_links};

@@ -2,3 +2,6 @@ pub mod ServedLemmas
 pub mod MoveLemmas
 pub mod PieceLemmas
 pub mod GivenLemmas
+pub mod PacketLemmas
+pub mod DownLemmas
+pub mod UnsealedLemmas

@@ -4,3 +4,6 @@ pub mod CompleteLemmas
 pub mod UntouchedLemmas
 pub mod LineLemmas
 pub mod SendLemmas
+pub mod PiecesLemmas
+pub mod FrameLemmas
+pub mod WholeLemmas

@@ -1,6 +1,6 @@
 -- What a sending leaves, part by part.
-use Rattle.std.proofs.Common.{◌≡◌, ◌⊎◌, ◌*◌, ◌<◌, ◌∷◌, ◌++◌, take, drop, ℕ, List, [], length, map, Option, IfSome, refl, sym, ap, ◌∙◌, subst, slice_index_or}
-use mathlib.Core.Logic.{inl, inr}
+use Rattle.std.proofs.Common.{◌≡◌, ◌*◌, ◌<◌, ◌∷◌, ◌++◌, take, drop, ℕ, List, [], length, map, Option, IfSome, refl, sym, ap, ◌∙◌, subst, slice_index_or}
+use mathlib.Core.Logic.{inl}
 use Rattle.std.specs.Prelude.{Result, Bool}
 use Rattle.outside_host.specs.Shelf.{Shelf}
 use Rattle.outside_host.specs.declared.host.Place.{Place}
@@ -14,7 +14,6 @@ use Rattle.rist_send.specs.Run.{setup_of}
 use Rattle.rist_send.specs.Sending.{SendsSource}
 use Rattle.rist_send.specs.Served.{Outside, AreServed, Runs, new_run}
 use Rattle.rist_send.specs.declared.fault.SendFault.{SendFault}
-use Rattle.rist_send.specs.declared.settings.SendSettings.{SendSettings}
 use Rattle.rist_words.specs.CommandLine.{SendCommand}
 use Rattle.rist_top.specs.Objects.{Tells}
 use Rattle.rist_top.specs.Sealing.{DrawnFirst}
@@ -94,10 +93,31 @@ still_unused tells old mid e unused = record {
   clock = ap (λ x. x.next_clock) e ∙ unused.clock;
 }
 
+-- what was sent by a clock on links that were handed out before it and came back after it
+pub on_opened_links : {I O E L C : Type 0} (tells : Tells I O E) (live : TellsLive L C) (old mid later new : Shelf I O E L C) (c : SendCommand) (source spent : I) (links was is given : List L) (status : Status)
+    → mid ≡ record old { links = mid.links; opened_links = mid.opened_links } → new ≡ record later { links = new.links }
+    → length links ≡ length c.links → AreOut old.links mid.links links → later.links ≡ mid.links → AreBack later.links new.links given
+    → was ≡ links → given ≡ is → length is ≡ length was
+    → SentByClock tells live mid later c source spent was is status → SentOnLinks tells live old new c source spent status
+on_opened_links tells live old mid later new c source spent links was is given status e f some out between back same gives long s = record {
+  was = was;
+  is = is;
+  count = ap length same ∙ some;
+  took = λ place d less. subst (λ l. old.links place ≡ Here (slice_index_or l place d)) (sym same) (out.was place d (subst (λ l. place < length l) same less));
+  gave = λ place d less.
+      subst (λ l. new.links place ≡ Back (slice_index_or l place d)) gives
+      (back.now place d (subst (λ l. place < length l) (sym gives) (subst (λ n. place < n) (sym long) less))
+      (ap (λ x. x place) between ∙ out.now place (subst (λ l. place < length l) same less)));
+  sent = by_clock_between tells live old mid later new c source spent was is status (ap (λ x. x.clocks) e) (ap (λ x. x.entropies) e) (ap (λ x. x.clocks) f) (ap (λ x. x.entropies) f) s;
+}
+
 -- a front that was taken out and put back
 front_of : {A : Type 0} (ys rest : List A) → take (length ys) (ys ++ rest) ≡ ys
 front_of [] rest = refl
 front_of (y ∷ ys) rest = ap (λ l. y ∷ l) (front_of ys rest)
+
+pub put_front : {A : Type 0} (n : ℕ) (xs rest : List A) → n ≡ length xs → take n (xs ++ rest) ≡ xs
+put_front n xs rest count = rw count (front_of xs rest)
 
 pub put_back : {A : Type 0} (n : ℕ) (xs ys : List A) → n ≡ length ys → xs ≡ ys → take n (xs ++ drop (length xs) ys) ≡ ys
 put_back n xs ys count same = rw (count, same) (front_of ys (drop (length ys) ys))

@@ -1,10 +1,12 @@
 -- A command whose calls don't fail comes to its end, or memory is refused.
-use Rattle.std.specs.Prelude.{◌≡◌, ◌⊎◌, ◌≤◌, ◌^◌, ℕ, List, length, Some}
+use Rattle.std.specs.Prelude.{◌≡◌, ◌⊎◌, ◌<◌, ◌≤◌, ◌^◌, ℕ, List, length, Some, true, is_some}
 use Rattle.outside_io.specs.Causes.{Rose}
 use Rattle.outside_host.specs.Shelf.{Shelf}
+use Rattle.outside_host.specs.declared.host.Place.{Place}
 use Rattle.outside_host.specs.declared.host.Place.TheVariants.{Here, Back}
 use Rattle.capture_file.specs.Capture.{Record, IsCapture}
-use Rattle.rist_words.specs.CommandLine.{CommandLine, Replay, Show, Pack, Send}
+use Rattle.rist_sender.specs.Links.{Line}
+use Rattle.rist_words.specs.CommandLine.{CommandLine, Replay, Show, Pack, Send, SendCommand}
 use Rattle.rist_top.specs.Ran.{source_name, sink_name}
 use Rattle.rist_top.specs.Sealing.{FailedAt}
 use Rattle.rist_top.specs.Objects.{Tells}
@@ -35,3 +37,21 @@ abbrev pub Completes : {I O E L C : Type 0} → Tells I O E → Shelf I O E L C 
 Completes {I} tells old new c status =
     (source : I) (b : List ℕ) → old.sources (source_name c) ≡ Here source → tells.remaining source ≡ Some b → IsWholeInput c b
     → NoneFailed tells old new c → (status ≡ statuses.Done) ⊎ (status ≡ statuses.Memory)
+
+-- one of so many links stays up: the count of its failed calls didn't rise
+pub record StaysUp {L : Type 0} (line : Line L) (old new : ℕ → Place L) (count : ℕ) : Type 0 where
+  pub place : ℕ
+  pub among : place < count
+  pub up : (was is : L) → old place ≡ Here was → new place ≡ Back is → Rose (line.faults was) (line.faults is) → ⊥
+
+-- a run came to the source's end, or it had too few turns for that, or with a passphrase too few pairs, or memory was refused
+abbrev pub IsWhole : SendCommand → Status → Type 0
+IsWhole c status =
+    (status ≡ statuses.Done)
+    ⊎ ((status ≡ statuses.TurnsSpent) ⊎ (((status ≡ statuses.Spent) × (is_some c.session.pass ≡ true)) ⊎ (status ≡ statuses.Memory)))
+
+-- a sending of such a source in which nothing failed but links, of which one stays up, ends so
+abbrev pub CompletesSending : {I O E L C : Type 0} → Tells I O E → Line L → Shelf I O E L C → Shelf I O E L C → SendCommand → Status → Type 0
+CompletesSending {I} tells line old new c status =
+    (source : I) (b : List ℕ) → old.sources c.source ≡ Here source → tells.remaining source ≡ Some b → length b ≤ 2 ^ 40
+    → NoneFailed tells old new (Send c) → StaysUp line old.links new.links (length c.links) → IsWhole c status

@@ -8,6 +8,7 @@ pub mod Works
 pub mod Places
 pub mod Sealing
 pub mod Sent
+pub mod Pieces
 pub mod Ran
 pub mod Frame
 pub mod Untouched

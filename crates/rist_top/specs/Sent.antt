@@ -1,9 +1,9 @@
 -- What a sending leaves of the objects of its host.
-use Rattle.std.specs.Prelude.{◌≡◌, ◌≢◌, ◌<◌, ◌≤◌, ℕ, List, [], length, map, slice_index_or, is_some, false, Option, None, IfSome, Bool, IsTrue, Result, Ok, Err}
+use Rattle.std.specs.Prelude.{◌≡◌, ◌<◌, ℕ, List, [], length, map, slice_index_or, false, Option, IfSome, Bool, IsTrue, Result, Ok, Err}
 use Rattle.outside_io.specs.Causes.{HasReadCause}
 use Rattle.outside_host.specs.Shelf.{Shelf}
 use Rattle.outside_host.specs.declared.host.Place.TheVariants.{Here, Back}
-use Rattle.host_links.specs.Opening.{AreAsTheyWere, HasOpenedNone}
+use Rattle.host_links.specs.Opening.{AreAsTheyWere}
 use Rattle.psk_seal.specs.Sealer.{SealerState}
 use Rattle.rist_sender.specs.Links.{Line}
 use Rattle.rist_sender.specs.Calls.{Work}
@@ -15,7 +15,7 @@ use Rattle.rist_send.specs.declared.fault.SendFault.TheVariants as faults
 use Rattle.rist_words.specs.CommandLine.{SendCommand}
 use Rattle.rist_top.specs.Causes.{fault_of}
 use Rattle.rist_top.specs.Objects.{Tells}
-use Rattle.rist_top.specs.Places.{CameBack, IsAsItWas}
+use Rattle.rist_top.specs.Places.{IsAsItWas}
 use Rattle.rist_top.specs.Sealing.{DrawnFirst}
 use Rattle.rist_top.specs.Sessions.{session_sent, setup_sent}
 use Rattle.rist_top.specs.Works.{IsFreshFor}

@@ -1,5 +1,5 @@
 //! A sending, from its objects to its status.
-ghost use Rattle.std.specs.Prelude.{◌≡◌, ◌≢◌, IsTrue, length, map};
+ghost use Rattle.std.specs.Prelude.{◌≡◌, ◌≢◌, IsTrue, length, map, is_some};
 ghost use Rattle.outside_io.specs.Causes.{HasOpenCause, HasReadCause};
 ghost use Rattle.outside_host.specs.Shelf.{Stays};
 ghost use Rattle.host_links.specs.Opening.{AreAsTheyWere};
@@ -10,6 +10,7 @@ ghost use Rattle.rist_top.specs.Places.{IsAsItWas};
 ghost use Rattle.rist_top.specs.Sealing.{FailedAt};
 ghost use Rattle.rist_top.specs.Sessions.{bonding_with};
 ghost use Rattle.rist_top.specs.Works.{IsFreshFor};
+ghost use Rattle.rist_top.specs.Frame.{KeepsAround, KeepsLinksBut, KeepsTimes, OpensLinksAfter, links_opened};
 ghost use Rattle.rist_top.specs.Inside.Answers.{KeepsButTiming, KeepsFiles};
 ghost use Rattle.rist_top.specs.Sent.{IsUnused, SendsAs, SentByClock, SentOnLinks, Sent, Unsent};
 
@@ -112,6 +113,8 @@ fn send_by_clock<H: Host>(
     ensures random { IsTrue H.tells → (H.shelf host.old).next_entropy ≡ 0 → result ≡ Status.EntropyFault
         → FailedAt ⟦<H as Telling>⟧.objects (H.shelf host.old) (H.shelf host.new) }
     ensures others { IsTrue H.tells → KeepsButTiming (H.shelf host.old) (H.shelf host.new) }
+    ensures times { IsTrue H.tells → (H.shelf host.old).next_clock ≡ 0 → (H.shelf host.old).next_entropy ≡ 0
+        → KeepsTimes (H.shelf host.old) (H.shelf host.new) (is_some (shown_send line.now).session.pass) }
     ensures line { result ≢ Status.Usage }
     ensures opened { HasOpenCause (fault_of result) (H.faults host.old) (H.faults host.new) }
     ensures read { HasReadCause (fault_of result) (H.Input.faults source.old) (H.Input.faults source.new) }
@@ -142,6 +145,12 @@ fn send_on_links<H: Host>(
         (H.shelf host.old) (H.shelf host.new) (shown_send line.now) source.old source.new result }
     ensures unsent { CanRefuse result → source.new ≡ source.old }
     ensures others { IsTrue H.tells → KeepsFiles (H.shelf host.old) (H.shelf host.new) }
+    ensures kept { IsUnused H.tells (H.shelf host.old)
+        → KeepsLinksBut (length (shown_send line.now).links) (H.shelf host.old).links (H.shelf host.new).links }
+    ensures links_opened { IsUnused H.tells (H.shelf host.old) → (CanRefuse result → ⊥)
+        → (H.shelf host.new).opened_links ≡ links_opened (shown_send line.now) }
+    ensures times { IsUnused H.tells (H.shelf host.old)
+        → KeepsTimes (H.shelf host.old) (H.shelf host.new) (is_some (shown_send line.now).session.pass) }
     ensures links { IsUnused H.tells (H.shelf host.old) → CanRefuse result
         → AreAsTheyWere (H.shelf host.old).links (H.shelf host.new).links }
     ensures clock { IsUnused H.tells (H.shelf host.old) → CanRefuse result
@@ -175,6 +184,12 @@ pub fn send_line<H: Host>(alloc: Global, host: &mut H, line: &SendLine<'_>) -> S
         (H.shelf host.old) (H.shelf host.new) (shown_send line.now) result }
     ensures unsent { IsUnused H.tells (H.shelf host.old) → CanRefuse result
         → Unsent (H.shelf host.old) (H.shelf host.new) (shown_send line.now) }
+    ensures around { IsUnused H.tells (H.shelf host.old)
+        → KeepsAround (H.shelf host.old) (H.shelf host.new) (shown_send line.now) }
+    ensures links_opened { IsUnused H.tells (H.shelf host.old) → (CanRefuse result → ⊥)
+        → (H.shelf host.new).opened_links ≡ links_opened (shown_send line.now) }
+    ensures order { IsTrue H.tells
+        → OpensLinksAfter (H.shelf host.old) (H.shelf host.new) (shown_send line.now) }
     ensures random { IsUnused H.tells (H.shelf host.old) → result ≡ Status.EntropyFault
         → FailedAt ⟦<H as Telling>⟧.objects (H.shelf host.old) (H.shelf host.new) }
     ensures line { result ≢ Status.Usage }

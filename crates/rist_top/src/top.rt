@@ -7,11 +7,13 @@ ghost use Rattle.rist_words.specs.Ranges.{IsInRange};
 ghost use Rattle.rist_top.specs.Causes.{CanRefuse, fault_of};
 ghost use Rattle.rist_top.specs.Lines.{IsLine, IsNoLine, IsOverFiles, IfFiles, IfSending, IsFresh};
 ghost use Rattle.rist_top.specs.Ran.{Ran, source_name, sink_name};
-ghost use Rattle.rist_top.specs.Frame.{KeepsOthers, OpensSourceFirst};
+ghost use Rattle.rist_top.specs.Frame.{KeepsAround, KeepsOthers, OpensLinksAfter, OpensSourceFirst, links_opened};
 ghost use Rattle.rist_top.specs.Untouched.{Untouched, LeavesAtMemory};
 ghost use Rattle.rist_top.specs.Exact.{WritesReached};
+ghost use Rattle.rist_top.specs.Sealing.{FailedAt};
 ghost use Rattle.rist_top.specs.Sent.{IsUnused, Sent, Unsent};
-ghost use Rattle.rist_top.specs.Complete.{Completes};
+ghost use Rattle.rist_top.specs.Pieces.{SentInPieces};
+ghost use Rattle.rist_top.specs.Complete.{Completes, CompletesSending};
 
 use crate::sending::send_line;
 use crate::status::Status;
@@ -62,13 +64,33 @@ pub fn run<H: Host>(alloc: Global, words: &[String], host: &mut H) -> Status
     ensures sent { IsUnused H.tells (H.shelf host.old) → (CanRefuse result → ⊥)
         → IfSending words.now (λ c.
         Sent ⟦<H as Telling>⟧.objects ⟦<H as Telling>⟧.live (H.shelf host.old) (H.shelf host.new) c result) }
+    // The payloads sent are the first pieces of the source's octets, in order, each once, and with Done all of them.
+    ensures pieces { IsUnused H.tells (H.shelf host.old) → (CanRefuse result → ⊥)
+        → IfSending words.now (λ c.
+        SentInPieces ⟦<H as Telling>⟧.objects ⟦<H as Telling>⟧.live (H.shelf host.old) (H.shelf host.new) c result) }
     ensures unsent { IsUnused H.tells (H.shelf host.old) → CanRefuse result
         → IfSending words.now (λ c. Unsent (H.shelf host.old) (H.shelf host.new) c) }
+
+    // A sending, too, touches only what its line speaks of, and random words fail it only where the first of them failed.
+    ensures around { IsUnused H.tells (H.shelf host.old)
+        → IfSending words.now (λ c. KeepsAround (H.shelf host.old) (H.shelf host.new) c) }
+    // Just the links of the line are opened, in its order, and none before the source could be.
+    ensures links_opened { IsUnused H.tells (H.shelf host.old) → (CanRefuse result → ⊥)
+        → IfSending words.now (λ c. (H.shelf host.new).opened_links ≡ links_opened c) }
+    ensures links_after { IsTrue H.tells
+        → IfSending words.now (λ c. OpensLinksAfter (H.shelf host.old) (H.shelf host.new) c) }
+    ensures random { IsUnused H.tells (H.shelf host.old) → result ≡ Status.EntropyFault
+        → IfSending words.now (λ c.
+        FailedAt ⟦<H as Telling>⟧.objects (H.shelf host.old) (H.shelf host.new)) }
 
     // Where no call fails, a capture is taken to its end, and so is a source.
     ensures complete { IsFresh H.tells (H.shelf host.old) → (Rose (H.faults host.old) (H.faults host.new) → ⊥)
         → IfFiles words.now (λ c.
         Completes ⟦<H as Telling>⟧.objects (H.shelf host.old) (H.shelf host.new) c result) }
+    // So is the source of a sending where one link stays up, unless turns or pairs are spent before.
+    ensures whole { IsUnused H.tells (H.shelf host.old) → (Rose (H.faults host.old) (H.faults host.new) → ⊥)
+        → IfSending words.now (λ c. CompletesSending ⟦<H as Telling>⟧.objects ⟦<H as Telling>⟧.live.line
+        (H.shelf host.old) (H.shelf host.new) c result) }
 {
     match line(alloc, words) {
         Ok(line) => run_line(alloc, host, &line),
@@ -100,6 +122,17 @@ fn run_line<H: Host>(alloc: Global, host: &mut H, line: &Line<'_>) -> Status
     ensures unsent { (c : SendCommand) → shown line.now ≡ Send c
         → IsUnused H.tells (H.shelf host.old) → CanRefuse result
         → Unsent (H.shelf host.old) (H.shelf host.new) c }
+    ensures around { (c : SendCommand) → shown line.now ≡ Send c
+        → IsUnused H.tells (H.shelf host.old)
+        → KeepsAround (H.shelf host.old) (H.shelf host.new) c }
+    ensures links_opened { (c : SendCommand) → shown line.now ≡ Send c
+        → IsUnused H.tells (H.shelf host.old) → (CanRefuse result → ⊥)
+        → (H.shelf host.new).opened_links ≡ links_opened c }
+    ensures links_after { (c : SendCommand) → shown line.now ≡ Send c → IsTrue H.tells
+        → OpensLinksAfter (H.shelf host.old) (H.shelf host.new) c }
+    ensures random { (c : SendCommand) → shown line.now ≡ Send c
+        → IsUnused H.tells (H.shelf host.old) → result ≡ Status.EntropyFault
+        → FailedAt ⟦<H as Telling>⟧.objects (H.shelf host.old) (H.shelf host.new) }
 {
     match line {
         Line::Replay(_) => file_line(alloc, host, line),

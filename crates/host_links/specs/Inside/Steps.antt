@@ -1,5 +1,5 @@
 -- One link more.
-use Rattle.std.specs.Prelude.{◌≡◌, ◌≢◌, ◌<◌, ℕ, List, [], ◌∷◌, ◌++◌, length}
+use Rattle.std.specs.Prelude.{◌≡◌, ◌<◌, ℕ, List, [], ◌∷◌, ◌++◌, length}
 use Rattle.outside_host.specs.Shelf.{HandsOut}
 use Rattle.outside_host.specs.declared.host.Place.{Place}
 

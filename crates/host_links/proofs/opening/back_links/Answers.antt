@@ -1,7 +1,6 @@
 -- Links are given back from the last one on.
-use Rattle.std.proofs.Common.{◌≡◌, length, ℕ, refl, arith, rules}
-use Rattle.std.proofs.lemmas.Grind.{common_steps}
-use Rattle.host_links.proofs.GivingLemmas.{IsGivingBack, all_given, none_given, one_given}
+use Rattle.std.proofs.Common.{refl, arith}
+use Rattle.host_links.proofs.GivingLemmas.{none_given}
 use Rattle.host_links.proofs.opening.back_links.Goals as goal
 
 pub loop-link-init : goal.loop-link-init

@@ -1,5 +1,5 @@
 -- those behind the ones that are left came back
-use Rattle.std.proofs.Common.{◌≡◌, ◌≤◌, length, ℕ}
+use Rattle.std.proofs.Common.{◌≡◌, ◌≤◌, length}
 use Rattle.std.specs.Prelude.{IsTrue}
 use Rattle.outside_host.specs.Shelf.{ChangesLinks}
 use Rattle.host_links.proofs.GivingLemmas.{IsGivingBack}

@@ -1,8 +1,7 @@
 -- Each link that was opened is out, or comes back as it was.
-use Rattle.std.proofs.Common.{rules, arith, ap, sym, ◌∙◌, ◌≡◌, ◌+◌, ◌++◌, ◌∷◌, [], length, length-append, subst, map, take}
-use Rattle.std.proofs.lemmas.Grind.{common_steps}
+use Rattle.std.proofs.Common.{rules, arith, ap, sym, ◌∙◌, ◌+◌, length, length-append, subst}
 use Rattle.host_links.specs.Opening.{AreBack}
-use Rattle.host_links.proofs.OpeningLemmas.{none_out, one_out, all_as_they_were, one_more}
+use Rattle.host_links.proofs.OpeningLemmas.{one_out, all_as_they_were, one_more}
 use Rattle.host_links.proofs.opening.open_links.Goals as goal
 
 pub back_links-requires : goal.back_links-requires

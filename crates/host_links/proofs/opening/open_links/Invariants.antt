@@ -1,5 +1,5 @@
 -- a link for each address so far
-use Rattle.std.proofs.Common.{◌≡◌, length, map, take, ℕ}
+use Rattle.std.proofs.Common.{◌≡◌, length, map, take}
 use Rattle.std.specs.Prelude.{IsTrue}
 use Rattle.outside_host.specs.Shelf.{ChangesOpening}
 use Rattle.host_links.specs.Opening.{AreOut, HasOpenedNone}

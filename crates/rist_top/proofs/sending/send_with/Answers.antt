@@ -1,5 +1,5 @@
 -- The run's answer and what it left are the line's.
-use Rattle.std.proofs.Common.{rules, arith, ◌≡◌, ◌∙◌, ap, sym}
+use Rattle.std.proofs.Common.{◌∙◌}
 use Rattle.rist_words.specs.Shown.{shown_send}
 use Rattle.rist_top.proofs.SendLemmas.{sends_as}
 use Rattle.rist_top.specs.Sent.{no_work}

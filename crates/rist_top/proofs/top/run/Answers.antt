@@ -2,7 +2,7 @@
 -- nothing.
 use Rattle.std.proofs.Common.{◌≡◌, ◌∙◌, sym, subst}
 use Rattle.rist_words.proofs.RangeLemmas.{line_range}
-use Rattle.rist_words.specs.CommandLine.{Replay}
+use Rattle.rist_words.specs.CommandLine.{Replay, Send}
 use Rattle.outside_io.specs.Causes.{HasOpenCause}
 use Rattle.rist_top.specs.Causes.{fault_of}
 use Rattle.rist_top.specs.Frame.{OpensSourceFirst}
@@ -13,6 +13,8 @@ use Rattle.rist_top.proofs.LineLemmas.{same_line, ran_line}
 use Rattle.rist_top.proofs.ExactLemmas.{ran_reached}
 use Rattle.rist_top.proofs.CompleteLemmas.{ran_completes}
 use Rattle.rist_top.proofs.UntouchedLemmas.{line_at_memory}
+use Rattle.rist_top.proofs.PiecesLemmas.{in_pieces}
+use Rattle.rist_top.proofs.WholeLemmas.{sent_completes}
 use Rattle.rist_top.proofs.top.run.Goals as goal
 
 not_open : statuses.Done ≡ statuses.OpenFault → ⊥
@@ -57,3 +59,26 @@ returns-in-Ok-clause-complete g c fresh opened k is files =
 
 pub returns-in-Ok-clause-sent : goal.returns-in-Ok-clause-sent
 returns-in-Ok-clause-sent g c unused ran k is = c.run_line.ensures.sent k (same_line _ _ (sym c.in-Ok.ensures.ok ∙ is)) unused ran
+
+pub returns-in-Ok-clause-pieces : goal.returns-in-Ok-clause-pieces
+returns-in-Ok-clause-pieces g c unused ran k is =
+    in_pieces _ _ (g.H.Host.shelf c.args.host.now) (g.H.Host.shelf c.run_line.new.host) k c.run_line.result (c.run_line.ensures.sent k (same_line _ _ (sym c.in-Ok.ensures.ok ∙ is)) unused ran)
+
+pub returns-in-Ok-clause-around : goal.returns-in-Ok-clause-around
+returns-in-Ok-clause-around g c unused k is = c.run_line.ensures.around k (same_line _ _ (sym c.in-Ok.ensures.ok ∙ is)) unused
+
+pub returns-in-Ok-clause-random : goal.returns-in-Ok-clause-random
+returns-in-Ok-clause-random g c unused failed k is = c.run_line.ensures.random k (same_line _ _ (sym c.in-Ok.ensures.ok ∙ is)) unused failed
+
+pub returns-in-Ok-clause-links_opened : goal.returns-in-Ok-clause-links_opened
+returns-in-Ok-clause-links_opened g c unused ran k is = c.run_line.ensures.links_opened k (same_line _ _ (sym c.in-Ok.ensures.ok ∙ is)) unused ran
+
+pub returns-in-Ok-clause-links_after : goal.returns-in-Ok-clause-links_after
+returns-in-Ok-clause-links_after g c told k is = c.run_line.ensures.links_after k (same_line _ _ (sym c.in-Ok.ensures.ok ∙ is)) told
+
+pub returns-in-Ok-clause-whole : goal.returns-in-Ok-clause-whole
+returns-in-Ok-clause-whole g c unused opened k is =
+    let same = same_line _ _ (sym c.in-Ok.ensures.ok ∙ is) in
+    sent_completes _ _ (g.H.Host.shelf c.args.host.now) (g.H.Host.shelf c.run_line.new.host) k c.run_line.result (line_range _ (Send k) is).stream.first
+    (λ e. opened (subst (λ s. HasOpenCause (fault_of s) (g.H.Host.faults c.args.host.now) (g.H.Host.faults c.run_line.new.host)) e c.run_line.ensures.opened))
+    (λ failed. c.run_line.ensures.random k same unused failed) (λ ran. c.run_line.ensures.sent k same unused ran)

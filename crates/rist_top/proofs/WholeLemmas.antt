@@ -1,0 +1,115 @@
+-- A sending in which nothing fails but links, of which one stays up, comes to its end.
+use Rattle.std.proofs.Common.{◌≡◌, ◌∙◌, ◌⊎◌, ◌+◌, ◌<◌, ◌≤◌, ◌^◌, ℕ, List, [], ◌∷◌, ◌++◌, length, reverse, get_or, Bool, true, false, is_some, Option, None, Some, Result, Ok, Err, refl, sym, ap, subst, arith, length-append}
+use Rattle.std.proofs.lemmas.List.{length-reverse}
+use mathlib.Core.Logic.{inl, inr}
+use Rattle.outside_io.specs.Causes.{Rose, HasReadCause}
+use Rattle.outside_host.specs.Shelf.{Shelf}
+use Rattle.outside_host.specs.declared.host.Place.{Place}
+use Rattle.outside_host.specs.declared.host.Place.TheVariants.{Here, Back}
+use Rattle.psk_seal.specs.Sealer.{SealerState}
+use Rattle.sender_rules.specs.Sendings.{sent_packets}
+use Rattle.rist_sender.specs.Links.{Line}
+use Rattle.rist_sender.specs.History.{Event, packet_count, sendings_of}
+use Rattle.rist_send.specs.Given.{joined, GivesFirst, Gives}
+use Rattle.rist_send.specs.declared.fault.SendFault.{SendFault}
+use Rattle.rist_send.specs.declared.fault.SendFault.TheVariants as faults
+use Rattle.rist_send.proofs.DownLemmas.{down_at_end, down_rose}
+use Rattle.rist_send.proofs.PacketLemmas.{sent_as_packets, as_many, few_given}
+use Rattle.rist_send.proofs.UnsealedLemmas.{far_at_end}
+use Rattle.rist_words.specs.CommandLine.{Send, SendCommand}
+use Rattle.rist_top.specs.Causes.{CanRefuse, fault_of}
+use Rattle.rist_top.specs.Objects.{Tells}
+use Rattle.rist_top.specs.Sealing.{FailedAt}
+use Rattle.rist_top.specs.Sessions.{session_sent, setup_sent}
+use Rattle.rist_top.specs.Sent.{TellsLive, Sent, send_status}
+use Rattle.rist_top.specs.Complete.{NoneFailed, StaysUp, IsWhole, CompletesSending}
+use Rattle.rist_top.specs.declared.status.Status.{Status}
+use Rattle.rist_top.specs.declared.status.Status.TheVariants as statuses
+use Rattle.rist_top.proofs.PlaceLemmas.{same_here}
+
+none_of : (s : Status) → (s ≡ statuses.OpenFault → ⊥) → (s ≡ statuses.Memory → ⊥) → (s ≡ statuses.EntropyFault → ⊥) → CanRefuse s → ⊥
+none_of s a b d (inl e) = a e
+none_of s a b d (inr (inl e)) = b e
+none_of s a b d (inr (inr e)) = d e
+
+is_refused : (s : Status) → CanRefuse s ⊎ (CanRefuse s → ⊥)
+is_refused statuses.OpenFault = inl (inl refl)
+is_refused statuses.Memory = inl (inr (inl refl))
+is_refused statuses.EntropyFault = inl (inr (inr refl))
+is_refused statuses.Done = inr (none_of statuses.Done (λ e. cc) (λ e. cc) (λ e. cc))
+is_refused statuses.Usage = inr (none_of statuses.Usage (λ e. cc) (λ e. cc) (λ e. cc))
+is_refused statuses.ReadFault = inr (none_of statuses.ReadFault (λ e. cc) (λ e. cc) (λ e. cc))
+is_refused statuses.WriteFault = inr (none_of statuses.WriteFault (λ e. cc) (λ e. cc) (λ e. cc))
+is_refused (statuses.BadCapture kind at) = inr (none_of (statuses.BadCapture kind at) (λ e. cc) (λ e. cc) (λ e. cc))
+is_refused statuses.TooLong = inr (none_of statuses.TooLong (λ e. cc) (λ e. cc) (λ e. cc))
+is_refused statuses.LinksDown = inr (none_of statuses.LinksDown (λ e. cc) (λ e. cc) (λ e. cc))
+is_refused statuses.Spent = inr (none_of statuses.Spent (λ e. cc) (λ e. cc) (λ e. cc))
+is_refused statuses.TurnsSpent = inr (none_of statuses.TurnsSpent (λ e. cc) (λ e. cc) (λ e. cc))
+
+-- a source within the bound isn't too long
+not_long : (b : List ℕ) (left : Option (List ℕ)) (given : List (List ℕ)) → length b ≤ 2 ^ 40 → GivesFirst faults.TooLong b left given → ⊥
+not_long b left given bound g =
+    omega (arith, bound, g.drops.1, ap length g.whole, length-append (joined given) (g.dropped ++ g.rest), length-append g.dropped g.rest)
+
+-- a link that stays up isn't one whose count rose
+not_up : {L : Type 0} (line : Line L) (old new : ℕ → Place L) (was is : List L) (place : ℕ) → place < length was
+    → ((d : L) → old place ≡ Here (get_or was place d)) → ((d : L) → new place ≡ Back (get_or is place d))
+    → ((d : L) → Rose (line.faults (get_or was place d)) (line.faults (get_or is place d)))
+    → ((x y : L) → old place ≡ Here x → new place ≡ Back y → Rose (line.faults x) (line.faults y) → ⊥) → ⊥
+not_up line old new [] is place less took gave rose up = omega (arith, less)
+not_up line old new (x ∷ xs) is place less took gave rose up = up (get_or (x ∷ xs) place x) (get_or is place x) (took x) (gave x) (rose x)
+
+no_sealer : (sealer : Option SealerState) → is_some sealer ≡ false → sealer ≡ None
+no_sealer None is = refl
+no_sealer (Some sealer) is = cc
+
+-- the payloads of such a source don't come to number 2^62
+not_far : (c : SendCommand) (history : List Event) (sent : List (List ℕ)) (b : List ℕ) (left : Option (List ℕ)) → c.stream.first < 2 ^ 32 → length b ≤ 2 ^ 40
+    → 2 ^ 62 ≤ c.stream.first + packet_count history → length (sent_packets (sendings_of history)) ≡ length (reverse sent) → GivesFirst faults.Spent b left sent → ⊥
+not_far c history sent b left low bound far many g =
+    omega (arith, low, bound, far, many, length-reverse sent, few_given faults.Spent b left sent g)
+
+sent_ends : {I O E L C : Type 0} (tells : Tells I O E) (live : TellsLive L C) (old new : Shelf I O E L C) (c : SendCommand) (status : Status) (end : Result Unit SendFault)
+    → c.stream.first < 2 ^ 32 → (source : I) (b : List ℕ) → old.sources c.source ≡ Here source → tells.remaining source ≡ Some b → length b ≤ 2 ^ 40 → NoneFailed tells old new (Send c)
+    → StaysUp live.line old.links new.links (length c.links) → (s : Sent tells live old new c status) → s.sent.sent.sends.end ≡ end → status ≡ send_status end → IsWhole c status
+sent_ends tells live old new c status (Ok done) low source b here told bound none stays s is answer = inl answer
+sent_ends tells live old new c status (Err faults.TurnsSpent) low source b here told bound none stays s is answer = inr (inl answer)
+sent_ends tells live old new c status (Err faults.Spent) low source b here told bound none stays s is answer = by_pass (is_some c.session.pass) refl
+  where
+    by_pass : (pass : Bool) → is_some c.session.pass ≡ pass → IsWhole c status
+    by_pass true has = inr (inr (inl (answer, has)))
+    by_pass false has =
+        let a = s.sent.sent.sends in
+        absurd (not_far c a.to.work.history a.to.sent b a.to.octets low bound
+        (far_at_end (setup_sent c) a.end _ a.to a.sends (no_sealer s.sent.sent.sealer (s.sent.sent.fresh.paired ∙ has)) is)
+        (as_many c.stream.nulls c.stream.first (reverse a.to.sent) (sent_packets (sendings_of a.to.work.history)) (sent_as_packets (setup_sent c) a.end _ a.to a.sends tt))
+        (subst (λ end. Gives end b a.to.octets a.to.sent) is (a.sends.gives b (ap tells.remaining (same_here s.source source (sym s.took ∙ here)) ∙ told))))
+sent_ends tells live old new c status (Err faults.ReadFault) low source b here told bound none stays s is answer =
+    absurd (none.reads s.source s.spent s.took s.gave (subst (λ x. HasReadCause (fault_of x) (tells.read_faults s.source) (tells.read_faults s.spent)) answer s.read))
+sent_ends tells live old new c status (Err faults.TooLong) low source b here told bound none stays s is answer =
+    let a = s.sent.sent.sends in
+    absurd (not_long b a.to.octets a.to.sent bound
+    (subst (λ end. Gives end b a.to.octets a.to.sent) is (a.sends.gives b (ap tells.remaining (same_here s.source source (sym s.took ∙ here)) ∙ told))))
+sent_ends tells live old new c status (Err faults.LinksDown) low source b here told bound none stays s is answer =
+    let o = s.sent in
+    let a = o.sent.sends in
+    let less : stays.place < length o.was = subst (λ n. stays.place < n) (sym o.count) stays.among in
+    absurd (not_up live.line old.links new.links o.was o.is stays.place less (λ d. o.took stays.place d less) (λ d. o.gave stays.place d less)
+    (λ d. down_rose live.line c.stream.flow (session_sent c) a.to.work.history o.was o.is stays.place d less (down_at_end (setup_sent c) a.end _ a.to a.sends is stays.place stays.among) a.given)
+    stays.up)
+
+refused_ends : (c : SendCommand) (s : Status) → (s ≡ statuses.OpenFault → ⊥) → (s ≡ statuses.EntropyFault → ⊥) → CanRefuse s → IsWhole c s
+refused_ends c s opened words (inl e) = absurd (opened e)
+refused_ends c s opened words (inr (inl e)) = inr (inr (inr e))
+refused_ends c s opened words (inr (inr e)) = absurd (words e)
+
+pub sent_completes : {I O E L C : Type 0} (tells : Tells I O E) (live : TellsLive L C) (old new : Shelf I O E L C) (c : SendCommand) (status : Status)
+    → c.stream.first < 2 ^ 32 → (status ≡ statuses.OpenFault → ⊥) → (status ≡ statuses.EntropyFault → FailedAt tells old new) → ((CanRefuse status → ⊥) → Sent tells live old new c status)
+    → CompletesSending tells live.line old new c status
+sent_completes tells live old new c status low opened words sent source b here told bound none stays = by_refusal (is_refused status)
+  where
+    by_refusal : CanRefuse status ⊎ (CanRefuse status → ⊥) → IsWhole c status
+    by_refusal (inl refused) = refused_ends c status opened (λ e. none.words (words e)) refused
+    by_refusal (inr ran) =
+        let s = sent ran in
+        sent_ends tells live old new c status s.sent.sent.sends.end low source b here told bound none stays s refl s.sent.sent.sends.answer

@@ -1,0 +1,5 @@
+//! Sendings over a host in memory. There are tests alone.
+#![tactic(auto)]
+
+#[cfg(test)]
+mod tests;
