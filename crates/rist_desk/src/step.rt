@@ -12,7 +12,7 @@ use rist_ends::{Answer, Outs, Told, What};
 use seq_unwrap::Width;
 
 /// A media packet, its null packets restored.
-#[derive(Drop)]
+#[derive(Drop, PartialEq, Eq)]
 pub struct Packet {
     pub flow: u32,
     pub width: Width,
@@ -31,7 +31,7 @@ pub struct Echoes {
 }
 
 /// What came with a step.
-#[derive(Drop)]
+#[derive(Drop, PartialEq, Eq)]
 pub enum Event {
     Media(Packet),
     Control(Echoes),
@@ -56,7 +56,7 @@ pub enum Mark {
 }
 
 /// A step of a receiver on one of its links, what it came to, how many datagrams it made, and the request words in them.
-#[derive(Drop)]
+#[derive(Drop, PartialEq, Eq)]
 pub struct Step {
     pub link: u8,
     /// The tick of its own moment.
@@ -84,6 +84,37 @@ fn event_of(us: u64, what: &What<'_>) -> Event
         What::Refused => Event::Refused,
         What::Tick => Event::Tick(us),
         What::End => Event::End,
+    }
+}
+
+impl Packet {
+    /// The same packet once more.
+    fn copy(&self) -> Packet
+        ensures value { result ≡ self.now }
+    {
+        Packet {
+            flow: self.flow,
+            width: self.width,
+            word: self.word,
+            stamp: self.stamp,
+            payload: self.payload.copy(),
+        }
+    }
+}
+
+impl Event {
+    /// The same once more.
+    fn copy(&self) -> Event
+        ensures value { result ≡ self.now }
+    {
+        match self {
+            Event::Media(packet) => Event::Media(packet.copy()),
+            Event::Control(echoes) => Event::Control(*echoes),
+            Event::Keepalive => Event::Keepalive,
+            Event::Refused => Event::Refused,
+            Event::Tick(us) => Event::Tick(*us),
+            Event::End => Event::End,
+        }
     }
 }
 
@@ -132,6 +163,20 @@ impl Step {
                 Words::of(outs.asked.words()),
             )),
             Answer::Nothing => Some(Step::with(told, Mark::Plain, 0, Words::none())),
+        }
+    }
+
+    /// The same step once more.
+    pub fn copy(&self) -> Step
+        ensures value { result ≡ self.now }
+    {
+        Step {
+            link: self.link,
+            at: self.at,
+            what: self.what.copy(),
+            mark: self.mark,
+            made: self.made,
+            asked: self.asked.copy(),
         }
     }
 }
