@@ -31,8 +31,8 @@ pub record Serves {L C U : Type 0} (moments : C → Option (ℕ → ℕ)) (tells
   pub end : Ended
   pub ended : new.end ≡ Some end
   pub served : (f : Feed) → IsFeed f old.opener place limits (moments old.clock) (tells.reads old.link)
-    → IsServed f (tells.knows old.link) end (moments new.clock) (tells.reads new.link)
-    (holds (list old.trace) (tells.taken old.link)) (holds (list new.trace) (tells.taken new.link))
+      → IsServed f (tells.knows old.link) end (moments new.clock) (tells.reads new.link)
+      (holds (list old.trace) (tells.taken old.link)) (holds (list new.trace) (tells.taken new.link))
   pub session : new.opener ≡ old.opener
   -- End and Failed come exactly where the link's count rose
   pub end_cause : RoseWhere (is_link_end (Some end)) (tells.ends old.link) (tells.ends new.link)

@@ -79,13 +79,7 @@ fn serve_one<
     C: Clock,
     U: StepTrace,
     R: Wait,
->(
-    rt: &R,
-    desk: &Mutex<Desk<N, T, K>>,
-    worker: &mut Worker<L, C, U>,
-    place: usize,
-    limits: &Limits,
-)
+>(rt: &R, desk: &Mutex<Desk<N, T, K>>, worker: &mut Worker<L, C, U>, place: usize, limits: &Limits)
     requires place { place < 16 }
     requires turns { (0 < limits.now.turns) × (limits.now.turns ≤ 2 ^ 40) }
     ensures { Serves C.moments (record { reads = L.reads; taken = L.taken; knows = L.knows; ends = L.ends; faults = L.faults })
@@ -104,12 +98,7 @@ pub fn serve<
     C: Clock + Drop + Send,
     U: StepTrace + Drop + Send,
     R: Threads + Wait + Sync,
->(
-    rt: &R,
-    workers: &mut [Worker<L, C, U>],
-    desk: &Mutex<Desk<N, T, K>>,
-    limits: &Limits,
-)
+>(rt: &R, workers: &mut [Worker<L, C, U>], desk: &Mutex<Desk<N, T, K>>, limits: &Limits)
     requires some { 0 < length workers.old }
     requires few { length workers.old ≤ 16 }
     requires turns { (0 < limits.now.turns) × (limits.now.turns ≤ 2 ^ 40) }
