@@ -1,0 +1,4 @@
+pub mod Rows
+pub mod SameLemmas
+pub mod TearLemmas
+pub mod FirstLemmas

@@ -1,0 +1,2 @@
+pub mod Tears
+pub mod Inside

@@ -1,0 +1,28 @@
+//! Whether two steps are the same.
+ghost use Rattle.std.specs.Prelude.{◌≡◌, ◌↔◌, IsTrue};
+
+use rist_desk::{Event, Step, Words};
+
+fn are_same_words(one: &Words, other: &Words) -> bool
+    ensures value { IsTrue result ↔ (one.now ≡ other.now) }
+{
+    one == other
+}
+
+fn is_same_event(one: &Event, other: &Event) -> bool
+    ensures value { IsTrue result ↔ (one.now ≡ other.now) }
+{
+    one == other
+}
+
+/// Whether two steps are the same.
+pub fn is_same(one: &Step, other: &Step) -> bool
+    ensures value { IsTrue result ↔ (one.now ≡ other.now) }
+{
+    one.link == other.link
+        && one.at == other.at
+        && one.mark == other.mark
+        && one.made == other.made
+        && is_same_event(&one.what, &other.what)
+        && are_same_words(&one.asked, &other.asked)
+}
