@@ -1,0 +1,4 @@
+pub mod Endings
+pub mod Receiving
+pub mod Exact
+pub mod Inside
