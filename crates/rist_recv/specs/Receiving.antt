@@ -53,13 +53,15 @@ abbrev pub own_lists : {L C U : Type 0} → (U → Option (List Step)) → List 
 own_lists {L} {C} {U} list workers = map (λ (w : Worker L C U). unwrap_or (list w.trace) []) workers
 
 -- and the steps before the end are those of the own lists
-pub record HasReceived (given : Given) (kept : Option (List Step)) (contents : Option (List ℕ)) (own : List (List Step)) : Type 0 where
+pub record HasReceived (given : Given) (kept : Option (List Step)) (contents : Option (List ℕ))
+    (own : List (List Step)) : Type 0 where
   pub before : Option (List Step)
   pub whole : IsWhole given before kept contents
   pub agree : Agree (unwrap_or before []) own
 
 -- or they differ from the own lists, first at this tear
-pub record IsTorn (given : Given) (kept : Option (List Step)) (contents : Option (List ℕ)) (own : List (List Step)) (tear : Tear) : Type 0 where
+pub record IsTorn (given : Given) (kept : Option (List Step)) (contents : Option (List ℕ))
+    (own : List (List Step)) (tear : Tear) : Type 0 where
   pub before : Option (List Step)
   pub whole : IsWhole given before kept contents
   pub first : IsFirstTear (unwrap_or before []) own tear

@@ -90,9 +90,10 @@ fn session<
 }
 
 /// Receives on the links of all workers, each in a thread of its own where one can be made, until each has ended; what the
-/// receiver plays out goes to the sink. Then the lists that were kept are compared, and then the end is told. A new receiver,
-/// an empty trace and an empty sink are given, and given back. The first ending that fits is answered; of any two of them no
-/// more than one fits what the clauses say of it.
+/// receiver plays out goes to the sink. Then the lists that were kept are compared, and then the end is told. The receiver is
+/// to be a new one, the trace and the sink empty; all three are given back. The first ending that fits is answered. What
+/// the clauses say of one ending is denied by those of each other, so each comes exactly where they say. Places of workers
+/// are those of their links, from 0.
 pub fn receive<
     T: StepTrace + Drop + Send,
     K: Sink + Drop + Send,
