@@ -8,6 +8,7 @@ pub mod laws;
 mod receiving;
 #[cfg(test)]
 mod tests;
+mod text;
 
 pub use ending::Ending;
 pub use receiving::{Received, receive};
