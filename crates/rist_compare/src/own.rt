@@ -2,7 +2,8 @@
 ghost use Rattle.std.specs.Prelude.{◌≡◌, List};
 ghost use Rattle.rist_desk.specs.declared.step.Step.{Step};
 
-use rist_desk::Step;
+use outside_net::Trace;
+use rist_desk::{Step, StepTrace, Worker};
 
 /// The worker of a link, which keeps steps of its own.
 pub trait OwnSteps {
@@ -12,4 +13,14 @@ pub trait OwnSteps {
     /// Its own steps, the oldest first; none where it doesn't tell them.
     fn own(&self) -> &[Step]
         ensures value { result.now ≡ own self.now };
+}
+
+impl<L, C, U: StepTrace> OwnSteps for Worker<L, C, U> {
+    ghost use Rattle.std.specs.Prelude.{unwrap_or, []};
+
+    ghost own = { λ w. unwrap_or (U.list w.trace) [] };
+
+    fn own(&self) -> &[Step] {
+        self.trace.kept()
+    }
 }

@@ -33,21 +33,21 @@ fn simple() -> Session
 
 /// What was answered in order, at the end, and what trace and sink hold.
 #[derive(Drop)]
-struct Run<T> {
+struct Run<T, K> {
     answers: Vec<Result<Answer, Full>>,
     last: Result<Answer, Full>,
     trace: T,
-    sink: Store8,
+    sink: K,
 }
 
 /// Brings a packet of one octet at 0 us.
-fn bring<N: Name, T: StepTrace + Drop>(
-    desk: &mut Desk<N, T, Store8>,
+fn bring<N: Name, T: StepTrace + Drop, K: Sink + Drop>(
+    desk: &mut Desk<N, T, K>,
     link: u8,
-    word: u16,
+    word: u8,
     outs: &mut Outs,
 ) -> Result<Answer, Full> {
-    let octet = [b'A'.wrapping_add((word as u8).wrapping_sub(10))];
+    let octet = [b'A'.wrapping_add(word.wrapping_sub(10))];
     let told = Told {
         link: link % 16,
         us: 0,
@@ -63,17 +63,17 @@ fn bring<N: Name, T: StepTrace + Drop>(
 }
 
 /// Link 0 brings 10 and 12, link 1 brings 11 and 12, in this order of links.
-fn stepped<N: Name, T: StepTrace + Drop>(
+fn stepped<N: Name, T: StepTrace + Drop, K: Sink + Drop>(
     alloc: Global,
     receiver: Receiver,
     trace: T,
-    sink: Store8,
+    sink: K,
     order: &[u8; 4],
-) -> Result<Run<T>, Fail>
+) -> Result<Run<T, K>, Fail>
     requires fresh { IsNew N.given
-        (state_of receiver (T.list trace) (T.limit trace) (Store8.contents sink) (Store8.faults sink)) }
+        (state_of receiver (T.list trace) (T.limit trace) (K.contents sink) (K.faults sink)) }
 {
-    let mut desk: Desk<N, T, Store8> = Desk::with(receiver, trace, sink);
+    let mut desk: Desk<N, T, K> = Desk::with(receiver, trace, sink);
     let mut outs = Outs::none();
     let mut answers = Vec::new(alloc);
     let mut words = [10, 11];
@@ -96,18 +96,18 @@ fn stepped<N: Name, T: StepTrace + Drop>(
 }
 
 /// The same with a trace of so many steps.
-fn kept(alloc: Global, limit: usize, order: &[u8; 4]) -> Result<Run<Kept<Step>>, Fail> {
+fn kept(alloc: Global, limit: usize, order: &[u8; 4]) -> Result<Run<Kept<Step>, Store8>, Fail> {
     let receiver = Receiver::with(alloc, &Settings::muted(1000, 8), &simple(), None)?;
     let trace: Kept<Step> = Kept::with(alloc, limit)?;
     let sink = Store8::with(alloc, 64, &[])?;
-    stepped::<Brand, Kept<Step>>(alloc, receiver, trace, sink, order)
+    stepped::<Brand, Kept<Step>, Store8>(alloc, receiver, trace, sink, order)
 }
 
 /// The same with a trace that keeps nothing, and a sink whose third write fails.
-fn silent(alloc: Global, order: &[u8; 4]) -> Result<Run<Quiet>, Fail> {
+fn silent(alloc: Global, order: &[u8; 4]) -> Result<Run<Quiet, Store8>, Fail> {
     let receiver = Receiver::with(alloc, &Settings::muted(1000, 8), &simple(), None)?;
     let sink = Store8::with(alloc, 64, &[2])?;
-    stepped::<Brand, Quiet>(alloc, receiver, Quiet::new(), sink, order)
+    stepped::<Brand, Quiet, Store8>(alloc, receiver, Quiet::new(), sink, order)
 }
 
 #[test]

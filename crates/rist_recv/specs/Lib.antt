@@ -1,0 +1,5 @@
+pub mod Endings
+pub mod Receiving
+pub mod Exact
+pub mod Text
+pub mod Inside

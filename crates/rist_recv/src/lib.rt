@@ -1,0 +1,14 @@
+//! A run of receiving: all links are served, the lists that were kept are compared, and the end is told. A contract sees the
+//! list of the run's steps, where it was kept, and what the sink tells.
+#![tactic(auto)]
+
+mod deciding;
+mod ending;
+pub mod laws;
+mod receiving;
+#[cfg(test)]
+mod tests;
+mod text;
+
+pub use ending::Ending;
+pub use receiving::{Received, receive};
