@@ -1,5 +1,5 @@
 //! Two links on one desk, in each order.
-ghost use Rattle.std.specs.Prelude.{◌≡◌, ◌<◌, None};
+ghost use Rattle.std.specs.Prelude.{◌≡◌, None, Some};
 ghost use Rattle.rist_wire.specs.Session.{IsSession};
 ghost use Rattle.rist_desk.specs.Desk.{IsNew, state_of};
 
@@ -17,7 +17,7 @@ use std::test::Fail;
 const TWICE: Answer = Answer::Verdict(Verdict::Twice);
 
 /// The session of RIST's Simple Profile.
-fn simple() -> Session
+pub fn simple() -> Session
     ensures session { IsSession result }
     ensures clear { result.pass ≡ None }
 {
@@ -47,7 +47,7 @@ fn bring<N: Name, T: StepTrace + Drop>(
     word: u16,
     outs: &mut Outs,
 ) -> Result<Answer, Full> {
-    let octet = [b'A'.wrapping_add((word as u8).wrapping_sub(10))];
+    let octet = [b'A'.wrapping_add(((word % 256) as u8).wrapping_sub(10))];
     let told = Told {
         link: link % 16,
         us: 0,
@@ -71,7 +71,7 @@ fn stepped<N: Name, T: StepTrace + Drop>(
     order: &[u8; 4],
 ) -> Result<Run<T>, Fail>
     requires fresh { IsNew N.given
-        (state_of receiver (T.list trace) (T.limit trace) (Store8.contents sink) (Store8.faults sink)) }
+        (state_of receiver (T.list trace) (T.limit trace) (Some sink.contents) sink.calls.faults) }
 {
     let mut desk: Desk<N, T, Store8> = Desk::with(receiver, trace, sink);
     let mut outs = Outs::none();
