@@ -7,7 +7,7 @@ use Rattle.receiver_rules.specs.Steps.{tick_of}
 use Rattle.receiver_rules.specs.Steps as buffer
 use Rattle.reorder_buffer.specs.declared.phase.Phase.{Phase}
 use Rattle.reorder_buffer.specs.declared.phase.Phase.TheVariants.{Open, Ended, Failed}
-use Rattle.request_rules.specs.Steps.{Step as ReceiverStep, buffer_history}
+use Rattle.request_rules.specs.Steps.{buffer_history}
 use Rattle.rist_wire.specs.Writing.{ShutterState, pairs_left}
 use Rattle.rist_control.specs.Control.{ControlSettings}
 use Rattle.rist_reporter.specs.OneMore.{TakesPairs, answer_count}
@@ -19,19 +19,18 @@ use Rattle.rist_ends.specs.declared.outcome.Outcome.TheVariants as outcomes
 use Rattle.rist_reporter.specs.declared.out.Outs.{Outs}
 use Rattle.rist_ends.specs.declared.outcome.Answer.{Answer}
 use Rattle.rist_ends.specs.declared.outcome.Answer.TheVariants as answers
-use Rattle.rist_ends.specs.Outcome.{IfStepped, is_write_fault, result_of, outcome_with}
+use Rattle.rist_ends.specs.Outcome.{is_write_fault, result_of, outcome_with}
 use Rattle.rist_ends.specs.Receiver.{ReceiverState, IsReceiverAfter, HasFailed, AnswersStep, MakesStep, GoesOn, Plays, Steps, settings_of, step_made}
 use Rattle.rist_ends.specs.Told.{step_of as told_step_of, phase_after as told_phase, ended_at}
-use Rattle.rist_desk.specs.declared.step.Mark.{Mark}
 use Rattle.rist_desk.specs.declared.step.Mark.TheVariants as marks
 use Rattle.rist_desk.specs.declared.step.Event.{Event}
 use Rattle.rist_desk.specs.declared.step.Step.{Step}
-use Rattle.rist_desk.specs.Steps.{counted_step, history_of}
+use Rattle.rist_desk.specs.Steps.{history_of}
 use Rattle.rist_desk.specs.Legal.{Setup, is_fault, made_by, phase_at, phase_by, phase_of, released_by, AreWritten, AreWrittenOf}
-use Rattle.rist_desk.specs.Made.{IsNoEnd, event_of, step_of, step_after, made_count, steps_with}
+use Rattle.rist_desk.specs.Made.{IsNoEnd, step_of, step_after, steps_with}
 use Rattle.rist_desk.specs.Desk.{DeskState, Given, setup_of, shutter_after, StandsFor, IsDesk, is_failed}
-use Rattle.rist_desk.proofs.ListLemmas.{one_more_told, reverse_more, tells_same, written_more, written_part}
-use Rattle.rist_desk.proofs.ToldLemmas.{step_at, told_buffer, told_phase_is}
+use Rattle.rist_desk.proofs.ListLemmas.{reverse_more, tells_same, written_more, written_part}
+use Rattle.rist_desk.proofs.ToldLemmas.{told_buffer, told_phase_is}
 use Rattle.rist_desk.proofs.StepLemmas.{Says, Fits, fits_verdict, fits_nothing, fits_made, fits_spent, left_after, shutter_more}
 
 -- ---- phases

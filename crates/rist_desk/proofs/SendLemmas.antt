@@ -1,5 +1,5 @@
 -- What a worker's steps make, one after another.
-use Rattle.std.proofs.Common.{◌≡◌, ◌<◌, ◌+◌, inl, inr, ℕ, List, [], ◌∷◌, ◌++◌, length, map, Bool, true, false, Option, None, Some, option_map, IfErr, Result, Ok, Err, refl, ap, sym, ◌∙◌, subst, arith, append_assoc, length-append}
+use Rattle.std.proofs.Common.{◌≡◌, ◌<◌, inl, inr, ℕ, List, [], ◌∷◌, ◌++◌, length, Bool, true, false, Option, None, Some, option_map, Ok, Err, refl, ap, sym, ◌∙◌, subst, arith, append_assoc, length-append}
 use Rattle.std.proofs.lemmas.List.{map-append, append-nil}
 use Rattle.outside_io.specs.declared.channel.Channel.{Channel}
 use Rattle.outside_net.specs.Links.{Datagram, taken_with}
@@ -19,7 +19,7 @@ use Rattle.rist_desk.specs.declared.step.Step.{Step}
 use Rattle.rist_desk.specs.Legal.{is_made}
 use Rattle.rist_desk.specs.Made.{event_of, step_of, step_after, made_count, steps_with}
 use Rattle.rist_desk.specs.Items.{unmarked, erased}
-use Rattle.rist_desk.specs.Sending.{Made, IsKnownIn, IsSent, IsHalfSent, IsUnsent, AreSent, went_of, steps_in, plan_of, last_in, Holds, holds, Gains, Goes, Breaks, IsLast, NotMade, CutsAt, IsPlanned, EndsBy, CutShort, TurnEnds, written, written_where, datagram_of}
+use Rattle.rist_desk.specs.Sending.{Made, IsSent, IsUnsent, AreSent, went_of, steps_in, plan_of, last_in, Holds, holds, Gains, Goes, Breaks, CutsAt, EndsBy, CutShort, TurnEnds, written, written_where, datagram_of}
 use Rattle.rist_desk.specs.Turns.{tick_steps}
 use Rattle.rist_desk.specs.Inside.Links.{SentPart}
 

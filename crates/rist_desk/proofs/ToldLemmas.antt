@@ -1,14 +1,10 @@
 -- What is told, as a step keeps it.
-use Rattle.std.proofs.Common.{◌≡◌, ℕ, List, [], ◌∷◌, ◌++◌, length, Bool, true, false, ◌||◌, if◌then◌else◌, Option, None, Some, is_some, refl, ap, sym, ◌∙◌}
-use Rattle.seq_unwrap.specs.declared.width.Width.{Width}
+use Rattle.std.proofs.Common.{◌≡◌, ℕ, List, [], ◌∷◌, ◌++◌, length, Bool, true, false, ◌||◌, if◌then◌else◌, Option, None, Some, is_some, refl}
 use Rattle.rist_rtt.specs.Echo.{EchoOf, echoes_in}
-use Rattle.request_rules.specs.declared.policy.NackKind.{NackKind}
 use Rattle.request_rules.specs.declared.word.AskWord.{AskWord}
-use Rattle.request_rules.specs.Requests.{asked_words}
 use Rattle.request_rules.specs.Steps.{Input, Step as ReceiverStep, buffer_history, effective_time, first_request}
 use Rattle.request_rules.specs.Steps as inputs
-use Rattle.rist_control.specs.Control.{ControlSettings, Datagram, Compound, Alive, is_any, tick_compound, tick_keepalive, tick_datagrams, answer_datagrams, input_datagrams, input_words, datagrams_of, words_made}
-use Rattle.rist_ends.specs.declared.told.Told.{Told}
+use Rattle.rist_control.specs.Control.{ControlSettings, Datagram, is_any, answer_datagrams, input_datagrams, input_words, datagrams_of, words_made}
 use Rattle.rist_ends.specs.declared.told.What.{What}
 use Rattle.rist_ends.specs.declared.told.What.TheVariants.{Media, Control, Keepalive, Refused, Tick, End}
 use Rattle.rist_ends.specs.Receiver.{ReceiverState, IsReceiverAfter}

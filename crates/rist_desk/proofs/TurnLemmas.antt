@@ -13,7 +13,7 @@ use Rattle.rist_desk.specs.declared.ended.Ended.{Ended}
 use Rattle.rist_desk.specs.declared.ended.Ended.TheVariants as ends
 use Rattle.rist_desk.specs.declared.step.Step.{Step}
 use Rattle.rist_desk.specs.declared.worker.Limits.{Limits}
-use Rattle.rist_desk.specs.Sending.{IsKnownIn, IsSent, AreSent, IsHalfSent, Made, IsLast, CutsAt, EndsBy, Holds, Goes, Breaks, TurnEnds}
+use Rattle.rist_desk.specs.Sending.{IsKnownIn, IsSent, AreSent, IsHalfSent, Made, IsLast, CutsAt, EndsBy, Holds, Goes, TurnEnds}
 use Rattle.rist_desk.specs.Turns.{Feed, is_tick_due, tick_steps, turn_steps, ticked_after, quiet_since, is_idle, end_by, steps_of, steps_until, last_tick, since_until, end_at, IsServed, from}
 use Rattle.rist_desk.specs.Inside.Going.{IsTask, IsGoing}
 use Rattle.rist_desk.proofs.SendLemmas.{goes_none, goes_both, breaks_second}

@@ -1,5 +1,5 @@
 -- What a worker's steps made, and what of it went to its link.
-use Rattle.std.specs.Prelude.{◌≡◌, ◌<◌, ◌⊎◌, ℕ, List, [], ◌∷◌, ◌++◌, length, map, Bool, true, false, Option, None, Some, option_map}
+use Rattle.std.specs.Prelude.{◌≡◌, ◌<◌, ◌⊎◌, List, [], ◌∷◌, ◌++◌, length, map, Bool, true, false, Option, None, Some, option_map}
 use Rattle.outside_io.specs.declared.channel.Channel.{Channel}
 use Rattle.outside_net.specs.Links.{Datagram}
 use Rattle.rist_reporter.specs.Made.{OutOf}

@@ -1,5 +1,5 @@
 -- Steps as plain data, and the history of a receiver that they stand for. Lists stand with the newest step first.
-use Rattle.std.specs.Prelude.{ℕ, List, [], map, Bool, true, false, Option, None, Some}
+use Rattle.std.specs.Prelude.{List, [], map, Bool, true, false, Option, None, Some}
 use Rattle.receiver_rules.specs.Steps.{Arrival}
 use Rattle.rist_rtt.specs.Echo.{EchoOf}
 use Rattle.request_rules.specs.Steps.{Input, Media, Control, Keepalive, Refused, Tick, End, Step as ReceiverStep}

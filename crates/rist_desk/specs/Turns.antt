@@ -5,7 +5,7 @@ use Rattle.rist_wire.specs.declared.session.Session.{Session}
 use Rattle.rist_desk.specs.declared.ended.Ended.{Ended}
 use Rattle.rist_desk.specs.declared.ended.Ended.TheVariants as ends
 use Rattle.rist_desk.specs.declared.step.Step.{Step}
-use Rattle.rist_desk.specs.Sending.{Holds, Goes, TurnEnds}
+use Rattle.rist_desk.specs.Sending.{Holds, TurnEnds}
 use Rattle.outside_io.specs.declared.channel.Channel.{Channel}
 use Rattle.rist_desk.specs.Items.{datagram_step, tick_step}
 

@@ -8,6 +8,8 @@ mod ended;
 mod items;
 mod name;
 mod payload;
+#[cfg(test)]
+mod serve_tests;
 mod serving;
 mod step;
 mod stepping;

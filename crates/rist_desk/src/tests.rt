@@ -1,5 +1,5 @@
 //! Two links on one desk, in each order.
-ghost use Rattle.std.specs.Prelude.{◌≡◌, ◌<◌, None};
+ghost use Rattle.std.specs.Prelude.{◌≡◌, None, Some};
 ghost use Rattle.rist_wire.specs.Session.{IsSession};
 ghost use Rattle.rist_desk.specs.Desk.{IsNew, state_of};
 
@@ -17,7 +17,7 @@ use std::test::Fail;
 const TWICE: Answer = Answer::Verdict(Verdict::Twice);
 
 /// The session of RIST's Simple Profile.
-fn simple() -> Session
+pub fn simple() -> Session
     ensures session { IsSession result }
     ensures clear { result.pass ≡ None }
 {
@@ -33,21 +33,21 @@ fn simple() -> Session
 
 /// What was answered in order, at the end, and what trace and sink hold.
 #[derive(Drop)]
-struct Run<T, K> {
+struct Run<T> {
     answers: Vec<Result<Answer, Full>>,
     last: Result<Answer, Full>,
     trace: T,
-    sink: K,
+    sink: Store8,
 }
 
 /// Brings a packet of one octet at 0 us.
-fn bring<N: Name, T: StepTrace + Drop, K: Sink + Drop>(
-    desk: &mut Desk<N, T, K>,
+fn bring<N: Name, T: StepTrace + Drop>(
+    desk: &mut Desk<N, T, Store8>,
     link: u8,
-    word: u8,
+    word: u16,
     outs: &mut Outs,
 ) -> Result<Answer, Full> {
-    let octet = [b'A'.wrapping_add(word.wrapping_sub(10))];
+    let octet = [b'A'.wrapping_add(((word % 256) as u8).wrapping_sub(10))];
     let told = Told {
         link: link % 16,
         us: 0,
@@ -63,17 +63,17 @@ fn bring<N: Name, T: StepTrace + Drop, K: Sink + Drop>(
 }
 
 /// Link 0 brings 10 and 12, link 1 brings 11 and 12, in this order of links.
-fn stepped<N: Name, T: StepTrace + Drop, K: Sink + Drop>(
+fn stepped<N: Name, T: StepTrace + Drop>(
     alloc: Global,
     receiver: Receiver,
     trace: T,
-    sink: K,
+    sink: Store8,
     order: &[u8; 4],
-) -> Result<Run<T, K>, Fail>
+) -> Result<Run<T>, Fail>
     requires fresh { IsNew N.given
-        (state_of receiver (T.list trace) (T.limit trace) (K.contents sink) (K.faults sink)) }
+        (state_of receiver (T.list trace) (T.limit trace) (Some sink.contents) sink.calls.faults) }
 {
-    let mut desk: Desk<N, T, K> = Desk::with(receiver, trace, sink);
+    let mut desk: Desk<N, T, Store8> = Desk::with(receiver, trace, sink);
     let mut outs = Outs::none();
     let mut answers = Vec::new(alloc);
     let mut words = [10, 11];
@@ -96,18 +96,18 @@ fn stepped<N: Name, T: StepTrace + Drop, K: Sink + Drop>(
 }
 
 /// The same with a trace of so many steps.
-fn kept(alloc: Global, limit: usize, order: &[u8; 4]) -> Result<Run<Kept<Step>, Store8>, Fail> {
+fn kept(alloc: Global, limit: usize, order: &[u8; 4]) -> Result<Run<Kept<Step>>, Fail> {
     let receiver = Receiver::with(alloc, &Settings::muted(1000, 8), &simple(), None)?;
     let trace: Kept<Step> = Kept::with(alloc, limit)?;
     let sink = Store8::with(alloc, 64, &[])?;
-    stepped::<Brand, Kept<Step>, Store8>(alloc, receiver, trace, sink, order)
+    stepped::<Brand, Kept<Step>>(alloc, receiver, trace, sink, order)
 }
 
 /// The same with a trace that keeps nothing, and a sink whose third write fails.
-fn silent(alloc: Global, order: &[u8; 4]) -> Result<Run<Quiet, Store8>, Fail> {
+fn silent(alloc: Global, order: &[u8; 4]) -> Result<Run<Quiet>, Fail> {
     let receiver = Receiver::with(alloc, &Settings::muted(1000, 8), &simple(), None)?;
     let sink = Store8::with(alloc, 64, &[2])?;
-    stepped::<Brand, Quiet, Store8>(alloc, receiver, Quiet::new(), sink, order)
+    stepped::<Brand, Quiet>(alloc, receiver, Quiet::new(), sink, order)
 }
 
 #[test]
