@@ -9,8 +9,9 @@ use Rattle.reorder_buffer.specs.declared.phase.Phase.{Phase}
 use Rattle.reorder_buffer.specs.declared.phase.Phase.TheVariants.{Open, Ended, Failed}
 use Rattle.request_rules.specs.Steps.{buffer_history}
 use Rattle.rist_wire.specs.Writing.{ShutterState, pairs_left}
-use Rattle.rist_control.specs.Control.{ControlSettings}
-use Rattle.rist_reporter.specs.OneMore.{TakesPairs, answer_count}
+use Rattle.rist_control.specs.Control.{ControlSettings, datagrams_of, words_made}
+use Rattle.rist_wire.specs.declared.session.Session.{Session}
+use Rattle.rist_reporter.specs.OneMore.{IsMade, TakesPairs, answer_count}
 use Rattle.rist_ends.specs.declared.told.Told.{Told}
 use Rattle.rist_ends.specs.declared.told.What.{What}
 use Rattle.rist_ends.specs.declared.told.What.TheVariants.{Media, Control, Keepalive, Refused, Tick, End}
@@ -19,7 +20,7 @@ use Rattle.rist_ends.specs.declared.outcome.Outcome.TheVariants as outcomes
 use Rattle.rist_reporter.specs.declared.out.Outs.{Outs}
 use Rattle.rist_ends.specs.declared.outcome.Answer.{Answer}
 use Rattle.rist_ends.specs.declared.outcome.Answer.TheVariants as answers
-use Rattle.rist_ends.specs.Outcome.{is_write_fault, result_of, outcome_with}
+use Rattle.rist_ends.specs.Outcome.{IfStepped, is_write_fault, result_of, outcome_with}
 use Rattle.rist_ends.specs.Receiver.{ReceiverState, IsReceiverAfter, HasFailed, AnswersStep, MakesStep, GoesOn, Plays, Steps, settings_of, step_made}
 use Rattle.rist_ends.specs.Told.{step_of as told_step_of, phase_after as told_phase, ended_at}
 use Rattle.rist_desk.specs.declared.step.Mark.TheVariants as marks
@@ -28,7 +29,7 @@ use Rattle.rist_desk.specs.declared.step.Step.{Step}
 use Rattle.rist_desk.specs.Steps.{history_of}
 use Rattle.rist_desk.specs.Legal.{Setup, is_fault, made_by, phase_at, phase_by, phase_of, released_by, AreWritten, AreWrittenOf}
 use Rattle.rist_desk.specs.Made.{IsNoEnd, step_of, step_after, steps_with}
-use Rattle.rist_desk.specs.Desk.{DeskState, Given, setup_of, shutter_after, StandsFor, IsDesk, is_failed}
+use Rattle.rist_desk.specs.Desk.{DeskState, Given, setup_of, shutter_after, StandsFor, IsDesk, MakesDue, is_failed}
 use Rattle.rist_desk.proofs.ListLemmas.{reverse_more, tells_same, written_more, written_part}
 use Rattle.rist_desk.proofs.ToldLemmas.{told_buffer, told_phase_is}
 use Rattle.rist_desk.proofs.StepLemmas.{Says, Fits, fits_verdict, fits_nothing, fits_made, fits_spent, left_after, shutter_more}
@@ -291,3 +292,15 @@ desk_with given told o d e no_end step same kept limit settings old = by_outcome
     by_outcome outcomes.Spent is = with_phase (made (λ f. cc (is, f)))
     by_outcome (outcomes.Made outs) is = with_phase (made (λ f. cc (is, f)))
     by_outcome outcomes.Nothing is = with_phase (made (λ f. cc (is, f)))
+
+-- what a step made is what the rules make after the steps that are told
+pub makes_due : (given : Given) (told : Told) (answer : Answer) (outs : Outs) (d e : DeskState) → IsDesk given d → Stepped told (outcome_with answer outs) d e
+    → answer ≡ answers.Made → (list : List Step) → d.kept ≡ Some list → MakesDue given (reverse list) told outs
+makes_due given told answer outs d e desk step is list held =
+    let stands = desk.stands list held in
+    let before = history_of (reverse list) in
+    let made : MakesStep d.receiver (told_step_of told) (outcomes.Made outs) =
+        subst (λ (x : Answer). IfStepped (outcome_with x outs) (MakesStep d.receiver (told_step_of told) (outcome_with x outs))) is step.work.made in
+    let said = (made before stands.receiver).made in
+    subst (λ (x : Session). IsMade x (datagrams_of given.settings before (told_step_of told)) (words_made given.settings before (told_step_of told)) (Some outs)) (ap (λ (x : ShutterState). x.session) stands.shutter)
+    (subst (λ (x : ControlSettings). IsMade d.receiver.reporter.shutter.session (datagrams_of x before (told_step_of told)) (words_made x before (told_step_of told)) (Some outs)) desk.settings said)

@@ -7,8 +7,11 @@ use Rattle.request_rules.specs.declared.policy.NackKind.TheVariants.{Range}
 use Rattle.reorder_buffer.specs.declared.phase.Phase.{Phase}
 use Rattle.reorder_buffer.specs.declared.phase.Phase.TheVariants.{Open, Ended, Failed}
 use Rattle.rist_wire.specs.Writing.{ShutterState, pairs_left}
-use Rattle.rist_control.specs.Control.{ControlSettings}
-use Rattle.rist_reporter.specs.OneMore.{after_pairs}
+use Rattle.rist_control.specs.Control.{ControlSettings, datagrams_of, words_made}
+use Rattle.rist_reporter.specs.declared.out.Outs.{Outs}
+use Rattle.rist_reporter.specs.OneMore.{IsMade, after_pairs}
+use Rattle.rist_ends.specs.declared.told.Told.{Told}
+use Rattle.rist_ends.specs.Told.{step_of}
 use Rattle.rist_ends.specs.declared.outcome.Answer.{Answer}
 use Rattle.rist_ends.specs.declared.outcome.Answer.TheVariants as answers
 use Rattle.rist_ends.specs.Receiver.{ReceiverState, IsReceiverAfter, settings_of}
@@ -85,6 +88,15 @@ pub record IsNew (given : Given) (d : DeskState) : Type 0 where
   pub faults : d.faults ≡ given.faults
   pub steps : (list : List Step) → d.kept ≡ Some list → list ≡ []
   pub octets : (octets : List ℕ) → d.contents ≡ Some octets → octets ≡ []
+
+-- ---- what a step made
+
+-- Opened in the session, these are the datagrams that the rules make of what was told after these steps, the newest first, and the
+-- words in them are the ones that are due.
+abbrev pub MakesDue : Given → List Step → Told → Outs → Type 0
+MakesDue given before told outs =
+    IsMade given.shutter.session (datagrams_of given.settings (history_of before) (step_of told))
+        (words_made given.settings (history_of before) (step_of told)) (Some outs)
 
 -- ---- answers
 

@@ -8,7 +8,7 @@ ghost use Rattle.rist_ends.specs.Told.{IsFit};
 ghost use Rattle.rist_ends.specs.Outcome.{outcome_with};
 ghost use Rattle.rist_desk.specs.declared.step.Step.{Step};
 ghost use Rattle.rist_desk.specs.Made.{IsNoEnd, end_told, step_after, steps_with};
-ghost use Rattle.rist_desk.specs.Desk.{IsNew, IsDesk, StandsFor, is_write_fault, is_cut_off, state_of};
+ghost use Rattle.rist_desk.specs.Desk.{IsNew, IsDesk, StandsFor, MakesDue, is_write_fault, is_cut_off, state_of};
 
 use crate::name::Name;
 use crate::step::Step;
@@ -71,6 +71,9 @@ impl<N: Name, T: StepTrace + Drop, K: Sink + Drop> Desk<N, T, K> {
         ensures kept { IfOk result (λ answer. self.new.kept
             ≡ option_map (steps_with (step_after told.now (outcome_with answer outs.new))) self.old.kept) }
         ensures outs { result ≢ Ok Answer.Made → outs.new ≡ outs.old }
+        // Opened in the session, they are those that the rules make after the steps that its trace tells.
+        ensures opened { (list : List Step) → self.old.kept ≡ Some list → result ≡ Ok Answer.Made
+            → MakesDue N.given (reverse list) told.now outs.new }
     {
         match self.trace.room() {
             Ok(()) => {}

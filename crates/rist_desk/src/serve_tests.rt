@@ -18,7 +18,7 @@ use std::test::Fail;
 use std::thread::Threads;
 
 /// How often a read looks for the other link's.
-const LOOKS: u64 = 100_000_000;
+const LOOKS: u64 = 1_000_000_000;
 
 /// A link in memory whose second read waits until the other link's second read was entered.
 #[derive(Drop)]
