@@ -300,7 +300,7 @@ makes_due given told answer outs d e desk step is list held =
     let stands = desk.stands list held in
     let before = history_of (reverse list) in
     let made : MakesStep d.receiver (told_step_of told) (outcomes.Made outs) =
-        subst (λ (x : Answer). IfStepped (outcome_with x outs) (MakesStep d.receiver (told_step_of told) (outcome_with x outs))) is step.work.made in
+    subst (λ (x : Answer). IfStepped (outcome_with x outs) (MakesStep d.receiver (told_step_of told) (outcome_with x outs))) is step.work.made in
     let said = (made before stands.receiver).made in
     subst (λ (x : Session). IsMade x (datagrams_of given.settings before (told_step_of told)) (words_made given.settings before (told_step_of told)) (Some outs)) (ap (λ (x : ShutterState). x.session) stands.shutter)
     (subst (λ (x : ControlSettings). IsMade d.receiver.reporter.shutter.session (datagrams_of x before (told_step_of told)) (words_made x before (told_step_of told)) (Some outs)) desk.settings said)

@@ -96,7 +96,7 @@ pub record IsNew (given : Given) (d : DeskState) : Type 0 where
 abbrev pub MakesDue : Given → List Step → Told → Outs → Type 0
 MakesDue given before told outs =
     IsMade given.shutter.session (datagrams_of given.settings (history_of before) (step_of told))
-        (words_made given.settings (history_of before) (step_of told)) (Some outs)
+    (words_made given.settings (history_of before) (step_of told)) (Some outs)
 
 -- ---- answers
 
