@@ -6,7 +6,7 @@ use Rattle.outside_host.specs.declared.host.Place.{Place}
 use Rattle.outside_host.specs.declared.host.Place.TheVariants.{Here, Back}
 use Rattle.capture_file.specs.Capture.{Record, IsCapture}
 use Rattle.rist_sender.specs.Links.{Line}
-use Rattle.rist_words.specs.CommandLine.{CommandLine, Replay, Show, Pack, Send, SendCommand}
+use Rattle.rist_words.specs.CommandLine.{CommandLine, Replay, Show, Pack, Send, Recv, Gate, SendCommand}
 use Rattle.rist_top.specs.Ran.{source_name, sink_name}
 use Rattle.rist_top.specs.Sealing.{FailedAt}
 use Rattle.rist_top.specs.Objects.{Tells}
@@ -17,12 +17,15 @@ use Rattle.rist_top.specs.declared.status.Status.TheVariants as statuses
 abbrev pub IsWholeCapture : List ℕ → Type 0
 IsWholeCapture b = ((rs : List Record) × IsCapture rs b) × (length b ≤ 2 ^ 40)
 
--- octets that a command takes to their end: a capture, or for a packing or a sending any octets, within the greatest offset
+-- octets that a command takes to their end: a capture, or for a packing or a sending any octets, within the greatest offset; a
+-- receiving and a gateway have no source
 abbrev pub IsWholeInput : CommandLine → List ℕ → Type 0
 IsWholeInput (Replay c) b = IsWholeCapture b
 IsWholeInput (Show c) b = IsWholeCapture b
 IsWholeInput (Pack c) b = length b ≤ 2 ^ 40
 IsWholeInput (Send c) b = length b ≤ 2 ^ 40
+IsWholeInput (Recv c) b = ⊥
+IsWholeInput (Gate c) b = ⊥
 
 -- no read, no write and no drawing of random words failed
 pub record NoneFailed {I O E L C : Type 0} (tells : Tells I O E) (old new : Shelf I O E L C) (c : CommandLine) : Type 0 where

@@ -4,16 +4,18 @@ use Rattle.outside_net.specs.declared.link_spec.Role.TheVariants.{Sends}
 use Rattle.outside_host.specs.Shelf.{Shelf, ChangesSources}
 use Rattle.outside_host.specs.declared.host.Opened.{Opened}
 use Rattle.outside_host.specs.declared.host.Place.{Place}
-use Rattle.rist_words.specs.CommandLine.{CommandLine, Replay, Show, Pack, Send, SendCommand}
+use Rattle.rist_words.specs.CommandLine.{CommandLine, Replay, Show, Pack, Send, Recv, Gate, SendCommand}
 use Rattle.rist_top.specs.Places.{CameBack, IsAsItWas, KeepsLive}
 use Rattle.rist_top.specs.Ran.{source_name, sink_name}
 
--- whether a command draws random words: a packing or a sending under a passphrase
+-- whether a command draws random words: one that makes datagrams, under a passphrase
 abbrev pub draws_words : CommandLine → Bool
 draws_words (Replay c) = false
 draws_words (Show c) = false
 draws_words (Pack c) = is_some c.session.pass
 draws_words (Send c) = is_some c.session.pass
+draws_words (Recv c) = is_some c.session.pass
+draws_words (Gate c) = is_some c.session.pass
 
 -- what a line doesn't speak of stands as it stood, and what it speaks of came back: its source, its sink, and the first
 -- random words where it draws some

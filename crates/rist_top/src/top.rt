@@ -1,11 +1,11 @@
 //! The top call, and a line from its objects to its status.
-ghost use Rattle.std.specs.Prelude.{◌≡◌, ◌≢◌, ◌⊎◌, IsTrue};
+ghost use Rattle.std.specs.Prelude.{◌≡◌, ◌≢◌, ◌⊎◌, Err, IfOk, IsTrue};
 ghost use Rattle.outside_io.specs.Causes.{HasOpenCause, Rose};
 ghost use Rattle.rist_words.specs.CommandLine.{Replay, ReplayCommand, Send, SendCommand};
 ghost use Rattle.rist_words.specs.Shown.{shown};
 ghost use Rattle.rist_words.specs.Ranges.{IsInRange};
 ghost use Rattle.rist_top.specs.Causes.{CanRefuse, fault_of};
-ghost use Rattle.rist_top.specs.Lines.{IsLine, IsNoLine, IsOverFiles, IfFiles, IfSending, IsFresh};
+ghost use Rattle.rist_top.specs.Lines.{IsKnown, IsKnownLine, IsLine, IsNoLine, IsOverFiles, IfFiles, IfSending, IsFresh};
 ghost use Rattle.rist_top.specs.Ran.{Ran, source_name, sink_name};
 ghost use Rattle.rist_top.specs.Frame.{KeepsAround, KeepsOthers, OpensLinksAfter, OpensSourceFirst, links_opened};
 ghost use Rattle.rist_top.specs.Untouched.{Untouched, LeavesAtMemory};
@@ -92,16 +92,29 @@ pub fn run<H: Host>(alloc: Global, words: &[String], host: &mut H) -> Status
         → IfSending words.now (λ c. CompletesSending ⟦<H as Telling>⟧.objects ⟦<H as Telling>⟧.live.line
         (H.shelf host.old) (H.shelf host.new) c result) }
 {
-    match line(alloc, words) {
+    match known_line(alloc, words) {
         Ok(line) => run_line(alloc, host, &line),
         Err(Refused::Usage) => Status::Usage,
         Err(Refused::Memory) => Status::Memory,
     }
 }
 
+/// The line that the words are, if its command is done here.
+fn known_line<'a>(alloc: Global, words: &'a [String]) -> Result<Line<'a>, Refused>
+    ensures ok { IfOk result (λ l. IsLine words.entry.now (shown l)) }
+    ensures known { IfOk result (λ l. IsKnownLine words.entry.now (shown l) × IsKnown (shown l)) }
+    ensures usage { result ≡ Err Refused.Usage → IsNoLine words.entry.now }
+{
+    match line(alloc, words)? {
+        Line::Recv(_) | Line::Gate(_) => Err(Refused::Usage),
+        line => Ok(line),
+    }
+}
+
 /// Does a line.
 fn run_line<H: Host>(alloc: Global, host: &mut H, line: &Line<'_>) -> Status
     requires range { IsInRange (shown line.now) }
+    requires known { IsKnown (shown line.now) }
     ensures line { result ≢ Status.Usage }
     ensures opened { HasOpenCause (fault_of result) (H.faults host.old) (H.faults host.new) }
     ensures others { IsFresh H.tells (H.shelf host.old) → IsOverFiles (shown line.now)
@@ -139,6 +152,7 @@ fn run_line<H: Host>(alloc: Global, host: &mut H, line: &Line<'_>) -> Status
         Line::Show(_) => file_line(alloc, host, line),
         Line::Pack(_) => file_line(alloc, host, line),
         Line::Send(line) => send_line(alloc, host, line),
+        Line::Recv(_) | Line::Gate(_) => unreachable!(),
     }
 }
 
@@ -180,7 +194,7 @@ fn file_line<H: Host>(alloc: Global, host: &mut H, line: &Line<'_>) -> Status
     status
 }
 
-/// The name of a line's source.
+/// The name of a line's source; empty where it has none.
 fn source_name<'a>(line: &Line<'a>) -> &'a str
     ensures value { result.now ≡ source_name (shown line.now) }
 {
@@ -189,6 +203,7 @@ fn source_name<'a>(line: &Line<'a>) -> &'a str
         Line::Show(line) => line.capture,
         Line::Pack(line) => line.source,
         Line::Send(line) => line.source,
+        Line::Recv(_) | Line::Gate(_) => "",
     }
 }
 
@@ -201,6 +216,6 @@ fn sink_name<'a>(line: &Line<'a>) -> &'a str
         Line::Replay(line) => line.out,
         Line::Show(_) => "-",
         Line::Pack(line) => line.capture,
-        Line::Send(_) => unreachable!(),
+        Line::Send(_) | Line::Recv(_) | Line::Gate(_) => unreachable!(),
     }
 }

@@ -24,7 +24,7 @@ not_memory : statuses.Done ≡ statuses.Memory → ⊥
 not_memory e = cc
 
 pub run_line-requires : goal.run_line-requires
-run_line-requires g c = record { range = line_range _ _ c.in-Ok.ensures.ok }
+run_line-requires g c = record { range = line_range _ _ c.in-Ok.ensures.ok; known = c.in-Ok.ensures.known.1 }
 
 pub returns-in-Ok-clause-order : goal.returns-in-Ok-clause-order
 returns-in-Ok-clause-order g c tells k is files =
