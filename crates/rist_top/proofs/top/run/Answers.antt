@@ -26,6 +26,11 @@ not_memory e = cc
 pub run_line-requires : goal.run_line-requires
 run_line-requires g c = record { range = line_range _ _ c.in-Ok.ensures.ok; known = c.in-Ok.ensures.known.1 }
 
+pub returns-in-Ok-clause-ran : goal.returns-in-Ok-clause-ran
+returns-in-Ok-clause-ran g c fresh unopened memory k is files =
+    let same = same_line _ _ (sym c.in-Ok.ensures.ok ∙ is) in
+    ran_line _ _ _ _ _ _ same (c.run_line.ensures.ran fresh unopened memory (subst IsOverFiles (sym same) files))
+
 pub returns-in-Ok-clause-order : goal.returns-in-Ok-clause-order
 returns-in-Ok-clause-order g c tells k is files =
     let same = same_line _ _ (sym c.in-Ok.ensures.ok ∙ is) in
