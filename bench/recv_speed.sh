@@ -4,7 +4,7 @@
 # highest rate that comes out whole: on one link in clear, on one link enciphered with a key of 128 bits, and on two links that
 # each carry every datagram. A C program sends the datagrams of a capture, each at its time; it answers no request, so that a
 # datagram that was lost is missing. What came is compared with the source, octet for octet.
-# Words: how many seconds of the stream are sent at each rate (default 3). It takes about two minutes and 2 GB, needs cc and
+# Words: how many seconds of the stream are sent at each rate (default 3). It takes about four minutes and 2 GB, needs cc and
 # python3, uses 127.0.0.1 alone and writes only below a new folder in /tmp. Where a tool isn't there it ends with status 3, without
 # `recv` with status 4.
 set -eu
@@ -24,7 +24,7 @@ import os, subprocess, sys, time
 
 rist, work, seconds = sys.argv[1], sys.argv[2], float(sys.argv[3])
 LENGTH = 1316
-GAPS = (26, 20, 16, 13, 11, 10, 9, 8, 7, 6, 5)
+GAPS = (26, 20, 13, 10, 9, 8, 7, 6)
 SOURCE, CAPTURE, CAME = (os.path.join(work, name) for name in ('source', 'capture', 'came'))
 MOST = 20 + 4 * seconds
 
@@ -66,9 +66,10 @@ def run(words, ports, out):
     return used.ru_utime + used.ru_stime, int(fed.stdout) / 1e6, whole, os.path.getsize(out)
 
 
-def recv(ports, delay, session):
+def recv(ports, gap, session):
+    """A receiver whose delay is that of 14,000 pieces: its buffer has room for 16,384."""
     links = [f'127.0.0.1:{port}' for port in ports]
-    return [rist, 'recv', '-', *links, '--delay', str(delay), '--span', '16384', '--idle', '1500', *session]
+    return [rist, 'recv', '-', *links, '--delay', str(14 * gap), '--span', '16384', '--idle', '1500', *session]
 
 
 def at_400():
@@ -76,7 +77,7 @@ def at_400():
     size = os.path.getsize(SOURCE) / 1e9
     best = {}
     for _ in range(3):
-        for name, words in (('rist recv', recv([5000], 300, [])), ('receive and write', [os.path.join(work, 'plain'), '5000'])):
+        for name, words in (('rist recv', recv([5000], 26, [])), ('receive and write', [os.path.join(work, 'plain'), '5000'])):
             used, _, whole, came = run(words, [5000], CAME)
             if not whole:
                 print(f'{name}: {came} of {os.path.getsize(SOURCE)} octets came, or others')
@@ -93,7 +94,7 @@ def highest(name, ports, session):
         make(gap, session)
         good = False
         for _ in range(2):
-            used, took, whole, came = run(recv(ports, 80, session), ports, CAME)
+            used, took, whole, came = run(recv(ports, gap, session), ports, CAME)
             on_time = took < 1.02 * seconds
             if whole and on_time:
                 good = True
