@@ -6,6 +6,7 @@ ghost use Rattle.reorder_buffer.specs.declared.phase.Phase.TheVariants.{Open};
 ghost use Rattle.outside_net.specs.Traces.{is_full};
 ghost use Rattle.rist_ends.specs.Told.{IsFit};
 ghost use Rattle.rist_ends.specs.Outcome.{outcome_with};
+ghost use Rattle.rist_ends.specs.Receiver.{settings_of};
 ghost use Rattle.rist_desk.specs.declared.step.Step.{Step};
 ghost use Rattle.rist_desk.specs.Made.{IsNoEnd, end_told, step_after, steps_with};
 ghost use Rattle.rist_desk.specs.Desk.{IsNew, IsDesk, StandsFor, MakesDue, is_write_fault, is_cut_off, state_of};
@@ -115,6 +116,7 @@ impl<N: Name, T: StepTrace + Drop, K: Sink + Drop> Desk<N, T, K> {
         ensures kept { IfOk result.0 (λ answer. T.list result.2
             ≡ option_map (steps_with (step_after end_told (outcome_with answer outs.new))) self.kept) }
         ensures desk { IsDesk N.given self }
+        ensures settings { settings_of result.1 ≡ N.given.settings }
         ensures stands { (list : List Step) → T.list result.2 ≡ Some list → StandsFor N.given
             (state_of result.1 (T.list result.2) (T.limit result.2) (K.contents result.3) (K.faults result.3))
             (reverse list) }

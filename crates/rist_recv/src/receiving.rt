@@ -2,6 +2,7 @@
 ghost use Rattle.std.specs.Prelude.{◌≡◌, ◌<◌, ◌≤◌, ◌^◌, ℕ, List, length, reverse, slice_index_or, is_some, true, false, Some};
 ghost use Rattle.outside_io.specs.Causes.{RoseWhere};
 ghost use Rattle.rist_compare.specs.declared.tear.Tear.{Tear};
+ghost use Rattle.rist_ends.specs.Receiver.{settings_of};
 ghost use Rattle.rist_desk.specs.declared.step.Step.{Step};
 ghost use Rattle.rist_desk.specs.Desk.{IsNew, StandsFor, state_of};
 ghost use Rattle.rist_desk.specs.Serving.{Serves};
@@ -59,6 +60,7 @@ fn session<
         (state_of result.receiver (T.list result.trace) (T.limit result.trace)
         (K.contents result.sink) (K.faults result.sink)) (reverse steps) }
     ensures tells { is_some (T.list result.trace) ≡ N.given.tells_steps }
+    ensures settings { settings_of result.receiver ≡ N.given.settings }
     ensures fault { RoseWhere (is_write_fault result.ending) N.given.faults (K.faults result.sink) }
     ensures spent { result.ending ≡ Ending.Spent → any_worker is_spent workers.new ≡ true }
     ensures full { result.ending ≡ Ending.TraceFull → IsWithoutRoom workers.new N.given
@@ -124,6 +126,7 @@ pub fn receive<
         (state_of result.receiver (T.list result.trace) (T.limit result.trace)
         (K.contents result.sink) (K.faults result.sink)) (reverse steps) }
     ensures tells { is_some (T.list result.trace) ≡ is_some (T.list trace) }
+    ensures settings { settings_of result.receiver ≡ settings_of receiver }
     // WriteFault comes exactly where the sink's count rose.
     ensures fault { RoseWhere (is_write_fault result.ending) (K.faults sink) (K.faults result.sink) }
     ensures spent { result.ending ≡ Ending.Spent → any_worker is_spent workers.new ≡ true }

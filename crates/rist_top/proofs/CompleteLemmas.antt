@@ -13,7 +13,7 @@ use Rattle.rist_pack.specs.Packing.{Packs}
 use Rattle.rist_pack.specs.Capture.{packed_record, nonces_of}
 use Rattle.rist_pack.specs.declared.bad.PackBad.{PackBad}
 use Rattle.rist_pack.specs.declared.bad.PackBad.TheVariants as packs
-use Rattle.rist_words.specs.CommandLine.{CommandLine, Replay, Show, Pack, Send}
+use Rattle.rist_words.specs.CommandLine.{CommandLine, Replay, Show, Pack, Send, Recv, Gate}
 use Rattle.rist_top.specs.Sessions.{session_with, pack_settings}
 use Rattle.outside_io.specs.Causes.{HasReadCause, HasWriteCause}
 use Rattle.rist_top.specs.Causes.{fault_of}
@@ -68,6 +68,8 @@ work_ends IsKnown (Pack c) b p status input told read write words memory (inl fa
 work_ends IsKnown (Pack c) b p status input told read write words memory (inr work) =
     pack_ends (packed_record (session_with c.session c.stream.nulls c.stream.wide) (nonces_of work.0) (pack_settings c)) b p status work.3.0 input told work.3.1 read write work.3.2
 work_ends IsKnown (Send c) b p status input told read write words memory work = absurd work
+work_ends IsKnown (Recv c) b p status input told read write words memory work = absurd work
+work_ends IsKnown (Gate c) b p status input told read write words memory work = absurd work
 
 ran_done : {I O E L C : Type 0} (tells : Tells I O E) (old new : Shelf I O E L C) (c : CommandLine) (status : Status)
     (source : I) (b : List ℕ) → old.sources (source_name c) ≡ Here source → tells.remaining source ≡ Some b → IsWholeInput c b → NoneFailed tells old new c

@@ -16,7 +16,7 @@ use Rattle.rist_pack.specs.Packing.{Packs}
 use Rattle.rist_pack.specs.Capture.{packed_record, nonces_of}
 use Rattle.rist_pack.specs.declared.bad.PackBad.{PackBad}
 use Rattle.rist_pack.specs.declared.bad.PackBad.TheVariants as packs
-use Rattle.rist_words.specs.CommandLine.{CommandLine, Replay, Show, Pack, Send, Session, ReplayCommand, ShowCommand, PackCommand}
+use Rattle.rist_words.specs.CommandLine.{CommandLine, Replay, Show, Pack, Send, Recv, Gate, Session, ReplayCommand, ShowCommand, PackCommand}
 use Rattle.rist_top.specs.Sessions.{session_with, session_read, replay_limits, pack_settings}
 use Rattle.rist_top.specs.declared.status.Status.{Status}
 use Rattle.rist_top.specs.declared.status.Status.TheVariants as statuses
@@ -76,3 +76,5 @@ Works IsKnown (Pack c) p status =
     ((status ≡ statuses.EntropyFault) × (p.left ≡ p.had) × (p.holds ≡ p.held))
     ⊎ ((sealer : Option SealerState) × IsFreshFor c.session sealer × IfSome sealer IsKnown × PacksAs c sealer p status)
 Works IsKnown (Send c) p status = ⊥
+Works IsKnown (Recv c) p status = ⊥
+Works IsKnown (Gate c) p status = ⊥

@@ -174,6 +174,6 @@ pub fn work<H: Host>(
                 status,
             },
         },
-        Line::Send(_) => unreachable!(),
+        Line::Send(_) | Line::Recv(_) | Line::Gate(_) => unreachable!(),
     }
 }

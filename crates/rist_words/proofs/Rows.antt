@@ -3,7 +3,8 @@ use Rattle.std.proofs.Common.{◌≡◌, [], ◌∷◌, Some, None, codes, false
 use Rattle.clap.proofs.OnLiterals.{clap_on_literals}
 use Rattle.outside_io.specs.declared.profile.Profile.TheVariants.{Main, Simple}
 use Rattle.rist_words.specs.Commands.{command_in, faults_of}
-use Rattle.rist_words.specs.CommandLine.{Pack, Replay, Send, Session, Show, Stream, line_of}
+use Rattle.request_rules.specs.declared.policy.NackKind.TheVariants.{Mask, Range}
+use Rattle.rist_words.specs.CommandLine.{Gate, Pack, Receiver, Recv, Replay, Send, Serving, Session, Show, Stream, line_of}
 
 -- a session without options
 abbrev plain : Session
@@ -98,3 +99,41 @@ odd_port = refl
 no_link : line_of (codes "rist" ∷ codes "send" ∷ codes "a" ∷ []) ≡ None
 unfolding clap_on_literals faults_of command_in
 no_link = refl
+
+-- a receiver and its run without options
+abbrev plain_receiver : Receiver
+plain_receiver = record { delay = 1000; span = 2048; reorder = 25; least = 50; tries = 8; nack = Range; own = 7 }
+
+-- likewise
+abbrev plain_serving : Serving
+plain_serving = record { turns = 1099511627776; idle = 0; keep = 0 }
+
+received : line_of (codes "rist" ∷ codes "recv" ∷ codes "--nack=mask" ∷ codes "-" ∷ codes "127.0.0.1:5000" ∷ codes "--idle" ∷ codes "5" ∷ [])
+    ≡ Some (Recv (record {
+      out = codes "-";
+      links = record { address = 127 ∷ 0 ∷ 0 ∷ 1 ∷ []; port = 5000 } ∷ [];
+      session = plain;
+      receiver = record plain_receiver { nack = Mask };
+      serving = record plain_serving { idle = 5 };
+    }))
+unfolding clap_on_literals faults_of command_in
+received = refl
+
+gateway : line_of (codes "rist" ∷ codes "gate" ∷ codes "127.0.0.1:5000" ∷ codes "127.0.0.1:5002" ∷ codes "--share=3" ∷ [])
+    ≡ Some (Gate (record {
+      inputs = record { address = 127 ∷ 0 ∷ 0 ∷ 1 ∷ []; port = 5000 } ∷ [];
+      outputs = record { address = 127 ∷ 0 ∷ 0 ∷ 1 ∷ []; port = 5002 } ∷ [];
+      session = plain;
+      receiver = plain_receiver;
+      serving = plain_serving;
+      stream = plain_stream;
+      store = 4096;
+      hold = 20;
+      share = Some (3 ∷ []);
+    }))
+unfolding clap_on_literals faults_of command_in
+gateway = refl
+
+gateway_of_one_link : line_of (codes "rist" ∷ codes "gate" ∷ codes "--in=1" ∷ codes "127.0.0.1:5000" ∷ []) ≡ None
+unfolding clap_on_literals faults_of command_in
+gateway_of_one_link = refl

@@ -6,8 +6,9 @@ use Rattle.outside_io.specs.declared.profile.Profile.{Profile}
 use Rattle.rist_words.specs.declared.values.Numbers.{Numbers}
 use Rattle.rist_words.specs.Commands.{faults_of, command_in}
 use Rattle.outside_net.specs.declared.link_spec.LinkSpec.{LinkSpec}
-use Rattle.rist_words.specs.Values.{flag_of, name_of, number_of, phrase_of, profile_of, ◌>>=◌}
-use Rattle.rist_words.specs.Links.{links_of, shares_of}
+use Rattle.request_rules.specs.declared.policy.NackKind.{NackKind}
+use Rattle.rist_words.specs.Values.{flag_of, nack_of, name_of, number_of, phrase_of, profile_of, ◌>>=◌}
+use Rattle.rist_words.specs.Links.{gate_links_of, links_of, shares_of}
 
 -- how the datagrams of a session are made: the UDP port of media, the passphrase if there is one, and the bits of its key
 pub record Session : Type 0 where
@@ -60,12 +61,54 @@ pub record SendCommand : Type 0 where
   pub linger : ℕ
   pub turns : ℕ
 
+-- what a receiver is set to: the playout delay in milliseconds and the buffer's capacity in packets; for how many milliseconds a
+-- packet may be missing before it is asked for, the least number of them between two requests for it, how often it is asked for
+-- at most, how requests are written, and the receiver's own SSRC
+pub record Receiver : Type 0 where
+  pub delay : ℕ
+  pub span : ℕ
+  pub reorder : ℕ
+  pub least : ℕ
+  pub tries : ℕ
+  pub nack : NackKind
+  pub own : ℕ
+
+-- a run of receiving: how many turns each link's worker makes at most; after how many milliseconds without a datagram it ends, 0
+-- for never; how many steps are kept, 0 for none
+pub record Serving : Type 0 where
+  pub turns : ℕ
+  pub idle : ℕ
+  pub keep : ℕ
+
+-- a stream received on links
+pub record RecvCommand : Type 0 where
+  pub out : Text
+  pub links : List LinkSpec
+  pub session : Session
+  pub receiver : Receiver
+  pub serving : Serving
+
+-- a stream received on some links and sent on others: what the receiver is set to and its run, and as of a sending the stream,
+-- the store, the hold time and the weights of the links that send
+pub record GateCommand : Type 0 where
+  pub inputs : List LinkSpec
+  pub outputs : List LinkSpec
+  pub session : Session
+  pub receiver : Receiver
+  pub serving : Serving
+  pub stream : Stream
+  pub store : ℕ
+  pub hold : ℕ
+  pub share : Option (List ℕ)
+
 -- what the program is told to do
 pub data CommandLine : Type 0 where
   Replay : ReplayCommand → CommandLine
   Show : ShowCommand → CommandLine
   Pack : PackCommand → CommandLine
   Send : SendCommand → CommandLine
+  Recv : RecvCommand → CommandLine
+  Gate : GateCommand → CommandLine
 
 -- the numbers that each option takes. Those of `--port`: an even UDP port
 abbrev pub ports : Numbers
@@ -110,6 +153,30 @@ lingers = record { default = 1000; least = 0; most = 60000; multiple_of = 1 }
 -- `--turns`
 abbrev pub turn_counts : Numbers
 turn_counts = record { default = 1099511627776; least = 1; most = 1099511627776; multiple_of = 1 }
+
+-- `--reorder`, in milliseconds
+abbrev pub reorders : Numbers
+reorders = record { default = 25; least = 0; most = 1000; multiple_of = 1 }
+
+-- `--least`, in milliseconds
+abbrev pub retry_times : Numbers
+retry_times = record { default = 50; least = 5; most = 1000; multiple_of = 1 }
+
+-- `--tries`
+abbrev pub retry_counts : Numbers
+retry_counts = record { default = 8; least = 0; most = 32; multiple_of = 1 }
+
+-- `--own`: an SSRC
+abbrev pub own_ssrcs : Numbers
+own_ssrcs = record { default = 7; least = 0; most = 4294967295; multiple_of = 1 }
+
+-- `--idle`, in milliseconds: a day at most
+abbrev pub idle_times : Numbers
+idle_times = record { default = 0; least = 0; most = 86400000; multiple_of = 1 }
+
+-- `--keep`, in steps
+abbrev pub kept_counts : Numbers
+kept_counts = record { default = 0; least = 0; most = 65536; multiple_of = 1 }
 
 -- the session that a command's values give
 abbrev pub session_of : List Row → Option Session
@@ -171,13 +238,68 @@ send_of rows = do
   turns ← number_of turn_counts (first_of (codes "turns") rows)
   Some (record { source = source; links = links; session = session; stream = stream; gap = gap; store = store; hold = hold; share = share; linger = linger; turns = turns })
 
+-- what a command's values set a receiver to
+abbrev pub receiver_of : List Row → Option Receiver
+receiver_of rows = do
+  delay ← number_of delays (first_of (codes "delay") rows)
+  span ← number_of spans (first_of (codes "span") rows)
+  reorder ← number_of reorders (first_of (codes "reorder") rows)
+  least ← number_of retry_times (first_of (codes "least") rows)
+  tries ← number_of retry_counts (first_of (codes "tries") rows)
+  nack ← nack_of (first_of (codes "nack") rows)
+  own ← number_of own_ssrcs (first_of (codes "own") rows)
+  Some (record { delay = delay; span = span; reorder = reorder; least = least; tries = tries; nack = nack; own = own })
+
+-- the run that a command's values give
+abbrev pub serving_of : List Row → Option Serving
+serving_of rows = do
+  turns ← number_of turn_counts (first_of (codes "turns") rows)
+  idle ← number_of idle_times (first_of (codes "idle") rows)
+  keep ← number_of kept_counts (first_of (codes "keep") rows)
+  Some (record { turns = turns; idle = idle; keep = keep })
+
+-- the values of a receiving
+abbrev pub recv_of : List Row → Option RecvCommand
+recv_of rows = do
+  out ← name_of (first_of (codes "out") rows)
+  session ← session_of rows
+  links ← links_of session.profile (all_of (codes "link") rows)
+  receiver ← receiver_of rows
+  serving ← serving_of rows
+  Some (record { out = out; links = links; session = session; receiver = receiver; serving = serving })
+
+-- the values of a gateway
+abbrev pub gate_of : List Row → Option GateCommand
+gate_of rows = do
+  session ← session_of rows
+  links ← gate_links_of session.profile (all_of (codes "link") rows) (first_of (codes "in") rows)
+  receiver ← receiver_of rows
+  serving ← serving_of rows
+  stream ← stream_of session.profile rows
+  store ← number_of stores (first_of (codes "store") rows)
+  hold ← number_of holds (first_of (codes "hold") rows)
+  share ← shares_of (length links.1) (first_of (codes "share") rows)
+  Some (record {
+    inputs = links.0;
+    outputs = links.1;
+    session = session;
+    receiver = receiver;
+    serving = serving;
+    stream = stream;
+    store = store;
+    hold = hold;
+    share = share;
+  })
+
 -- the line of a command with what is given to it
 abbrev pub command_line : Text → List Row → Option CommandLine
 command_line name rows =
     if bytes_eq name (codes "replay") then option_map Replay (replay_of rows)
     else (if bytes_eq name (codes "show") then option_map Show (show_of rows)
     else (if bytes_eq name (codes "pack") then option_map Pack (pack_of rows)
-    else (if bytes_eq name (codes "send") then option_map Send (send_of rows) else None)))
+    else (if bytes_eq name (codes "send") then option_map Send (send_of rows)
+    else (if bytes_eq name (codes "recv") then option_map Recv (recv_of rows)
+    else (if bytes_eq name (codes "gate") then option_map Gate (gate_of rows) else None)))))
 
 -- with nothing against the words, the line of the command that they name
 abbrev pub taken_line : Kinds → Option (Text × List Row) → Option CommandLine

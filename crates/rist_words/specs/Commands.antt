@@ -44,9 +44,29 @@ send_app = with_rules Positions (with_arguments (session_app (codes "send"))
     (codes "flow" ∷ codes "first" ∷ codes "gap" ∷ codes "store" ∷ codes "hold" ∷ codes "share" ∷ codes "linger" ∷ codes "turns" ∷ [])
     (codes "nulls" ∷ codes "wide" ∷ []) (codes "source" ∷ [])) (codes "link" ∷ [])
 
--- the program
+-- the options of a receiver and of its run
+abbrev pub receiver_options : List Text
+receiver_options =
+    codes "delay" ∷ codes "span" ∷ codes "reorder" ∷ codes "least" ∷ codes "tries" ∷ codes "nack" ∷ codes "own" ∷ codes "turns"
+    ∷ codes "idle" ∷ codes "keep" ∷ []
+
+-- a receiving: its options and its positions, of which the last takes one link or more
+abbrev pub recv_app : App
+recv_app = with_rules Positions (with_arguments (session_app (codes "recv")) receiver_options [] (codes "out" ∷ [])) (codes "link" ∷ [])
+
+-- a gateway: a receiver's options, its own, its flags and its links
+abbrev pub gate_app : App
+gate_app = with_rules Positions (with_arguments (with_rules Valued (session_app (codes "gate")) receiver_options)
+    (codes "flow" ∷ codes "first" ∷ codes "store" ∷ codes "hold" ∷ codes "share" ∷ codes "in" ∷ [])
+    (codes "nulls" ∷ codes "wide" ∷ []) []) (codes "link" ∷ [])
+
+-- the commands over files
+abbrev pub files_app : App
+files_app = with_subcommand (with_subcommand (with_subcommand (new_app (codes "rist")) replay_app.top) show_app.top) pack_app.top
+
+-- the program: those, and the commands over links
 abbrev pub rist_app : App
-rist_app = with_subcommand (with_subcommand (with_subcommand (with_subcommand (new_app (codes "rist")) replay_app.top) show_app.top) pack_app.top) send_app.top
+rist_app = with_subcommand (with_subcommand (with_subcommand files_app send_app.top) recv_app.top) gate_app.top
 
 -- what stands against taking the words, the program's name first; where nothing does, they are taken
 unfoldable pub faults_of : List Text → Kinds

@@ -1,12 +1,12 @@
 -- How links, and the weights by which they share a stream, are written on a command line (this profile).
-use Rattle.std.specs.Prelude.{ℕ, zero, suc, List, [], ◌∷◌, length, Bool, nat_lt, ◌&&◌, ◌==◌, if◌then◌else◌, Option, Some, None, option_map}
+use Rattle.std.specs.Prelude.{ℕ, ◌-◌, zero, suc, List, [], ◌∷◌, length, take, drop, Bool, nat_lt, ◌&&◌, ◌==◌, if◌then◌else◌, Option, Some, None, option_map}
 use Rattle.std.specs.List.{before_first, after_first, position_or_len}
 use Rattle.clap.specs.Words.{Text}
 use Rattle.outside_io.specs.declared.profile.Profile.{Profile}
 use Rattle.outside_io.specs.declared.profile.Profile.TheVariants.{Simple, Main}
 use Rattle.outside_net.specs.declared.link_spec.LinkSpec.{LinkSpec}
 use Rattle.rist_words.specs.declared.values.Numbers.{Numbers}
-use Rattle.rist_words.specs.Values.{number_in, ◌>>=◌}
+use Rattle.rist_words.specs.Values.{number_in, number_of, ◌>>=◌}
 
 -- the text before the first of a mark and the text behind it, where there is one
 abbrev pub split_at : ℕ → Text → Option (Text × Text)
@@ -64,6 +64,21 @@ abbrev pub links_of : Profile → Option (List Text) → Option (List LinkSpec)
 links_of profile None = None
 links_of profile (Some texts) =
     if nat_lt 0 (length texts) && nat_lt (length texts) 17 then each_link profile texts else None
+
+-- `--in`: how many of the links receive. At least one is left that sends
+abbrev pub input_counts : ℕ → Numbers
+input_counts links = record { default = 1; least = 1; most = links - 1; multiple_of = 1 }
+
+-- the number of them among two links or more
+abbrev pub inputs_of : ℕ → Option Text → Option ℕ
+inputs_of links given = if nat_lt links 2 then None else number_of (input_counts links) given
+
+-- a gateway's links: those that receive, which stand first, and those that send
+abbrev pub gate_links_of : Profile → Option (List Text) → Option Text → Option (List LinkSpec × List LinkSpec)
+gate_links_of profile texts given = do
+  links ← links_of profile texts
+  inputs ← inputs_of (length links) given
+  Some (take inputs links, drop inputs links)
 
 -- a link's weight
 abbrev pub link_weights : Numbers

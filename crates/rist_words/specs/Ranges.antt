@@ -1,9 +1,10 @@
 -- The ranges and combinations of a line's values (this profile).
-use Rattle.std.specs.Prelude.{◌≡◌, ◌⊎◌, ℕ, ◌%◌, ◌^◌, ◌<◌, ◌≤◌, false, None, IfSome, length}
+use Rattle.std.specs.Prelude.{◌≡◌, ◌⊎◌, ℕ, ◌+◌, ◌%◌, ◌^◌, ◌<◌, ◌≤◌, false, None, IfSome, length}
 use Rattle.std.specs.List.{All}
 use Rattle.outside_io.specs.declared.profile.Profile.{Profile}
 use Rattle.outside_io.specs.declared.profile.Profile.TheVariants.{Simple}
-use Rattle.rist_words.specs.CommandLine.{CommandLine, Replay, Show, Pack, Send, Session, Stream, ReplayCommand, PackCommand, SendCommand, ports, delays, spans, gaps, stores, holds, lingers, turn_counts}
+use Rattle.rist_words.specs.CommandLine.{CommandLine, Replay, Show, Pack, Send, Recv, Gate, Session, Stream, Receiver, Serving, ReplayCommand, PackCommand, SendCommand, RecvCommand, GateCommand}
+use Rattle.rist_words.specs.CommandLine.{ports, delays, spans, gaps, stores, holds, lingers, turn_counts, reorders, retry_times, retry_counts, idle_times, kept_counts}
 use Rattle.rist_words.specs.Links.{link_weights}
 
 -- an even port, a key's length, and a passphrase in the Main Profile alone
@@ -61,9 +62,54 @@ pub record IsInSend (c : SendCommand) : Type 0 where
   pub some_turn : turn_counts.least ≤ c.turns
   pub turns : c.turns ≤ turn_counts.most
 
+-- numbers that a receiver's options take
+pub record IsInReceiver (r : Receiver) : Type 0 where
+  pub some_delay : delays.least ≤ r.delay
+  pub delay : r.delay ≤ delays.most
+  pub some_span : spans.least ≤ r.span
+  pub span : r.span ≤ spans.most
+  pub reorder : r.reorder ≤ reorders.most
+  pub some_least : retry_times.least ≤ r.least
+  pub least : r.least ≤ retry_times.most
+  pub tries : r.tries ≤ retry_counts.most
+  pub own : r.own < 2 ^ 32
+
+-- numbers that the options of its run take
+pub record IsInServing (s : Serving) : Type 0 where
+  pub some_turn : turn_counts.least ≤ s.turns
+  pub turns : s.turns ≤ turn_counts.most
+  pub idle : s.idle ≤ idle_times.most
+  pub keep : s.keep ≤ kept_counts.most
+
+-- one to sixteen links, and what a receiver and its run are set to
+pub record IsInRecv (c : RecvCommand) : Type 0 where
+  pub session : IsInSession c.session
+  pub some_link : 1 ≤ length c.links
+  pub links : length c.links ≤ 16
+  pub receiver : IsInReceiver c.receiver
+  pub serving : IsInServing c.serving
+
+-- a link or more that receives and one or more that sends, sixteen in all at most; a weight for each that sends where they
+-- share; and what the receiver, its run and the sender are set to
+pub record IsInGate (c : GateCommand) : Type 0 where
+  pub session : IsInSession c.session
+  pub stream : IsInStream c.session.profile c.stream
+  pub some_input : 1 ≤ length c.inputs
+  pub some_output : 1 ≤ length c.outputs
+  pub links : length c.inputs + length c.outputs ≤ 16
+  pub receiver : IsInReceiver c.receiver
+  pub serving : IsInServing c.serving
+  pub some_store : stores.least ≤ c.store
+  pub store : c.store ≤ stores.most
+  pub some_hold : holds.least ≤ c.hold
+  pub hold : c.hold ≤ holds.most
+  pub share : IfSome c.share (λ weights. (length weights ≡ length c.outputs) × All IsWeight weights)
+
 -- a line's values lie in their ranges
 abbrev pub IsInRange : CommandLine → Type 0
 IsInRange (Replay c) = IsInReplay c
 IsInRange (Show c) = IsInSession c.session
 IsInRange (Pack c) = IsInPack c
 IsInRange (Send c) = IsInSend c
+IsInRange (Recv c) = IsInRecv c
+IsInRange (Gate c) = IsInGate c

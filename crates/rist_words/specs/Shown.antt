@@ -8,7 +8,11 @@ use Rattle.rist_words.specs.declared.lines.ShowLine.{ShowLine}
 use Rattle.rist_words.specs.declared.lines.PackLine.{PackLine}
 use Rattle.rist_words.specs.declared.lines.SendLine.{SendLine}
 use Rattle.rist_words.specs.declared.lines.StreamWords.{StreamWords}
-use Rattle.rist_words.specs.CommandLine.{CommandLine, Replay, Show, Pack, Send, Session, Stream, ReplayCommand, ShowCommand, PackCommand, SendCommand}
+use Rattle.rist_words.specs.declared.lines.ReceiverWords.{ReceiverWords}
+use Rattle.rist_words.specs.declared.lines.ServingWords.{ServingWords}
+use Rattle.rist_words.specs.declared.lines.RecvLine.{RecvLine}
+use Rattle.rist_words.specs.declared.lines.GateLine.{GateLine}
+use Rattle.rist_words.specs.CommandLine.{CommandLine, Replay, Show, Pack, Send, Recv, Gate, Session, Stream, Receiver, Serving, ReplayCommand, ShowCommand, PackCommand, SendCommand, RecvCommand, GateCommand}
 
 -- the session of a line
 abbrev pub shown_session : SessionWords → Session
@@ -45,9 +49,37 @@ shown_send l = record {
   turns = l.turns;
 }
 
+-- what a line sets its receiver to
+abbrev pub shown_receiver : ReceiverWords → Receiver
+shown_receiver r = record { delay = r.delay; span = r.span; reorder = r.reorder; least = r.least; tries = r.tries; nack = r.nack; own = r.own }
+
+-- the run of a line's receiver
+abbrev pub shown_serving : ServingWords → Serving
+shown_serving s = record { turns = s.turns; idle = s.idle; keep = s.keep }
+
+-- the receiving that a line says
+abbrev pub shown_recv : RecvLine → RecvCommand
+shown_recv l = record { out = l.out.now; links = l.links.items; session = shown_session l.session; receiver = shown_receiver l.receiver; serving = shown_serving l.serving }
+
+-- the gateway that a line says
+abbrev pub shown_gate : GateLine → GateCommand
+shown_gate l = record {
+  inputs = l.inputs.items;
+  outputs = l.outputs.items;
+  session = shown_session l.session;
+  receiver = shown_receiver l.receiver;
+  serving = shown_serving l.serving;
+  stream = shown_stream l.stream;
+  store = l.store;
+  hold = l.hold;
+  share = option_map (λ weights. weights.items) l.share;
+}
+
 -- what a line says
 abbrev pub shown : Line → CommandLine
 shown (lines.Replay l) = Replay (shown_replay l)
 shown (lines.Show l) = Show (shown_show l)
 shown (lines.Pack l) = Pack (shown_pack l)
 shown (lines.Send l) = Send (shown_send l)
+shown (lines.Recv l) = Recv (shown_recv l)
+shown (lines.Gate l) = Gate (shown_gate l)

@@ -8,6 +8,8 @@ use Rattle.clap.specs.Words.{Text}
 use Rattle.rist_words.specs.declared.values.Numbers.{Numbers}
 use Rattle.outside_io.specs.declared.profile.Profile.{Profile}
 use Rattle.outside_io.specs.declared.profile.Profile.TheVariants.{Simple, Main}
+use Rattle.request_rules.specs.declared.policy.NackKind.{NackKind}
+use Rattle.request_rules.specs.declared.policy.NackKind.TheVariants.{Range, Mask}
 
 -- one reading after another: where one fails, all do
 infixl 10 ◌>>=◌
@@ -42,6 +44,11 @@ name_of (Some text) = if nat_lt 0 (length text) then Some text else None
 abbrev pub profile_of : Option Text → Option Profile
 profile_of None = Some Simple
 profile_of (Some text) = if bytes_eq text (codes "simple") then Some Simple else (if bytes_eq text (codes "main") then Some Main else None)
+
+-- how requests are written is one of two words
+abbrev pub nack_of : Option Text → Option NackKind
+nack_of None = Some Range
+nack_of (Some text) = if bytes_eq text (codes "range") then Some Range else (if bytes_eq text (codes "mask") then Some Mask else None)
 
 -- a passphrase of 1 to 128 octets, in the Main Profile; or none
 abbrev pub phrase_of : Profile → Option Text → Option (Option Text)

@@ -2,7 +2,7 @@
 ghost use Rattle.std.specs.Prelude.{◌≡◌, IfOk, false, map};
 ghost use Rattle.clap.specs.Words.{app_of, rule_of, with_rule, with_subcommand};
 ghost use Rattle.clap.specs.declared.Command.TheViews.{out-Command as fields_of};
-ghost use Rattle.rist_words.specs.Commands.{rule_for, with_rules, session_app, with_arguments, rist_app};
+ghost use Rattle.rist_words.specs.Commands.{rule_for, with_rules, session_app, with_arguments, files_app, rist_app};
 
 use clap::{Arg, ArgAction, Command};
 use std::alloc::{AllocError, Global};
@@ -22,7 +22,8 @@ static PACK_OPTIONS: [&str; 3] = ["flow", "first", "gap"];
 
 static SEND: [&str; 1] = ["source"];
 
-static SEND_LINKS: [&str; 1] = ["link"];
+/// The last position of each command over links.
+static LINKS: [&str; 1] = ["link"];
 
 static SEND_OPTIONS: [&str; 8] = [
     "flow", "first", "gap", "store", "hold", "share", "linger", "turns",
@@ -30,6 +31,15 @@ static SEND_OPTIONS: [&str; 8] = [
 
 /// The flags of each command that makes the datagrams of a stream.
 static STREAM_FLAGS: [&str; 2] = ["nulls", "wide"];
+
+static RECV: [&str; 1] = ["out"];
+
+/// The options of each command that receives.
+static RECEIVER_OPTIONS: [&str; 10] = [
+    "delay", "span", "reorder", "least", "tries", "nack", "own", "turns", "idle", "keep",
+];
+
+static GATE_OPTIONS: [&str; 6] = ["flow", "first", "store", "hold", "share", "in"];
 
 /// How an argument is given.
 #[derive(Clone, Copy)]
@@ -48,6 +58,26 @@ pub enum Kind {
 pub fn program<'a>(alloc: Global) -> Result<Command<'a>, AllocError>
     ensures app { IfOk result (λ r. app_of r ≡ rist_app) }
 {
+    let program = over_files(alloc)?;
+    let send = session(alloc, "send")?;
+    let send = with_arguments(alloc, send, &SEND_OPTIONS, &STREAM_FLAGS, &SEND)?;
+    let send = with_all(alloc, send, Kind::Positions, &LINKS)?;
+    let program = below(program, send)?;
+    let recv = session(alloc, "recv")?;
+    let recv = with_arguments(alloc, recv, &RECEIVER_OPTIONS, &[], &RECV)?;
+    let recv = with_all(alloc, recv, Kind::Positions, &LINKS)?;
+    let program = below(program, recv)?;
+    let gate = session(alloc, "gate")?;
+    let gate = with_all(alloc, gate, Kind::Valued, &RECEIVER_OPTIONS)?;
+    let gate = with_arguments(alloc, gate, &GATE_OPTIONS, &STREAM_FLAGS, &[])?;
+    let gate = with_all(alloc, gate, Kind::Positions, &LINKS)?;
+    Ok(below(program, gate)?)
+}
+
+/// The program with its commands over files.
+fn over_files<'a>(alloc: Global) -> Result<Command<'a>, AllocError>
+    ensures app { IfOk result (λ r. app_of r ≡ files_app) }
+{
     let program = Command::new(alloc, "rist");
     let replay = session(alloc, "replay")?;
     let replay = with_arguments(alloc, replay, &REPLAY_OPTIONS, &[], &REPLAY)?;
@@ -58,10 +88,7 @@ pub fn program<'a>(alloc: Global) -> Result<Command<'a>, AllocError>
     let pack = session(alloc, "pack")?;
     let pack = with_arguments(alloc, pack, &PACK_OPTIONS, &STREAM_FLAGS, &PACK)?;
     let program = below(program, pack)?;
-    let send = session(alloc, "send")?;
-    let send = with_arguments(alloc, send, &SEND_OPTIONS, &STREAM_FLAGS, &SEND)?;
-    let send = with_all(alloc, send, Kind::Positions, &SEND_LINKS)?;
-    Ok(below(program, send)?)
+    Ok(program)
 }
 
 /// A command that speaks of a session.

@@ -28,6 +28,27 @@ usage: rist COMMAND [OPTION..] ARGUMENT..
                               (default 1000)
       --turns TURNS           turns at most, 1 to 1099511627776 (default 1099511627776)
 
+  rist recv OUT LINK..        write a stream as it is received on links, each an a.b.c.d:port
+                              that is bound, one to sixteen
+      --delay, --span, as of replay; --turns, as of send, for each link
+      --reorder MS            a packet is asked for once it is missing so long, 0 to 1000
+                              (default 25)
+      --least MS              least time between two requests for a packet, 5 to 1000 (default 50)
+      --tries TIMES           how often a packet is asked for at most, 0 to 32 (default 8)
+      --nack KIND             how requests are written, range or mask (default range)
+      --own SSRC              the receiver's own, below 2^32 (default 7)
+      --idle MS               end where nothing came for so long, 1 to 86400000, or 0: never
+                              (default 0)
+      --keep STEPS            steps kept to be compared at the end, 1 to 65536, or 0: none
+                              (default 0)
+
+  rist gate LINK..            receive a stream on the first links, and send it on the others
+      --in LINKS              how many links receive, at least one and not all (default 1)
+      --delay, --span, --reorder, --least, --tries, --nack, --own, --turns, --idle, --keep,
+                              as of recv
+      --flow, --first, --nulls, --wide, --store, --hold, as of send
+      --share W:W..           as of send, a weight for each link that sends
+
   each command
       --profile PROFILE       simple or main (default simple)
       --port PORT             UDP port of media, even, 2 to 65534 (default 1968)

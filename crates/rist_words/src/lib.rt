@@ -7,8 +7,11 @@ mod help;
 pub mod laws;
 mod lines;
 mod links;
+#[cfg(test)]
+mod live_tests;
 mod matching;
 mod reading;
+mod receiving;
 mod session;
 #[cfg(test)]
 mod tests;
@@ -16,6 +19,7 @@ mod values;
 
 pub use help::USAGE;
 pub use lines::{
-    Line, PackLine, Refused, ReplayLine, SendLine, SessionWords, ShowLine, StreamWords,
+    GateLine, Line, PackLine, ReceiverWords, RecvLine, Refused, ReplayLine, SendLine, ServingWords,
+    SessionWords, ShowLine, StreamWords,
 };
 pub use reading::line;

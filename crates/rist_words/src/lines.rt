@@ -1,6 +1,7 @@
 //! The lines of the program.
 use outside_io::Profile;
 use outside_net::LinkSpec;
+use request_rules::NackKind;
 use std::alloc::AllocError;
 use std::fmt::{self, Display, Formatter, Write};
 
@@ -15,6 +16,10 @@ pub enum Line<'a> {
     Pack(PackLine<'a>),
     /// `send SOURCE LINK..`
     Send(SendLine<'a>),
+    /// `recv OUT LINK..`
+    Recv(RecvLine<'a>),
+    /// `gate LINK..`
+    Gate(GateLine<'a>),
 }
 
 /// How the datagrams of a session are made and read.
@@ -106,6 +111,76 @@ pub struct SendLine<'a> {
     pub linger: u64,
     /// How many turns are made at most, 1 to 2^40.
     pub turns: u64,
+}
+
+/// What a receiver is set to.
+#[derive(Clone, Copy, Debug, PartialEq, Eq)]
+pub struct ReceiverWords {
+    /// The playout delay in milliseconds, 1 to 30,000.
+    pub delay: u64,
+    /// The buffer's capacity in packets, 1 to 16,384.
+    pub span: u64,
+    /// How long a packet may be missing before it is asked for, in milliseconds, 0 to 1,000.
+    pub reorder: u64,
+    /// The least time between two requests for one packet, in milliseconds, 5 to 1,000.
+    pub least: u64,
+    /// How often one packet is asked for at most, 0 to 32.
+    pub tries: u64,
+    /// How requests are written.
+    pub nack: NackKind,
+    /// The receiver's own SSRC.
+    pub own: u32,
+}
+
+/// When a run of receiving ends, and how much of it is kept.
+#[derive(Clone, Copy, Debug, PartialEq, Eq)]
+pub struct ServingWords {
+    /// How many turns each link's worker makes at most, 1 to 2^40.
+    pub turns: u64,
+    /// For how long nothing may come on a link until its worker ends, in milliseconds, 0 to 86,400,000; 0 where that doesn't
+    /// matter.
+    pub idle: u64,
+    /// How many steps are kept, 0 to 65,536; with 0 none is.
+    pub keep: u64,
+}
+
+/// Receive a stream on links.
+#[derive(Debug, PartialEq, Eq, Drop)]
+pub struct RecvLine<'a> {
+    /// The name of what is written.
+    pub out: &'a str,
+    /// The addresses at which its datagrams come in, one to sixteen.
+    pub links: Vec<LinkSpec>,
+    /// How they are read, and how the answers are made.
+    pub session: SessionWords<'a>,
+    /// What its receiver is set to.
+    pub receiver: ReceiverWords,
+    /// When it ends.
+    pub serving: ServingWords,
+}
+
+/// Receive a stream on some links, and send it on others.
+#[derive(Debug, PartialEq, Eq, Drop)]
+pub struct GateLine<'a> {
+    /// The addresses at which its datagrams come in, one or more.
+    pub inputs: Vec<LinkSpec>,
+    /// Where what is received is sent, one or more addresses, and with the inputs at most sixteen.
+    pub outputs: Vec<LinkSpec>,
+    /// How datagrams are read and made.
+    pub session: SessionWords<'a>,
+    /// What its receiver is set to.
+    pub receiver: ReceiverWords,
+    /// When it ends.
+    pub serving: ServingWords,
+    /// What is in the datagrams that it sends.
+    pub stream: StreamWords,
+    /// How many packets are stored for retransmission, 1 to 65,536.
+    pub store: u64,
+    /// For how long no packet is sent again once it was, in milliseconds, 1 to 1,000.
+    pub hold: u64,
+    /// The weights by which the outputs share the stream, 1 to 100 each and one for each output. Without them each datagram
+    /// goes on all of them.
+    pub share: Option<Vec<u8>>,
 }
 
 /// Why there is no line.

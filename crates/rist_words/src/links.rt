@@ -1,10 +1,10 @@
 //! Links, and the weights by which they share a stream.
-ghost use Rattle.std.specs.Prelude.{◌≡◌, ◌<◌, ◌≤◌, ◌++◌, ◌∷◌, [], Err, Some, None, IfOk, OnOk, codes, length, map, option_map};
+ghost use Rattle.std.specs.Prelude.{◌≡◌, ◌<◌, ◌≤◌, ◌++◌, ◌∷◌, [], Err, Some, None, IfOk, IfSome, OnOk, codes, length, map, option_map};
 ghost use Rattle.clap.specs.Words.{all_of, first_of, found_of, rows_of};
-ghost use Rattle.rist_words.specs.Links.{address_of, each_link, link_of, link_ports, links_of, shares_of, split_at, weights_in};
+ghost use Rattle.rist_words.specs.Links.{address_of, each_link, gate_links_of, input_counts, inputs_of, link_of, link_ports, links_of, shares_of, split_at, weights_in};
 
 use crate::lines::Refused;
-use crate::values::{Numbers, given, number_in};
+use crate::values::{Numbers, given, number, number_in};
 use clap::ArgMatches;
 use outside_io::Profile;
 use outside_net::LinkSpec;
@@ -33,8 +33,10 @@ pub fn links(
     values: &ArgMatches<'_>,
     profile: Profile,
 ) -> Result<Vec<LinkSpec>, Refused>
-    ensures ok { IfOk result (λ links. links_of profile (all_of (codes "link") (rows_of (found_of values.now))) ≡ Some links.items) }
-    ensures usage { result ≡ Err Refused.Usage → links_of profile (all_of (codes "link") (rows_of (found_of values.now))) ≡ None }
+    ensures ok { IfOk result (λ links.
+        links_of profile (all_of (codes "link") (rows_of (found_of values.now))) ≡ Some links.items) }
+    ensures usage { result ≡ Err Refused.Usage
+        → links_of profile (all_of (codes "link") (rows_of (found_of values.now))) ≡ None }
     ensures some { IfOk result (λ links. 1 ≤ length links.items) }
 {
     match all_given(values, "link") {
@@ -42,6 +44,49 @@ pub fn links(
             each_link(alloc, profile, texts)
         }
         _ => Err(Refused::Usage),
+    }
+}
+
+/// The links of a gateway: those that receive, which are given first, and those that send.
+pub fn gate_links(
+    alloc: Global,
+    values: &ArgMatches<'_>,
+    profile: Profile,
+) -> Result<(Vec<LinkSpec>, Vec<LinkSpec>), Refused>
+    ensures ok { IfOk result (λ links. gate_links_of profile (all_of (codes "link") (rows_of (found_of values.now)))
+        (first_of (codes "in") (rows_of (found_of values.now))) ≡ Some (links.0.items, links.1.items)) }
+    ensures usage { result ≡ Err Refused.Usage
+        → gate_links_of profile (all_of (codes "link") (rows_of (found_of values.now)))
+        (first_of (codes "in") (rows_of (found_of values.now))) ≡ None }
+    ensures some { IfOk result (λ links. 1 ≤ length links.1.items) }
+{
+    let mut inputs = links(alloc, values, profile)?;
+    let count = inputs_of(values, inputs.len()).ok_or(Refused::Usage)?;
+    let outputs = inputs.split_off(count)?;
+    Ok((inputs, outputs))
+}
+
+/// How many of the links receive: fewer than all.
+fn inputs_of(values: &ArgMatches<'_>, links: usize) -> Option<usize>
+    ensures value { result ≡ inputs_of links (first_of (codes "in") (rows_of (found_of values.now))) }
+    ensures fewer { IfSome result (λ n. n < links) }
+{
+    if links < 2 {
+        return None;
+    }
+    Some(number(values, "in", input_counts(links))? as usize)
+}
+
+/// The numbers of links that can receive, of two or more.
+fn input_counts(links: usize) -> Numbers
+    requires two { 2 ≤ links }
+    ensures value { result ≡ input_counts links }
+{
+    Numbers {
+        default: 1,
+        least: 1,
+        most: links as u64 - 1,
+        multiple_of: 1,
     }
 }
 

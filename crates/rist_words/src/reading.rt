@@ -1,30 +1,17 @@
 //! The line that the words are.
 ghost use Rattle.std.specs.Prelude.{◌≡◌, Err, Some, None, IfOk, map, option_map, string_bytes};
 ghost use Rattle.clap.specs.Words.{found_of, rows_of};
-ghost use Rattle.rist_words.specs.CommandLine.{line_of, command_line, replay_of, show_of, pack_of, send_of};
-ghost use Rattle.rist_words.specs.Shown.{shown, shown_replay, shown_show, shown_pack, shown_send};
+ghost use Rattle.rist_words.specs.CommandLine.{line_of, command_line, replay_of, show_of, pack_of, send_of, recv_of, gate_of};
+ghost use Rattle.rist_words.specs.Shown.{shown, shown_replay, shown_show, shown_pack, shown_send, shown_recv, shown_gate};
 
-use crate::lines::{Line, PackLine, Refused, ReplayLine, SendLine, ShowLine};
-use crate::links::{links, share};
+use crate::lines::{GateLine, Line, PackLine, RecvLine, Refused, ReplayLine, SendLine, ShowLine};
+use crate::links::{gate_links, links, share};
 use crate::matching::matched;
+use crate::receiving::{DELAY, SPAN, TURNS, receiver, serving};
 use crate::session::{session, stream};
 use crate::values::{Numbers, name, number};
 use clap::ArgMatches;
 use std::alloc::Global;
-
-const DELAY: Numbers = Numbers {
-    default: 1000,
-    least: 1,
-    most: 30_000,
-    multiple_of: 1,
-};
-
-const SPAN: Numbers = Numbers {
-    default: 2048,
-    least: 1,
-    most: 16_384,
-    multiple_of: 1,
-};
 
 const GAP: Numbers = Numbers {
     default: 1000,
@@ -51,13 +38,6 @@ const LINGER: Numbers = Numbers {
     default: 1000,
     least: 0,
     most: 60_000,
-    multiple_of: 1,
-};
-
-const TURNS: Numbers = Numbers {
-    default: 1 << 40,
-    least: 1,
-    most: 1 << 40,
     multiple_of: 1,
 };
 
@@ -100,6 +80,16 @@ fn command_line<'a>(
     } else if command == "send" {
         match send_line(alloc, values) {
             Ok(line) => Ok(Line::Send(line)),
+            Err(refused) => Err(refused),
+        }
+    } else if command == "recv" {
+        match recv_line(alloc, values) {
+            Ok(line) => Ok(Line::Recv(line)),
+            Err(refused) => Err(refused),
+        }
+    } else if command == "gate" {
+        match gate_line(alloc, values) {
+            Ok(line) => Ok(Line::Gate(line)),
             Err(refused) => Err(refused),
         }
     } else {
@@ -166,5 +156,46 @@ fn send_line<'a>(alloc: Global, values: &ArgMatches<'a>) -> Result<SendLine<'a>,
         share,
         linger: number(values, "linger", LINGER).ok_or(Refused::Usage)?,
         turns: number(values, "turns", TURNS).ok_or(Refused::Usage)?,
+    })
+}
+
+fn recv_line<'a>(alloc: Global, values: &ArgMatches<'a>) -> Result<RecvLine<'a>, Refused>
+    ensures ok { IfOk result (λ l. recv_of (rows_of (found_of values.now)) ≡ Some (shown_recv l)) }
+    ensures usage { result ≡ Err Refused.Usage → recv_of (rows_of (found_of values.now)) ≡ None }
+{
+    let out = name(values, "out").ok_or(Refused::Usage)?;
+    let session = session(values).ok_or(Refused::Usage)?;
+    let links = links(alloc, values, session.profile)?;
+    Ok(RecvLine {
+        out,
+        links,
+        session,
+        receiver: receiver(values).ok_or(Refused::Usage)?,
+        serving: serving(values).ok_or(Refused::Usage)?,
+    })
+}
+
+fn gate_line<'a>(alloc: Global, values: &ArgMatches<'a>) -> Result<GateLine<'a>, Refused>
+    ensures ok { IfOk result (λ l. gate_of (rows_of (found_of values.now)) ≡ Some (shown_gate l)) }
+    ensures usage { result ≡ Err Refused.Usage → gate_of (rows_of (found_of values.now)) ≡ None }
+{
+    let session = session(values).ok_or(Refused::Usage)?;
+    let (inputs, outputs) = gate_links(alloc, values, session.profile)?;
+    let receiver = receiver(values).ok_or(Refused::Usage)?;
+    let serving = serving(values).ok_or(Refused::Usage)?;
+    let stream = stream(values, session.profile).ok_or(Refused::Usage)?;
+    let store = number(values, "store", STORE).ok_or(Refused::Usage)?;
+    let hold = number(values, "hold", HOLD).ok_or(Refused::Usage)?;
+    let share = share(alloc, values, outputs.len())?;
+    Ok(GateLine {
+        inputs,
+        outputs,
+        session,
+        receiver,
+        serving,
+        stream,
+        store,
+        hold,
+        share,
     })
 }

@@ -7,14 +7,14 @@ use outside_net::LinkSpec;
 use std::alloc::Global;
 use std::test::Fail;
 
-const PLAIN: SessionWords<'static> = SessionWords {
+pub const PLAIN: SessionWords<'static> = SessionWords {
     profile: Profile::Simple,
     port: 1968,
     pass: None,
     bits: 128,
 };
 
-const STREAM: StreamWords = StreamWords {
+pub const STREAM: StreamWords = StreamWords {
     nulls: false,
     wide: false,
     flow: 270_544_960,
@@ -22,7 +22,7 @@ const STREAM: StreamWords = StreamWords {
 };
 
 /// Whether the words between blanks are this line, or are refused.
-fn reads(
+pub fn reads(
     alloc: Global,
     text: &str,
     line_or_refused: Result<Line<'_>, Refused>,

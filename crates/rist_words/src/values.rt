@@ -4,10 +4,11 @@ ghost use Rattle.std.specs.Char.{is_ascii_digit};
 ghost use Rattle.std.specs.List.{list_all};
 ghost use Rattle.std.specs.Str.Parse.{digits_value};
 ghost use Rattle.clap.specs.Words.{first_of, found_of, rows_of};
-ghost use Rattle.rist_words.specs.Values.{flag_of, is_among, is_numeral, is_set, number_in, number_of, name_of, phrase_of, profile_of};
+ghost use Rattle.rist_words.specs.Values.{flag_of, is_among, is_numeral, is_set, nack_of, number_in, number_of, name_of, phrase_of, profile_of};
 
 use clap::ArgMatches;
 use outside_io::Profile;
+use request_rules::NackKind;
 
 /// The numbers that an option takes.
 #[derive(Clone, Copy)]
@@ -105,6 +106,18 @@ pub fn profile(matches: &ArgMatches<'_>, option: &str) -> Option<Profile>
         None => Some(Profile::Simple),
         Some(text) if text == "simple" => Some(Profile::Simple),
         Some(text) if text == "main" => Some(Profile::Main),
+        Some(_) => None,
+    }
+}
+
+/// How requests are written, by ranges where it isn't given.
+pub fn nack(matches: &ArgMatches<'_>, option: &str) -> Option<NackKind>
+    ensures { result ≡ nack_of (first_of option.now (rows_of (found_of matches.now))) }
+{
+    match given(matches, option) {
+        None => Some(NackKind::Range),
+        Some(text) if text == "range" => Some(NackKind::Range),
+        Some(text) if text == "mask" => Some(NackKind::Mask),
         Some(_) => None,
     }
 }

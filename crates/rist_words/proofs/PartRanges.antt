@@ -1,0 +1,278 @@
+-- Each reading of a part of a line gives a value in its range.
+use Rattle.std.proofs.Common.{◌≡◌, ◌⊎◌, ℕ, ◌+◌, ◌-◌, ◌%◌, ◌^◌, ◌<◌, ◌≤◌, List, [], ◌∷◌, Bool, true, false, cond, Option, Some, None, refl, sym, ap, ◌∙◌, subst, arith, length, take, drop, zero, suc}
+use Rattle.std.specs.List.{All}
+use Rattle.std.proofs.lemmas.List.{length-drop, length-take-le}
+use Rattle.std.proofs.lemmas.List.Elements.{All-nil, All-cons}
+use mathlib.Core.Logic.{inl, inr}
+use Rattle.std.specs.Prelude.{IfSome, nat_lt, ◌&&◌, option_map, codes}
+use Rattle.std.specs.Str.Parse.{digits_value}
+use Rattle.std.proofs.lemmas.Bool.Decides.{nat_tests}
+use Rattle.clap.specs.Words.{Row, Text, first_of}
+use Rattle.outside_net.specs.declared.link_spec.LinkSpec.{LinkSpec}
+use Rattle.outside_io.specs.declared.profile.Profile.{Profile}
+use Rattle.outside_io.specs.declared.profile.Profile.TheVariants.{Simple, Main}
+use Rattle.rist_words.specs.declared.values.Numbers.{Numbers}
+use Rattle.rist_words.specs.Values.{is_numeral, is_among, nack_of, number_in, number_of, ◌>>=◌, profile_of, phrase_of, is_set, flag_of}
+use Rattle.rist_words.specs.CommandLine.{Session, Stream, Receiver, Serving, ports, key_bits, delays, spans, flows, firsts, gaps, stores, holds, lingers, turn_counts}
+use Rattle.rist_words.specs.CommandLine.{reorders, retry_times, retry_counts, own_ssrcs, idle_times, kept_counts, session_of, stream_of, receiver_of, serving_of}
+use Rattle.rist_words.specs.Links.{colon, each_link, gate_links_of, input_counts, inputs_of, link_of, link_weights, links_of, shares_of, split_at, weights_in}
+use Rattle.rist_words.specs.Ranges.{IsInSession, IsInStream, IsInReceiver, IsInServing, IsWeight}
+
+-- a value that was read, and the rest of the reading
+pub record Reads {A B : Type 0} (x : Option A) (f : A → Option B) (b : B) : Type 0 where
+  pub value : A
+  pub is : x ≡ Some value
+  pub rest : f value ≡ Some b
+
+pub reads : {A B : Type 0} (x : Option A) (f : A → Option B) (b : B) → (x >>= f) ≡ Some b → Reads x f b
+reads None f b e = cc
+reads (Some a) f b e = record { value = a; is = refl; rest = e }
+
+pub same_some : {A : Type 0} (x y : A) → Some x ≡ Some y → x ≡ y
+same_some x y e = cc
+
+-- the number is one that the option takes
+pub record IsAmong (numbers : Numbers) (n : ℕ) : Type 0 where
+  pub least : numbers.least ≤ n
+  pub most : n ≤ numbers.most
+  pub multiple : n % numbers.multiple_of ≡ 0
+
+pub taken : (a : Bool) (v n : ℕ) → cond a (Some v) None ≡ Some n → (a ≡ true) × (v ≡ n)
+taken true v n e = (refl, same_some v n e)
+taken false v n e = cc
+
+pub among : (numbers : Numbers) (n : ℕ) → is_among numbers n ≡ true → IsAmong numbers n
+among numbers n e = record { least = grind (arith, nat_tests); most = grind (arith, nat_tests); multiple = grind (arith, nat_tests) }
+
+pub both_true : (a b : Bool) → (a && b) ≡ true → b ≡ true
+both_true true b e = e
+both_true false b e = cc
+
+pub number_range : (numbers : Numbers) (o : Option Text) (n : ℕ) → IsAmong numbers numbers.default → number_of numbers o ≡ Some n → IsAmong numbers n
+number_range numbers None n default e = subst (IsAmong numbers) (same_some numbers.default n e) default
+number_range numbers (Some text) n default e =
+    let t = taken (is_numeral text && is_among numbers (digits_value 10 text)) (digits_value 10 text) n e in
+    subst (IsAmong numbers) t.1 (among numbers (digits_value 10 text) (both_true (is_numeral text) (is_among numbers (digits_value 10 text)) t.0))
+
+pub two_bits : (n : ℕ) → IsAmong key_bits n → (n ≡ 128) ⊎ (n ≡ 256)
+two_bits n a = let l = a.least in let m = a.most in let k = a.multiple in by_half (nat_lt n 256) refl
+  where
+    by_half : (b : Bool) → nat_lt n 256 ≡ b → (n ≡ 128) ⊎ (n ≡ 256)
+    by_half true e = let l = a.least in let k = a.multiple in inl (grind (arith, nat_tests))
+    by_half false e = let m = a.most in inr (grind (arith, nat_tests))
+
+pub phrase_simple : (profile : Profile) (o : Option Text) (pass : Option Text) → phrase_of profile o ≡ Some pass → profile ≡ Simple → pass ≡ None
+phrase_simple profile None pass e is = sym (same e)
+  where
+    same : Some None ≡ Some pass → None ≡ pass
+    same p = cc
+phrase_simple Simple (Some text) pass e is = cc
+phrase_simple Main (Some text) pass e is = cc
+
+pub phrase_length : (profile : Profile) (o : Option Text) (pass : Option Text) → phrase_of profile o ≡ Some pass → IfSome pass (λ p. (1 ≤ length p) × (length p ≤ 128))
+phrase_length profile None None e = tt
+phrase_length profile None (Some p) e = cc
+phrase_length Simple (Some text) pass e = cc
+phrase_length Main (Some text) None e = tt
+phrase_length Main (Some text) (Some p) e = by_fit (nat_lt 0 (length text) && nat_lt (length text) 129) refl e
+  where
+    by_fit : (b : Bool) → (nat_lt 0 (length text) && nat_lt (length text) 129) ≡ b → cond b (Some (Some text)) None ≡ Some (Some p) → (1 ≤ length p) × (length p ≤ 128)
+    by_fit true fit e = let same : text ≡ p = cc in subst (λ q. (1 ≤ length q) × (length q ≤ 128)) same (grind (arith, nat_tests), grind (arith, nat_tests))
+    by_fit false fit e = cc
+
+pub flag_simple : (profile : Profile) (o : Option Text) (set : Bool) → flag_of profile o ≡ Some set → profile ≡ Simple → set ≡ false
+flag_simple Main o set e is = cc
+flag_simple Simple o set e is = by_flag (is_set o) e
+  where
+    by_flag : (b : Bool) → cond b None (Some false) ≡ Some set → set ≡ false
+    by_flag true p = cc
+    by_flag false p = cc
+
+pub session_range : (rows : List Row) (s : Session) → session_of rows ≡ Some s → IsInSession s
+session_range rows s e =
+    let profile = reads (profile_of (first_of (codes "profile") rows)) _ s e in
+    let port = reads (number_of ports (first_of (codes "port") rows)) _ s profile.rest in
+    let pass = reads (phrase_of profile.value (first_of (codes "pass") rows)) _ s port.rest in
+    let bits = reads (number_of key_bits (first_of (codes "bits") rows)) _ s pass.rest in
+    let p = number_range ports (first_of (codes "port") rows) port.value (record { least = omega arith; most = omega arith; multiple = refl }) port.is in
+    let b = number_range key_bits (first_of (codes "bits") rows) bits.value (record { least = omega arith; most = omega arith; multiple = refl }) bits.is in
+    subst IsInSession (same_some _ _ bits.rest) (record {
+      even = p.multiple;
+      low = p.least;
+      high = p.most;
+      bits = two_bits bits.value b;
+      pass = phrase_length profile.value (first_of (codes "pass") rows) pass.value pass.is;
+      simple = phrase_simple profile.value (first_of (codes "pass") rows) pass.value pass.is;
+    })
+
+pub first_low : (wide : Bool) (n : ℕ) → IsAmong (firsts wide) n → wide ≡ false → n < 65536
+first_low true n a is = cc
+first_low false n a is = omega (arith, a.most)
+
+pub first_high : (wide : Bool) (n : ℕ) → IsAmong (firsts wide) n → n < 2 ^ 32
+first_high true n a = omega (arith, a.most)
+first_high false n a = omega (arith, a.most)
+
+pub default_first : (wide : Bool) → IsAmong (firsts wide) (firsts wide).default
+default_first true = record { least = omega arith; most = omega arith; multiple = refl }
+default_first false = record { least = omega arith; most = omega arith; multiple = refl }
+
+-- each default is among the option's numbers
+pub default_gap : IsAmong gaps gaps.default
+default_gap = record { least = omega arith; most = omega arith; multiple = refl }
+
+pub default_store : IsAmong stores stores.default
+default_store = record { least = omega arith; most = omega arith; multiple = refl }
+
+pub default_hold : IsAmong holds holds.default
+default_hold = record { least = omega arith; most = omega arith; multiple = refl }
+
+pub default_linger : IsAmong lingers lingers.default
+default_linger = record { least = omega arith; most = omega arith; multiple = refl }
+
+pub default_turns : IsAmong turn_counts turn_counts.default
+default_turns = record { least = omega arith; most = omega arith; multiple = refl }
+
+pub stream_range : (profile : Profile) (rows : List Row) (s : Stream) → stream_of profile rows ≡ Some s → IsInStream profile s
+stream_range profile rows s e =
+    let nulls = reads (flag_of profile (first_of (codes "nulls") rows)) _ s e in
+    let wide = reads (flag_of profile (first_of (codes "wide") rows)) _ s nulls.rest in
+    let flow = reads (number_of flows (first_of (codes "flow") rows)) _ s wide.rest in
+    let first = reads (number_of (firsts wide.value) (first_of (codes "first") rows)) _ s flow.rest in
+    let f = number_range flows (first_of (codes "flow") rows) flow.value (record { least = omega arith; most = omega arith; multiple = refl }) flow.is in
+    let n = number_range (firsts wide.value) (first_of (codes "first") rows) first.value (default_first wide.value) first.is in
+    subst (IsInStream profile) (same_some _ _ first.rest) (record {
+      even = f.multiple;
+      flow = omega (arith, f.most);
+      narrow = first_low wide.value first.value n;
+      first = first_high wide.value first.value n;
+      nulls = flag_simple profile (first_of (codes "nulls") rows) nulls.value nulls.is;
+      wide = flag_simple profile (first_of (codes "wide") rows) wide.value wide.is;
+    })
+
+-- as many links as texts
+pub each_count : (profile : Profile) (texts : List Text) (links : List LinkSpec) → each_link profile texts ≡ Some links → length links ≡ length texts
+each_count profile [] links e = sym (ap length (same_some [] links e))
+each_count profile (text ∷ texts) links e =
+    let link = reads (link_of profile text) _ links e in
+    let more = reads (each_link profile texts) _ links link.rest in
+    sym (ap length (same_some _ _ more.rest)) ∙ ap suc (each_count profile texts more.value more.is)
+
+pub links_range : (profile : Profile) (texts : Option (List Text)) (links : List LinkSpec) → links_of profile texts ≡ Some links
+    → (1 ≤ length links) × (length links ≤ 16)
+links_range profile None links e = cc
+links_range profile (Some texts) links e = by_fit (nat_lt 0 (length texts) && nat_lt (length texts) 17) refl e
+  where
+    by_fit : (b : Bool) → (nat_lt 0 (length texts) && nat_lt (length texts) 17) ≡ b → cond b (each_link profile texts) None ≡ Some links
+        → (1 ≤ length links) × (length links ≤ 16)
+    by_fit true fit p = let count = each_count profile texts links p in (grind (arith, nat_tests), grind (arith, nat_tests))
+    by_fit false fit p = cc
+
+pub weight_range : (text : Text) (weight : ℕ) → number_in link_weights text ≡ Some weight → IsWeight weight
+weight_range text weight e =
+    let t = taken (is_numeral text && is_among link_weights (digits_value 10 text)) (digits_value 10 text) weight e in
+    let a = subst (IsAmong link_weights) t.1 (among link_weights (digits_value 10 text) (both_true (is_numeral text) (is_among link_weights (digits_value 10 text)) t.0)) in
+    record { some = a.least; most = a.most }
+
+-- a weight alone, and one before others
+pub one_weight : (weight : ℕ) → IsWeight weight → All IsWeight (weight ∷ [])
+one_weight weight is = All-cons IsWeight weight [] is (All-nil IsWeight)
+
+pub weights_range : (links : ℕ) (text : Text) (weights : List ℕ) → weights_in links text ≡ Some weights → (length weights ≡ links) × All IsWeight weights
+weights_range zero text weights e = cc
+weights_range (suc zero) text weights e = by_weight (number_in link_weights text) refl e
+  where
+    by_weight : (o : Option ℕ) → number_in link_weights text ≡ o → option_map (λ weight. weight ∷ []) o ≡ Some weights → (length weights ≡ 1) × All IsWeight weights
+    by_weight None is p = cc
+    by_weight (Some weight) is p = subst (λ ws. (length ws ≡ 1) × All IsWeight ws) (same_some _ _ p) (refl, one_weight weight (weight_range text weight is))
+weights_range (suc (suc links)) text weights e =
+    let parts = reads (split_at colon text) _ weights e in
+    let weight = reads (number_in link_weights parts.value.0) _ weights parts.rest in
+    let more = reads (weights_in (suc links) parts.value.1) _ weights weight.rest in
+    let rest = weights_range (suc links) parts.value.1 more.value more.is in
+    subst (λ ws. (length ws ≡ suc (suc links)) × All IsWeight ws) (same_some _ _ more.rest)
+    (ap suc rest.0, All-cons IsWeight weight.value more.value (weight_range parts.value.0 weight.value weight.is) rest.1)
+
+pub share_range : (links : ℕ) (text : Option Text) (share : Option (List ℕ)) → shares_of links text ≡ Some share
+    → IfSome share (λ weights. (length weights ≡ links) × All IsWeight weights)
+share_range links None None e = tt
+share_range links None (Some weights) e = cc
+share_range links (Some text) share e = by_weights (weights_in links text) refl e
+  where
+    by_weights : (o : Option (List ℕ)) → weights_in links text ≡ o → option_map Some o ≡ Some share → IfSome share (λ weights. (length weights ≡ links) × All IsWeight weights)
+    by_weights None is p = cc
+    by_weights (Some weights) is p = subst (λ s. IfSome s (λ ws. (length ws ≡ links) × All IsWeight ws)) (same_some _ _ p) (weights_range links text weights is)
+
+-- a number of an option whose default it takes
+pub option_range : (numbers : Numbers) (o : Option Text) (n : ℕ) → number_of numbers o ≡ Some n
+    → numbers.least ≤ numbers.default → numbers.default ≤ numbers.most → numbers.default % numbers.multiple_of ≡ 0 → IsAmong numbers n
+option_range numbers o n e least most multiple = number_range numbers o n (record { least = least; most = most; multiple = multiple }) e
+
+pub receiver_range : (rows : List Row) (r : Receiver) → receiver_of rows ≡ Some r → IsInReceiver r
+receiver_range rows r e =
+    let delay = reads (number_of delays (first_of (codes "delay") rows)) _ r e in
+    let span = reads (number_of spans (first_of (codes "span") rows)) _ r delay.rest in
+    let reorder = reads (number_of reorders (first_of (codes "reorder") rows)) _ r span.rest in
+    let least = reads (number_of retry_times (first_of (codes "least") rows)) _ r reorder.rest in
+    let tries = reads (number_of retry_counts (first_of (codes "tries") rows)) _ r least.rest in
+    let nack = reads (nack_of (first_of (codes "nack") rows)) _ r tries.rest in
+    let own = reads (number_of own_ssrcs (first_of (codes "own") rows)) _ r nack.rest in
+    let d = option_range delays _ delay.value delay.is (omega arith) (omega arith) refl in
+    let s = option_range spans _ span.value span.is (omega arith) (omega arith) refl in
+    let o = option_range reorders _ reorder.value reorder.is (omega arith) (omega arith) refl in
+    let l = option_range retry_times _ least.value least.is (omega arith) (omega arith) refl in
+    let t = option_range retry_counts _ tries.value tries.is (omega arith) (omega arith) refl in
+    let w = option_range own_ssrcs _ own.value own.is (omega arith) (omega arith) refl in
+    subst IsInReceiver (same_some _ _ own.rest) (record {
+      some_delay = d.least;
+      delay = d.most;
+      some_span = s.least;
+      span = s.most;
+      reorder = o.most;
+      some_least = l.least;
+      least = l.most;
+      tries = t.most;
+      own = omega (arith, w.most);
+    })
+
+pub serving_range : (rows : List Row) (s : Serving) → serving_of rows ≡ Some s → IsInServing s
+serving_range rows s e =
+    let turns = reads (number_of turn_counts (first_of (codes "turns") rows)) _ s e in
+    let idle = reads (number_of idle_times (first_of (codes "idle") rows)) _ s turns.rest in
+    let keep = reads (number_of kept_counts (first_of (codes "keep") rows)) _ s idle.rest in
+    let t = option_range turn_counts _ turns.value turns.is (omega arith) (omega arith) refl in
+    let i = option_range idle_times _ idle.value idle.is (omega arith) (omega arith) refl in
+    let k = option_range kept_counts _ keep.value keep.is (omega arith) (omega arith) refl in
+    subst IsInServing (same_some _ _ keep.rest) (record { some_turn = t.least; turns = t.most; idle = i.most; keep = k.most })
+
+-- of two links or more some receive, and some are left
+pub inputs_range : (links : ℕ) (given : Option Text) (n : ℕ) → inputs_of links given ≡ Some n → (1 ≤ n) × (n < links)
+inputs_range links given n e = by_two (nat_lt links 2) refl e
+  where
+    by_two : (b : Bool) → nat_lt links 2 ≡ b → cond b None (number_of (input_counts links) given) ≡ Some n → (1 ≤ n) × (n < links)
+    by_two true few p = cc
+    by_two false few p =
+        let two : 2 ≤ links = grind (arith, nat_tests) in
+        let a = option_range (input_counts links) given n p (omega arith) (omega (arith, two)) refl in
+        (a.least, omega (arith, a.most, two))
+
+-- a link or more that receives, one or more that sends, and sixteen in all at most
+pub record AreGateLinks (links : List LinkSpec × List LinkSpec) : Type 0 where
+  pub some_input : 1 ≤ length links.0
+  pub some_output : 1 ≤ length links.1
+  pub all : length links.0 + length links.1 ≤ 16
+
+pub gate_links_range : (profile : Profile) (texts : Option (List Text)) (given : Option Text) (links : List LinkSpec × List LinkSpec)
+    → gate_links_of profile texts given ≡ Some links → AreGateLinks links
+gate_links_range profile texts given links e =
+    let all = reads (links_of profile texts) _ links e in
+    let inputs = reads (inputs_of (length all.value) given) _ links all.rest in
+    let r = links_range profile texts all.value all.is in
+    let i = inputs_range (length all.value) given inputs.value inputs.is in
+    let front : length (take inputs.value all.value) ≡ inputs.value = length-take-le inputs.value all.value (omega (arith, i.1)) in
+    let back : length (drop inputs.value all.value) ≡ length all.value - inputs.value = length-drop inputs.value all.value in
+    subst AreGateLinks (same_some _ _ inputs.rest) (record {
+      some_input = omega (arith, front, i.0);
+      some_output = omega (arith, back, i.1);
+      all = omega (arith, front, back, i.1, r.1);
+    })
