@@ -217,12 +217,12 @@ receiver_range rows r e =
     let tries = reads (number_of retry_counts (first_of (codes "tries") rows)) _ r least.rest in
     let nack = reads (nack_of (first_of (codes "nack") rows)) _ r tries.rest in
     let own = reads (number_of own_ssrcs (first_of (codes "own") rows)) _ r nack.rest in
-    let d = option_range delays _ delay.value delay.is (omega arith) (omega arith) refl in
-    let s = option_range spans _ span.value span.is (omega arith) (omega arith) refl in
-    let o = option_range reorders _ reorder.value reorder.is (omega arith) (omega arith) refl in
-    let l = option_range retry_times _ least.value least.is (omega arith) (omega arith) refl in
-    let t = option_range retry_counts _ tries.value tries.is (omega arith) (omega arith) refl in
-    let w = option_range own_ssrcs _ own.value own.is (omega arith) (omega arith) refl in
+    let d = option_range delays (first_of (codes "delay") rows) delay.value delay.is (omega arith) (omega arith) refl in
+    let s = option_range spans (first_of (codes "span") rows) span.value span.is (omega arith) (omega arith) refl in
+    let o = option_range reorders (first_of (codes "reorder") rows) reorder.value reorder.is (omega arith) (omega arith) refl in
+    let l = option_range retry_times (first_of (codes "least") rows) least.value least.is (omega arith) (omega arith) refl in
+    let t = option_range retry_counts (first_of (codes "tries") rows) tries.value tries.is (omega arith) (omega arith) refl in
+    let w = option_range own_ssrcs (first_of (codes "own") rows) own.value own.is (omega arith) (omega arith) refl in
     subst IsInReceiver (same_some _ _ own.rest) (record {
       some_delay = d.least;
       delay = d.most;
@@ -240,9 +240,9 @@ serving_range rows s e =
     let turns = reads (number_of turn_counts (first_of (codes "turns") rows)) _ s e in
     let idle = reads (number_of idle_times (first_of (codes "idle") rows)) _ s turns.rest in
     let keep = reads (number_of kept_counts (first_of (codes "keep") rows)) _ s idle.rest in
-    let t = option_range turn_counts _ turns.value turns.is (omega arith) (omega arith) refl in
-    let i = option_range idle_times _ idle.value idle.is (omega arith) (omega arith) refl in
-    let k = option_range kept_counts _ keep.value keep.is (omega arith) (omega arith) refl in
+    let t = option_range turn_counts (first_of (codes "turns") rows) turns.value turns.is (omega arith) (omega arith) refl in
+    let i = option_range idle_times (first_of (codes "idle") rows) idle.value idle.is (omega arith) (omega arith) refl in
+    let k = option_range kept_counts (first_of (codes "keep") rows) keep.value keep.is (omega arith) (omega arith) refl in
     subst IsInServing (same_some _ _ keep.rest) (record { some_turn = t.least; turns = t.most; idle = i.most; keep = k.most })
 
 -- of two links or more some receive, and some are left

@@ -137,8 +137,8 @@ pub struct ReceiverWords {
 pub struct ServingWords {
     /// How many turns each link's worker makes at most, 1 to 2^40.
     pub turns: u64,
-    /// For how long nothing may come on a link until its worker ends, in milliseconds, 0 to 86,400,000; 0 where that doesn't
-    /// matter.
+    /// For how long nothing may come on a link until its worker ends, in milliseconds, 0 to 86,400,000; 0 where that
+    /// doesn't matter.
     pub idle: u64,
     /// How many steps are kept, 0 to 65,536; with 0 none is.
     pub keep: u64,
@@ -178,8 +178,8 @@ pub struct GateLine<'a> {
     pub store: u64,
     /// For how long no packet is sent again once it was, in milliseconds, 1 to 1,000.
     pub hold: u64,
-    /// The weights by which the outputs share the stream, 1 to 100 each and one for each output. Without them each datagram
-    /// goes on all of them.
+    /// The weights by which the outputs share the stream, 1 to 100 each and one for each output. Without them each
+    /// datagram goes on all of them.
     pub share: Option<Vec<u8>>,
 }
 

@@ -1,6 +1,8 @@
 //! Command lines of a receiving and of a gateway that are taken and refused.
 use crate::tests::{PLAIN, STREAM, reads};
-use crate::{GateLine, Line, ReceiverWords, RecvLine, Refused, ServingWords, SessionWords, StreamWords};
+use crate::{
+    GateLine, Line, ReceiverWords, RecvLine, Refused, ServingWords, SessionWords, StreamWords,
+};
 use outside_io::Profile;
 use outside_net::LinkSpec;
 use request_rules::NackKind;
@@ -73,10 +75,13 @@ fn specs(alloc: Global, ports: &[u16]) -> Result<Vec<LinkSpec>, Fail> {
 
 /// Lines of a receiving in the Simple Profile with what they set.
 static RECEIVED: [(&str, (ReceiverWords, ServingWords)); 3] = [
-    ("rist recv - 127.0.0.1:2 127.0.0.1:65534", (RECEIVER, SERVING)),
     (
-        "rist recv - 127.0.0.1:2 127.0.0.1:65534 --delay 1 --span 1 --reorder 0 --least 5 --tries 0 --nack range --own 0 \
-         --turns 1 --idle 0 --keep 0",
+        "rist recv - 127.0.0.1:2 127.0.0.1:65534",
+        (RECEIVER, SERVING),
+    ),
+    (
+        "rist recv - 127.0.0.1:2 127.0.0.1:65534 --delay 1 --span 1 --reorder 0 --least 5 --tries 0 \
+         --nack range --own 0 --turns 1 --idle 0 --keep 0",
         LOW,
     ),
     (
@@ -86,7 +91,8 @@ static RECEIVED: [(&str, (ReceiverWords, ServingWords)); 3] = [
     ),
 ];
 
-/// Words that are no line of a receiving: an option one past its least or its greatest, or one of another command; and links.
+/// Words that are no line of a receiving: an option one past its least or its greatest, or one of another command; and
+/// links.
 static NOT_RECEIVED: [&str; 30] = [
     "rist recv",
     "rist recv -",
@@ -211,17 +217,20 @@ fn all_gates(alloc: Global) -> Result<bool, Fail> {
         share: Some(Vec::from_slice(alloc, &[7])?),
         ..gate_line(alloc, &[2, 4], &[65_535])?
     };
-    let text = "rist gate 127.0.0.1:2 127.0.0.1:4 127.0.0.1:65535 --in 2 --share 7 --profile main --pass x --nulls --wide \
+    let text =
+        "rist gate 127.0.0.1:2 127.0.0.1:4 127.0.0.1:65535 --in 2 --share 7 --profile main --pass x --nulls --wide \
                 --flow 4294967294 --first 65536 --store 1 --hold 1";
-    Ok(reads(
-        alloc,
-        "rist gate 127.0.0.1:2 127.0.0.1:4 127.0.0.1:6",
-        Ok(Line::Gate(plain)),
-    )? && reads(
-        alloc,
-        "rist gate --share=100:1 127.0.0.1:2 127.0.0.1:4 127.0.0.1:6 --in=1",
-        Ok(Line::Gate(shared)),
-    )? && reads(alloc, text, Ok(Line::Gate(full)))?)
+    Ok(
+        reads(
+            alloc,
+            "rist gate 127.0.0.1:2 127.0.0.1:4 127.0.0.1:6",
+            Ok(Line::Gate(plain)),
+        )? && reads(
+            alloc,
+            "rist gate --share=100:1 127.0.0.1:2 127.0.0.1:4 127.0.0.1:6 --in=1",
+            Ok(Line::Gate(shared)),
+        )? && reads(alloc, text, Ok(Line::Gate(full)))?,
+    )
 }
 
 #[test]
