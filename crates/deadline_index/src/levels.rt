@@ -124,7 +124,23 @@ fn least_of_eight(all: &[u64], from: usize) -> u64
     front.min(back)
 }
 
-/// The least of an entry's group. All groups but a level's last are whole.
+/// Whether none of eight entries is below the tick.
+fn is_least_of_eight(all: &[u64], from: usize, tick: u64) -> bool
+    requires { from + 8 ≤ length all.now }
+    ensures { IsTrue result → IsLeastIn all.now from 0 8 tick }
+{
+    tick <= all[from]
+        && tick <= all[from + 1]
+        && tick <= all[from + 2]
+        && tick <= all[from + 3]
+        && tick <= all[from + 4]
+        && tick <= all[from + 5]
+        && tick <= all[from + 6]
+        && tick <= all[from + 7]
+}
+
+/// The least of an entry's group. All groups but a level's last are whole. In one of these the entry that was the least
+/// mostly still is.
 fn least_of_group(all: &[u64], at: usize, len: usize, entry: usize) -> u64
     requires entry { entry < len }
     requires within { at + len ≤ length all.now }
@@ -132,7 +148,13 @@ fn least_of_group(all: &[u64], at: usize, len: usize, entry: usize) -> u64
 {
     let group = entry / GROUP;
     if group < len / GROUP {
-        least_of_eight(all, at + GROUP * group)
+        let from = at + GROUP * group;
+        let tick = all[at + entry];
+        if tick != NEVER && is_least_of_eight(all, from, tick) {
+            tick
+        } else {
+            least_of_eight(all, from)
+        }
     } else {
         least_in(all, at, GROUP * group, len)
     }
