@@ -1,7 +1,7 @@
 -- What workers tell, by their traces' lists.
 use Rattle.std.proofs.Common.{◌≡◌, ◌∷◌, ◌++◌, ◌<◌, ◌≤◌, ◌∙◌, ◌⊎◌, inl, inr, ℕ, List, [], length, map, reverse, Bool, true, false, Option, None, Some, is_some, unwrap_or, refl, ap, sym, subst, slice_get}
 use Rattle.std.specs.Prelude.{slice_index_or, ◌||◌, ◌&&◌}
-use Rattle.std.specs.List.{All, list_any, list_all}
+use Rattle.std.specs.List.{All}
 use Rattle.std.specs.Option.{option_map}
 use Rattle.std.proofs.lemmas.Option.{get_or_from_slice_get, slice_get_within, slice_get-map}
 use Rattle.std.proofs.lemmas.List.{length-map, get_or-map}
@@ -9,7 +9,6 @@ use Rattle.std.proofs.lemmas.List.Elements.{All-map}
 use Rattle.rist_ends.specs.declared.counts.Counts.{Counts}
 use Rattle.rist_ends.specs.Counts.{AreCountsOf}
 use Rattle.rist_ends.specs.Receiver.{settings_of}
-use Rattle.rist_wire.specs.declared.session.Session.{Session}
 use Rattle.rist_desk.specs.declared.ended.Ended.{Ended}
 use Rattle.rist_desk.specs.declared.step.Step.{Step}
 use Rattle.rist_desk.specs.declared.worker.Limits.{Limits}

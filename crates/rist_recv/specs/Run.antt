@@ -1,12 +1,10 @@
 -- What a run of receiving leaves, by what its objects tell.
-use Rattle.std.specs.Prelude.{◌≡◌, ◌≤◌, ℕ, List, ◌∷◌, ◌++◌, map, reverse, length, slice_get, Bool, true, false, Option, Some, None, is_some}
+use Rattle.std.specs.Prelude.{◌≡◌, ℕ, List, map, reverse, length, slice_get, true, false, Option, Some, None, is_some}
 use Rattle.std.specs.List.{All, concat}
 use Rattle.outside_io.specs.Causes.{RoseWhere}
 use Rattle.receiver_rules.specs.Sent.{SentStream, Delivery, HasSteadyTimestamps, AreDeliveriesOf}
 use Rattle.rist_ends.specs.declared.counts.Counts.{Counts}
 use Rattle.rist_ends.specs.Counts.{AreCountsOf}
-use Rattle.rist_ends.specs.Receiver.{settings_of}
-use Rattle.rist_compare.specs.declared.tear.Tear.{Tear}
 use Rattle.rist_desk.specs.declared.step.Step.{Step}
 use Rattle.rist_desk.specs.declared.worker.Limits.{Limits}
 use Rattle.rist_desk.specs.declared.worker.Worker.{Worker}

@@ -1,5 +1,5 @@
 -- All is made in one session, for traces of one kind.
-use Rattle.std.proofs.Common.{◌∙◌, ap, sym, subst, arith}
+use Rattle.std.proofs.Common.{ap, sym, subst, arith}
 use Rattle.std.specs.List.{All}
 use Rattle.rist_recv.specs.Setup.{IsSeat}
 use Rattle.rist_recv.proofs.SeatLemmas.{new_list}

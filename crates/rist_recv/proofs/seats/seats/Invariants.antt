@@ -1,5 +1,5 @@
 -- those so far are seats of the session
-use Rattle.std.proofs.Common.{◌≡◌, ◌≤◌, ◌-◌, length}
+use Rattle.std.proofs.Common.{◌≤◌, ◌-◌, length}
 use Rattle.std.specs.Prelude.{Some, None, if◌then◌else◌}
 use Rattle.std.specs.List.{All}
 use Rattle.rist_recv.specs.Setup.{IsSeat}
