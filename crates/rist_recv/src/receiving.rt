@@ -5,7 +5,7 @@ ghost use Rattle.rist_compare.specs.declared.tear.Tear.{Tear};
 ghost use Rattle.rist_ends.specs.Receiver.{settings_of};
 ghost use Rattle.rist_desk.specs.declared.step.Step.{Step};
 ghost use Rattle.rist_desk.specs.Desk.{IsNew, StandsFor, state_of};
-ghost use Rattle.rist_desk.specs.Serving.{Serves};
+ghost use Rattle.rist_desk.specs.Serving.{Serves, ServesOn};
 ghost use Rattle.rist_recv.specs.declared.ending.Ending.{Ending};
 ghost use Rattle.rist_recv.specs.Endings.{is_spent, is_link_failed, any_worker, all_workers, is_write_fault, IsSound, IsWithoutRoom};
 ghost use Rattle.rist_recv.specs.Receiving.{IsUnused, given_by, own_lists, HasReceived, IsTorn};
@@ -56,6 +56,10 @@ fn session<
     ensures served { (i : ℕ) (d : _) → i < length workers.old → Serves C.moments
         (record { reads = L.reads; taken = L.taken; knows = L.knows; ends = L.ends; faults = L.faults })
         U.list limits.now i (slice_index_or workers.old i d) (slice_index_or workers.new i d) }
+    ensures on { (i : ℕ) (d : _) → i < length workers.old → ServesOn N.given C.moments
+        (record { reads = L.reads; taken = L.taken; knows = L.knows; ends = L.ends; faults = L.faults })
+        (record { list = U.list; limit = U.limit }) limits.now i
+        (slice_index_or workers.old i d) (slice_index_or workers.new i d) }
     ensures stands { (steps : List Step) → T.list result.trace ≡ Some steps → StandsFor N.given
         (state_of result.receiver (T.list result.trace) (T.limit result.trace)
         (K.contents result.sink) (K.faults result.sink)) (reverse steps) }
@@ -120,6 +124,12 @@ pub fn receive<
     ensures served { (i : ℕ) (d : _) → i < length workers.old → Serves C.moments
         (record { reads = L.reads; taken = L.taken; knows = L.knows; ends = L.ends; faults = L.faults })
         U.list limits.now i (slice_index_or workers.old i d) (slice_index_or workers.new i d) }
+    // What it wrote is what its steps made by the rules, where the desk's trace tells its steps; and why a trace was full is told.
+    ensures on { (i : ℕ) (d : _) → i < length workers.old → ServesOn
+        (given_by (state_of receiver (T.list trace) (T.limit trace) (K.contents sink) (K.faults sink))) C.moments
+        (record { reads = L.reads; taken = L.taken; knows = L.knows; ends = L.ends; faults = L.faults })
+        (record { list = U.list; limit = U.limit }) limits.now i
+        (slice_index_or workers.old i d) (slice_index_or workers.new i d) }
     // However it ends, the kept list is a legal history of the receiver, and the sink holds what it releases.
     ensures stands { (steps : List Step) → T.list result.trace ≡ Some steps → StandsFor
         (given_by (state_of receiver (T.list trace) (T.limit trace) (K.contents sink) (K.faults sink)))
