@@ -15,7 +15,7 @@ use Rattle.rist_desk.specs.declared.worker.Limits.{Limits}
 use Rattle.rist_desk.specs.declared.worker.Worker.{Worker}
 use Rattle.rist_desk.specs.Desk.{DeskState, Given, StandsFor}
 use Rattle.rist_desk.specs.Legal.{phase_of}
-use Rattle.rist_desk.specs.Serving.{LinkTells, Serves}
+use Rattle.rist_desk.specs.Serving.{LinkTells, ServesOn, TraceTells}
 use Rattle.rist_desk.specs.Steps.{history_of}
 use Rattle.rist_desk.proofs.ListLemmas.{one_more_told, reverse_more}
 use Rattle.reorder_buffer.specs.declared.phase.Phase.TheVariants as phases
@@ -28,75 +28,78 @@ use Rattle.rist_recv.proofs.EndLemmas.{whole_is_exact}
 use Rattle.rist_recv.specs.Receiving.{own_lists, the_end, HasReceived, IsTorn, IsWhole}
 use Rattle.rist_recv.specs.Run.{told_lists, EndsAs, IsExact, IsNewWorker}
 use Rattle.rist_recv.specs.Setup.{Setup, IsSeat, no_steps}
-use Rattle.rist_recv.specs.Workers.{told_by, link_of, clock_of, seat_of, is_unended}
+use Rattle.rist_recv.specs.Workers.{ToldTrace, told_trace, told_by, link_of, clock_of, seat_of, is_unended}
 
-pub links_told : {L C U : Type 0} (list : U → Option (List Step)) (ws : List (Worker L C U)) → map link_of (map (told_by list) ws) ≡ map link_of ws
-links_told list [] = refl
-links_told list (w ∷ ws) = ap (λ l. w.link ∷ l) (links_told list ws)
+pub links_told : {L C U : Type 0} (tells : TraceTells U) (ws : List (Worker L C U)) → map link_of (map (told_by tells) ws) ≡ map link_of ws
+links_told tells [] = refl
+links_told tells (w ∷ ws) = ap (λ l. w.link ∷ l) (links_told tells ws)
 
-pub clocks_told : {L C U : Type 0} (list : U → Option (List Step)) (ws : List (Worker L C U)) → map clock_of (map (told_by list) ws) ≡ map clock_of ws
-clocks_told list [] = refl
-clocks_told list (w ∷ ws) = ap (λ l. w.clock ∷ l) (clocks_told list ws)
+pub clocks_told : {L C U : Type 0} (tells : TraceTells U) (ws : List (Worker L C U)) → map clock_of (map (told_by tells) ws) ≡ map clock_of ws
+clocks_told tells [] = refl
+clocks_told tells (w ∷ ws) = ap (λ l. w.clock ∷ l) (clocks_told tells ws)
 
-pub lists_told : {L C U : Type 0} (list : U → Option (List Step)) (ws : List (Worker L C U)) → told_lists (map (told_by list) ws) ≡ own_lists list ws
-lists_told list [] = refl
-lists_told list (w ∷ ws) = ap (λ l. unwrap_or (list w.trace) [] ∷ l) (lists_told list ws)
+pub lists_told : {L C U : Type 0} (tells : TraceTells U) (ws : List (Worker L C U)) → told_lists (map (told_by tells) ws) ≡ own_lists tells.list ws
+lists_told tells [] = refl
+lists_told tells (w ∷ ws) = ap (λ l. unwrap_or (tells.list w.trace) [] ∷ l) (lists_told tells ws)
 
-pub any_told : {L C U : Type 0} (test : Option Ended → Bool) (list : U → Option (List Step)) (ws : List (Worker L C U)) → any_worker test (map (told_by list) ws) ≡ any_worker test ws
-any_told test list [] = refl
-any_told test list (w ∷ ws) = ap (λ b. test w.end || b) (any_told test list ws)
+pub any_told : {L C U : Type 0} (test : Option Ended → Bool) (tells : TraceTells U) (ws : List (Worker L C U)) → any_worker test (map (told_by tells) ws) ≡ any_worker test ws
+any_told test tells [] = refl
+any_told test tells (w ∷ ws) = ap (λ b. test w.end || b) (any_told test tells ws)
 
-pub all_told : {L C U : Type 0} (test : Option Ended → Bool) (list : U → Option (List Step)) (ws : List (Worker L C U)) → all_workers test (map (told_by list) ws) ≡ all_workers test ws
-all_told test list [] = refl
-all_told test list (w ∷ ws) = ap (λ b. test w.end && b) (all_told test list ws)
+pub all_told : {L C U : Type 0} (test : Option Ended → Bool) (tells : TraceTells U) (ws : List (Worker L C U)) → all_workers test (map (told_by tells) ws) ≡ all_workers test ws
+all_told test tells [] = refl
+all_told test tells (w ∷ ws) = ap (λ b. test w.end && b) (all_told test tells ws)
 
 -- the same worker in both lists, at its place
-pub told_at : {L C U : Type 0} (list : U → Option (List Step)) (ws : List (Worker L C U)) (link : ℕ) (t : Worker L C (Option (List Step))) → slice_get (map (told_by list) ws) link ≡ Some t
-    → (w : Worker L C U) × (slice_get ws link ≡ Some w) × (told_by list w ≡ t)
-told_at {L} {C} {U} list ws link t is = by_place (slice_get ws link) refl (sym (slice_get-map (told_by list) ws link) ∙ is)
+pub told_at : {L C U : Type 0} (tells : TraceTells U) (ws : List (Worker L C U)) (link : ℕ) (t : Worker L C ToldTrace) → slice_get (map (told_by tells) ws) link ≡ Some t
+    → (w : Worker L C U) × (slice_get ws link ≡ Some w) × (told_by tells w ≡ t)
+told_at {L} {C} {U} tells ws link t is = by_place (slice_get ws link) refl (sym (slice_get-map (told_by tells) ws link) ∙ is)
   where
-    by_place : (o : Option (Worker L C U)) → slice_get ws link ≡ o → option_map (told_by list) o ≡ Some t → (w : Worker L C U) × (slice_get ws link ≡ Some w) × (told_by list w ≡ t)
+    by_place : (o : Option (Worker L C U)) → slice_get ws link ≡ o → option_map (told_by tells) o ≡ Some t → (w : Worker L C U) × (slice_get ws link ≡ Some w) × (told_by tells w ≡ t)
     by_place None e f = absurd (cc (f))
     by_place (Some w) e f = (w, e, cc (f))
 
-serves_told : {L C U : Type 0} (moments : C → Option (ℕ → ℕ)) (tells : LinkTells L) (list : U → Option (List Step)) (limits : Limits) (link : ℕ) (was is : Worker L C U)
-    → Serves moments tells list limits link was is → Serves moments tells (λ l. l) limits link (told_by list was) (told_by list is)
-serves_told moments tells list limits link was is s = record {
-  end = s.end;
-  ended = s.ended;
-  served = s.served;
-  session = s.session;
-  end_cause = s.end_cause;
-  failed_cause = s.failed_cause;
+serves_told : {L C U : Type 0} (given : Given) (moments : C → Option (ℕ → ℕ)) (links : LinkTells L) (tells : TraceTells U) (limits : Limits) (link : ℕ) (was is : Worker L C U)
+    → ServesOn given moments links tells limits link was is → ServesOn given moments links told_trace limits link (told_by tells was) (told_by tells is)
+serves_told given moments links tells limits link was is s = record {
+  made = record {
+    end = s.made.end;
+    ended = s.made.ended;
+    served = s.made.served;
+    session = s.made.session;
+    end_cause = s.made.end_cause;
+    failed_cause = s.made.failed_cause;
+  };
+  full = s.full;
 }
 
 -- each worker was served, as far as it tells
-pub all_served : {L C U : Type 0} (moments : C → Option (ℕ → ℕ)) (tells : LinkTells L) (list : U → Option (List Step)) (limits : Limits) (ws later : List (Worker L C U))
-    → ((link : ℕ) (d : Worker L C U) → link < length ws → Serves moments tells list limits link (slice_index_or ws link d) (slice_index_or later link d))
-    → (link : ℕ) (was is : Worker L C (Option (List Step))) → slice_get (map (told_by list) ws) link ≡ Some was → slice_get (map (told_by list) later) link ≡ Some is
-    → Serves moments tells (λ l. l) limits link was is
-all_served {L} {C} {U} moments tells list limits ws later served link was is had has =
-    let before = told_at list ws link was had in
-    let after = told_at list later link is has in
-    let there : Serves moments tells list limits link before.0 after.0 =
-        subst (λ x. Serves moments tells list limits link x after.0) (get_or_from_slice_get ws link before.0 before.0 before.1)
-        (subst (λ y. Serves moments tells list limits link (slice_index_or ws link before.0) y) (get_or_from_slice_get later link after.0 before.0 after.1)
+pub all_served : {L C U : Type 0} (given : Given) (moments : C → Option (ℕ → ℕ)) (links : LinkTells L) (tells : TraceTells U) (limits : Limits) (ws later : List (Worker L C U))
+    → ((link : ℕ) (d : Worker L C U) → link < length ws → ServesOn given moments links tells limits link (slice_index_or ws link d) (slice_index_or later link d))
+    → (link : ℕ) (was is : Worker L C ToldTrace) → slice_get (map (told_by tells) ws) link ≡ Some was → slice_get (map (told_by tells) later) link ≡ Some is
+    → ServesOn given moments links told_trace limits link was is
+all_served {L} {C} {U} given moments links tells limits ws later served link was is had has =
+    let before = told_at tells ws link was had in
+    let after = told_at tells later link is has in
+    let there : ServesOn given moments links tells limits link before.0 after.0 =
+        subst (λ x. ServesOn given moments links tells limits link x after.0) (get_or_from_slice_get ws link before.0 before.0 before.1)
+        (subst (λ y. ServesOn given moments links tells limits link (slice_index_or ws link before.0) y) (get_or_from_slice_get later link after.0 before.0 after.1)
         (served link before.0 (slice_get_within ws link before.0 before.1))) in
-    subst (λ x. Serves moments tells (λ l. l) limits link x is) before.2
-    (subst (λ y. Serves moments tells (λ l. l) limits link (told_by list before.0) y) after.2
-    (serves_told moments tells list limits link before.0 after.0 there))
+    subst (λ x. ServesOn given moments links told_trace limits link x is) before.2
+    (subst (λ y. ServesOn given moments links told_trace limits link (told_by tells before.0) y) after.2
+    (serves_told given moments links tells limits link before.0 after.0 there))
 
 -- workers in seats have done nothing yet
-pub all_new : {L C U : Type 0} (list : U → Option (List Step)) (limit : U → Option ℕ) (s : Setup) (seats : List (Seat U)) (ws : List (Worker L C U))
-    → map seat_of ws ≡ seats → All (IsSeat list limit s.session s.keep) seats → All is_unended ws → All (IsNewWorker s) (map (told_by list) ws)
-all_new {L} {C} {U} list limit s seats ws same are unended =
-    All-map (IsNewWorker s) (told_by list) ws
+pub all_new : {L C U : Type 0} (tells : TraceTells U) (s : Setup) (seats : List (Seat U)) (ws : List (Worker L C U))
+    → map seat_of ws ≡ seats → All (IsSeat tells.list tells.limit s.session s.keep) seats → All is_unended ws → All (IsNewWorker s) (map (told_by tells) ws)
+all_new {L} {C} {U} tells s seats ws same are unended =
+    All-map (IsNewWorker s) (told_by tells) ws
     (λ place d less.
-        let seat : IsSeat list limit s.session s.keep (seat_of (slice_index_or ws place d)) =
-            subst (IsSeat list limit s.session s.keep) (get_or-map seat_of ws place d (seat_of d) less)
-            (subst (λ l. IsSeat list limit s.session s.keep (slice_index_or l place (seat_of d))) (sym same)
+        let seat : IsSeat tells.list tells.limit s.session s.keep (seat_of (slice_index_or ws place d)) =
+            subst (IsSeat tells.list tells.limit s.session s.keep) (get_or-map seat_of ws place d (seat_of d) less)
+            (subst (λ l. IsSeat tells.list tells.limit s.session s.keep (slice_index_or l place (seat_of d))) (sym same)
             (are place (seat_of d) (subst (λ l. place < length l) same (subst (λ n. place < n) (sym (length-map ws seat_of)) less)))) in
-        record { session = seat.session_is; list = seat.list_is; unended = unended place d less })
+        record { session = seat.session_is; list = seat.list_is; limit = seat.limit_is; unended = unended place d less })
 
 -- the counts of a receiver that came to its end
 pub counted : (given : Given) (desk : DeskState) (counts : Counts) (before : Option (List Step)) → desk.kept ≡ option_map (λ steps. steps ++ the_end ∷ []) before
@@ -132,33 +135,33 @@ exactly given desk own counts delay settings same stands received = record {
 }
 
 -- how a run ended, by what its workers tell
-pub record Finds {L C U : Type 0} (list : U → Option (List Step)) (ending : Ending) (given : Given) (desk : DeskState) (workers : List (Worker L C U)) : Type 0 where
+pub record Finds {L C U : Type 0} (tells : TraceTells U) (ending : Ending) (given : Given) (desk : DeskState) (workers : List (Worker L C U)) : Type 0 where
   pub spent : ending ≡ endings.Spent → any_worker is_spent workers ≡ true
   pub full : ending ≡ endings.TraceFull → IsWithoutRoom workers given desk
-  pub torn : (tear : Tear) → ending ≡ endings.Torn tear → IsSound workers × IsTorn given desk.kept desk.contents (own_lists list workers) tear
-  pub down : ending ≡ endings.LinksDown → IsSound workers × (all_workers is_link_failed workers ≡ true) × HasReceived given desk.kept desk.contents (own_lists list workers)
-  pub done : ending ≡ endings.Done → IsSound workers × (all_workers is_link_failed workers ≡ false) × HasReceived given desk.kept desk.contents (own_lists list workers)
+  pub torn : (tear : Tear) → ending ≡ endings.Torn tear → IsSound workers × IsTorn given desk.kept desk.contents (own_lists tells.list workers) tear
+  pub down : ending ≡ endings.LinksDown → IsSound workers × (all_workers is_link_failed workers ≡ true) × HasReceived given desk.kept desk.contents (own_lists tells.list workers)
+  pub done : ending ≡ endings.Done → IsSound workers × (all_workers is_link_failed workers ≡ false) × HasReceived given desk.kept desk.contents (own_lists tells.list workers)
 
-sound_told : {L C U : Type 0} (list : U → Option (List Step)) (ws : List (Worker L C U)) → IsSound ws → IsSound (map (told_by list) ws)
-sound_told list ws sound = (any_told is_spent list ws ∙ sound.0, any_told is_without_room list ws ∙ sound.1)
+sound_told : {L C U : Type 0} (tells : TraceTells U) (ws : List (Worker L C U)) → IsSound ws → IsSound (map (told_by tells) ws)
+sound_told tells ws sound = (any_told is_spent tells ws ∙ sound.0, any_told is_without_room tells ws ∙ sound.1)
 
-pub ends_as : {L C U : Type 0} (list : U → Option (List Step)) (ending : Ending) (given : Given) (desk : DeskState) (ws : List (Worker L C U)) (counts : Counts)
-    → (HasReceived given desk.kept desk.contents (own_lists list ws) → IsExact given desk (own_lists list ws) counts) → Finds list ending given desk ws → EndsAs ending given desk (map (told_by list) ws) counts
-ends_as list endings.WriteFault given desk ws counts exact finds = tt
-ends_as list endings.Spent given desk ws counts exact finds = any_told is_spent list ws ∙ finds.spent refl
-ends_as list endings.TraceFull given desk ws counts exact finds =
+pub ends_as : {L C U : Type 0} (tells : TraceTells U) (ending : Ending) (given : Given) (desk : DeskState) (ws : List (Worker L C U)) (counts : Counts)
+    → (HasReceived given desk.kept desk.contents (own_lists tells.list ws) → IsExact given desk (own_lists tells.list ws) counts) → Finds tells ending given desk ws → EndsAs ending given desk (map (told_by tells) ws) counts
+ends_as tells endings.WriteFault given desk ws counts exact finds = tt
+ends_as tells endings.Spent given desk ws counts exact finds = any_told is_spent tells ws ∙ finds.spent refl
+ends_as tells endings.TraceFull given desk ws counts exact finds =
     let f = finds.full refl in
-    record { paired = any_told is_spent list ws ∙ f.paired; room = by_room f.room }
+    record { paired = any_told is_spent tells ws ∙ f.paired; room = by_room f.room }
   where
-    by_room : (any_worker is_without_room ws ≡ true) ⊎ LacksRoom given desk → (any_worker is_without_room (map (told_by list) ws) ≡ true) ⊎ LacksRoom given desk
-    by_room (inl one) = inl (any_told is_without_room list ws ∙ one)
+    by_room : (any_worker is_without_room ws ≡ true) ⊎ LacksRoom given desk → (any_worker is_without_room (map (told_by tells) ws) ≡ true) ⊎ LacksRoom given desk
+    by_room (inl one) = inl (any_told is_without_room tells ws ∙ one)
     by_room (inr lacks) = inr lacks
-ends_as list (endings.Torn tear) given desk ws counts exact finds =
+ends_as tells (endings.Torn tear) given desk ws counts exact finds =
     let f = finds.torn tear refl in
-    (sound_told list ws f.0, subst (λ own. IsTorn given desk.kept desk.contents own tear) (sym (lists_told list ws)) f.1)
-ends_as list endings.LinksDown given desk ws counts exact finds =
+    (sound_told tells ws f.0, subst (λ own. IsTorn given desk.kept desk.contents own tear) (sym (lists_told tells ws)) f.1)
+ends_as tells endings.LinksDown given desk ws counts exact finds =
     let f = finds.down refl in
-    (sound_told list ws f.0, all_told is_link_failed list ws ∙ f.1, subst (λ own. IsExact given desk own counts) (sym (lists_told list ws)) (exact f.2))
-ends_as list endings.Done given desk ws counts exact finds =
+    (sound_told tells ws f.0, all_told is_link_failed tells ws ∙ f.1, subst (λ own. IsExact given desk own counts) (sym (lists_told tells ws)) (exact f.2))
+ends_as tells endings.Done given desk ws counts exact finds =
     let f = finds.done refl in
-    (sound_told list ws f.0, all_told is_link_failed list ws ∙ f.1, subst (λ own. IsExact given desk own counts) (sym (lists_told list ws)) (exact f.2))
+    (sound_told tells ws f.0, all_told is_link_failed tells ws ∙ f.1, subst (λ own. IsExact given desk own counts) (sym (lists_told tells ws)) (exact f.2))

@@ -9,7 +9,7 @@ use Rattle.rist_desk.specs.declared.step.Step.{Step}
 use Rattle.rist_desk.specs.declared.worker.Limits.{Limits}
 use Rattle.rist_desk.specs.declared.worker.Worker.{Worker}
 use Rattle.rist_desk.specs.Desk.{DeskState, Given, StandsFor}
-use Rattle.rist_desk.specs.Serving.{LinkTells, Serves}
+use Rattle.rist_desk.specs.Serving.{LinkTells, ServesOn}
 use Rattle.rist_desk.specs.Steps.{history_of}
 use Rattle.rist_recv.specs.declared.ending.Ending.{Ending}
 use Rattle.rist_recv.specs.declared.ending.Ending.TheVariants as endings
@@ -17,11 +17,11 @@ use Rattle.rist_recv.specs.Endings.{is_spent, is_link_failed, any_worker, all_wo
 use Rattle.rist_recv.specs.Exact.{IsRunOf, reached_payloads}
 use Rattle.rist_recv.specs.Receiving.{own_lists, HasReceived, IsTorn}
 use Rattle.rist_recv.specs.Setup.{Setup, given_to, no_steps}
-use Rattle.rist_recv.specs.Workers.{link_of, clock_of}
+use Rattle.rist_recv.specs.Workers.{ToldTrace, link_of, clock_of, told_trace}
 
 -- the lists of workers of which a list is what they tell
-abbrev pub told_lists : {L C : Type 0} → List (Worker L C (Option (List Step))) → List (List Step)
-told_lists workers = own_lists (λ list. list) workers
+abbrev pub told_lists : {L C : Type 0} → List (Worker L C ToldTrace) → List (List Step)
+told_lists workers = own_lists (λ trace. trace.list) workers
 
 -- What was received is exact. The steps before the end are those of the links, each link's once and in its order; the sink holds all
 -- that they release; and where they are a run of copies of what one sender sent, near enough for their words to tell them apart, that
@@ -36,7 +36,7 @@ pub record IsExact (given : Given) (desk : DeskState) (own : List (List Step)) (
       → AreCountsOf counts given.settings.limits (history_of (reverse steps))
 
 -- what each ending says of the workers and of the desk at the end
-abbrev pub EndsAs : {L C : Type 0} → Ending → Given → DeskState → List (Worker L C (Option (List Step))) → Counts → Type 0
+abbrev pub EndsAs : {L C : Type 0} → Ending → Given → DeskState → List (Worker L C ToldTrace) → Counts → Type 0
 EndsAs endings.WriteFault given desk workers counts = Unit {0}
 EndsAs endings.Spent given desk workers counts = any_worker is_spent workers ≡ true
 EndsAs endings.TraceFull given desk workers counts = IsWithoutRoom workers given desk
@@ -48,9 +48,10 @@ EndsAs endings.Done given desk workers counts =
     IsSound workers × (all_workers is_link_failed workers ≡ false) × IsExact given desk (told_lists workers) counts
 
 -- a worker that has done nothing yet
-pub record IsNewWorker {L C : Type 0} (s : Setup) (w : Worker L C (Option (List Step))) : Type 0 where
+pub record IsNewWorker {L C : Type 0} (s : Setup) (w : Worker L C ToldTrace) : Type 0 where
   pub session : w.opener ≡ s.session
-  pub list : w.trace ≡ no_steps s.keep
+  pub list : w.trace.list ≡ no_steps s.keep
+  pub limit : w.trace.limit ≡ s.keep
   pub unended : w.end ≡ None
 
 -- Links and clocks were served, each by a worker, and the desk that they shared stands for its steps, where it keeps them. The sink
@@ -58,8 +59,8 @@ pub record IsNewWorker {L C : Type 0} (s : Setup) (w : Worker L C (Option (List 
 pub record Receives {L C : Type 0} (moments : C → Option (ℕ → ℕ)) (tells : LinkTells L) (s : Setup) (limits : Limits)
     (links_were links_are : List L) (clocks_were clocks_are : List C) (contents_were contents_are : Option (List ℕ))
     (faults_were faults_are : ℕ) (counts : Counts) (ending : Ending) : Type 0 where
-  pub were : List (Worker L C (Option (List Step)))
-  pub are : List (Worker L C (Option (List Step)))
+  pub were : List (Worker L C ToldTrace)
+  pub are : List (Worker L C ToldTrace)
   pub desk : DeskState
   pub links_had : map link_of were ≡ links_were
   pub clocks_had : map clock_of were ≡ clocks_were
@@ -67,9 +68,9 @@ pub record Receives {L C : Type 0} (moments : C → Option (ℕ → ℕ)) (tells
   pub links_have : map link_of are ≡ links_are
   pub clocks_have : map clock_of are ≡ clocks_are
   pub as_many : length are ≡ length were
-  -- each worker's own list and link hold its turns' steps and what these made
-  pub served : (link : ℕ) (was is : Worker L C (Option (List Step))) → slice_get were link ≡ Some was
-      → slice_get are link ≡ Some is → Serves moments tells (λ list. list) limits link was is
+  -- each worker's own list holds its turns' steps, and its link what these made, by the rules where the desk tells its steps
+  pub served : (link : ℕ) (was is : Worker L C ToldTrace) → slice_get were link ≡ Some was
+      → slice_get are link ≡ Some is → ServesOn (given_to s contents_were faults_were) moments tells told_trace limits link was is
   pub tells_steps : is_some desk.kept ≡ is_some s.keep
   pub contents : desk.contents ≡ contents_are
   pub faults : desk.faults ≡ faults_are
