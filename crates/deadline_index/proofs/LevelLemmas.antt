@@ -125,3 +125,18 @@ never_levels places total never e =
     (whole 2 (0 + places + first) second xs (omega arith) (never_cover (0 + places + first) second total never (omega arith))
     (whole 1 (0 + places + first + second) third xs (omega arith) (never_cover (0 + places + first + second) third total never (omega arith))
     (top 0 (0 + places + first + second + third) fourth xs refl (omega (arith, length-replicate total never))))))
+
+-- without the highest of the levels
+fewer : (n at len : ℕ) (xs : List ℕ) → AreLevels (suc n) at len xs → AreLevels n at len xs
+unfolding AreLevels
+fewer zero at len xs a = let room : at + len + group_count len ≤ length xs = a.1 in omega arith
+fewer (suc n) at len xs a = (a.0, fewer n (at + len) (group_count len) xs a.1)
+
+-- as many levels as are wanted
+pub some_levels : (n places : ℕ) (xs : List ℕ) → n ≤ 4 → AreLevels 4 0 places xs → AreLevels n 0 places xs
+some_levels zero places xs few a = fewer 0 0 places xs (fewer 1 0 places xs (fewer 2 0 places xs (fewer 3 0 places xs a)))
+some_levels (suc zero) places xs few a = fewer 1 0 places xs (fewer 2 0 places xs (fewer 3 0 places xs a))
+some_levels (suc (suc zero)) places xs few a = fewer 2 0 places xs (fewer 3 0 places xs a)
+some_levels (suc (suc (suc zero))) places xs few a = fewer 3 0 places xs a
+some_levels (suc (suc (suc (suc zero)))) places xs few a = a
+some_levels (suc (suc (suc (suc (suc n))))) places xs few a = absurd (omega arith)

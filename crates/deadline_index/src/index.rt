@@ -1,4 +1,4 @@
-ghost use Rattle.std.specs.Prelude.{◌≡◌, ◌<◌, nat_le, length, replicate, slice_set, IfOk, IfSome, IfNone};
+ghost use Rattle.std.specs.Prelude.{◌≡◌, ◌<◌, ◌≤◌, nat_le, length, replicate, slice_set, IfOk, IfSome, IfNone};
 ghost use Rattle.std.specs.List.{list_any};
 ghost use Rattle.deadline_index.specs.Places.{IsFirstBy, IsNoneFrom};
 
@@ -9,15 +9,14 @@ use std::marker::Model;
 /// The tick of a place that never falls due.
 pub const NEVER: u64 = u64::MAX;
 
-/// How many levels of least ticks stand above the places.
-const LEVELS: usize = 4;
-
-/// A fixed number of places, each with the tick at which it falls due. A change of one place and each search look at eight
-/// entries a level at most, on as many levels as the number of places has octal digits, up to five. A change that leaves the
-/// least tick of a group as it was looks no higher.
+/// A fixed number of places, each with the tick at which it falls due. A change of one place and each search look at
+/// eight entries a level, and at nine of the highest, on three levels below 512 places, four below 4,096 and five below
+/// 32,768. A change that leaves the least tick of a group as it was looks no higher.
 #[derive(Drop)]
 pub struct DeadlineIndex {
     places: usize,
+    /// How many levels of least ticks stand above the places.
+    levels: usize,
     /// The tick of each place, and behind them the levels of least ticks.
     all: Vec<u64>,
 }
@@ -31,7 +30,7 @@ impl Model for DeadlineIndex {
 
     ghost use Rattle.deadline_index.specs.Inside.Levels.{AreLevels};
 
-    ghost invariant = { λ index. AreLevels 4 0 index.places index.all.items };
+    ghost invariant = { λ index. AreLevels index.levels 0 index.places index.all.items };
 }
 
 impl DeadlineIndex {
@@ -45,7 +44,11 @@ impl DeadlineIndex {
         };
         let mut all = Vec::with_capacity(alloc, total)?;
         all.resize(total, NEVER)?;
-        Ok(DeadlineIndex { places, all })
+        Ok(DeadlineIndex {
+            places,
+            levels: level_count(places),
+            all,
+        })
     }
 
     /// Gives a place another tick, or `NEVER`.
@@ -53,14 +56,15 @@ impl DeadlineIndex {
         requires { place < length self.old }
         ensures value { self.new ≡ slice_set self.old place tick }
     {
-        set_entry(&mut self.all, LEVELS, 0, self.places, place, tick);
+        set_entry(&mut self.all, self.levels, 0, self.places, place, tick);
     }
 
     /// Whether any place is due by the tick. Where none is, this looks at the highest level alone.
     pub fn is_any_by(&self, tick: u64) -> bool
         ensures { result ≡ list_any (λ due. nat_le due tick) self.now }
     {
-        !is_none_by(&self.all, LEVELS, 0, self.places, tick) && self.first_by(0, tick).is_some()
+        !is_none_by(&self.all, self.levels, 0, self.places, tick)
+            && self.first_by(0, tick).is_some()
     }
 
     /// The first place from `start` on that is due by the tick.
@@ -68,6 +72,19 @@ impl DeadlineIndex {
         ensures some { IfSome result (λ place. IsFirstBy self.now start tick place) }
         ensures none { IfNone result (IsNoneFrom self.now start tick) }
     {
-        first_by(&self.all, LEVELS, 0, self.places, start, tick)
+        first_by(&self.all, self.levels, 0, self.places, start, tick)
+    }
+}
+
+/// How many levels stand above so many places. The highest has nine entries at most, below 32,768 places.
+fn level_count(places: usize) -> usize
+    ensures { result ≤ 4 }
+{
+    if places < 512 {
+        2
+    } else if places < 4096 {
+        3
+    } else {
+        4
     }
 }

@@ -108,6 +108,58 @@ pub fn is_none_by(all: &[u64], levels: usize, at: usize, len: usize, tick: u64) 
     }
 }
 
+/// The least of eight entries.
+fn least_of_eight(all: &[u64], from: usize) -> u64
+    requires { from + 8 ≤ length all.now }
+    ensures { IsLeastIn all.now from 0 8 result }
+{
+    let front = all[from]
+        .min(all[from + 1])
+        .min(all[from + 2])
+        .min(all[from + 3]);
+    let back = all[from + 4]
+        .min(all[from + 5])
+        .min(all[from + 6])
+        .min(all[from + 7]);
+    front.min(back)
+}
+
+/// Whether none of eight entries is below the tick.
+fn is_least_of_eight(all: &[u64], from: usize, tick: u64) -> bool
+    requires { from + 8 ≤ length all.now }
+    ensures { IsTrue result → IsLeastIn all.now from 0 8 tick }
+{
+    tick <= all[from]
+        && tick <= all[from + 1]
+        && tick <= all[from + 2]
+        && tick <= all[from + 3]
+        && tick <= all[from + 4]
+        && tick <= all[from + 5]
+        && tick <= all[from + 6]
+        && tick <= all[from + 7]
+}
+
+/// The least of an entry's group. All groups but a level's last are whole. In one of these the entry that was the least
+/// mostly still is.
+fn least_of_group(all: &[u64], at: usize, len: usize, entry: usize) -> u64
+    requires entry { entry < len }
+    requires within { at + len ≤ length all.now }
+    ensures { IsLeastIn all.now at (8 * (entry / 8)) (min (8 * (entry / 8) + 8) len) result }
+{
+    let group = entry / GROUP;
+    if group < len / GROUP {
+        let from = at + GROUP * group;
+        let tick = all[at + entry];
+        if tick != NEVER && is_least_of_eight(all, from, tick) {
+            tick
+        } else {
+            least_of_eight(all, from)
+        }
+    } else {
+        least_in(all, at, GROUP * group, len)
+    }
+}
+
 /// The least of an entry's group, where none but the entry itself is below `least`.
 fn least_now(all: &[u64], at: usize, len: usize, entry: usize, least: u64) -> u64
     requires entry { entry < len }
@@ -119,7 +171,7 @@ fn least_now(all: &[u64], at: usize, len: usize, entry: usize, least: u64) -> u6
     if tick < least {
         tick
     } else {
-        least_in(all, at, GROUP * (entry / GROUP), group_end(entry, len))
+        least_of_group(all, at, len, entry)
     }
 }
 

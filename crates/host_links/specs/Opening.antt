@@ -8,6 +8,10 @@ use Rattle.outside_host.specs.declared.host.Place.TheVariants.{Here, Out, Back}
 abbrev pub HasOpenedNone : {I O E L C : Type 0} → Bool → Shelf I O E L C → Type 0
 HasOpenedNone tells shelf = IsTrue tells × (shelf.opened_links ≡ [])
 
+-- a host that tells has handed out no clock yet
+abbrev pub HasStartedNone : {I O E L C : Type 0} → Bool → Shelf I O E L C → Type 0
+HasStartedNone tells shelf = IsTrue tells × (shelf.next_clock ≡ 0)
+
 -- these objects were handed out from the first places, in order, and all others stand as they stood
 pub record AreOut {L : Type 0} (old new : ℕ → Place L) (links : List L) : Type 0 where
   pub was : (place : ℕ) (d : L) → place < length links → old place ≡ Here (slice_index_or links place d)

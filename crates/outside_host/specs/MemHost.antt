@@ -1,5 +1,5 @@
 -- What stands under the names and at the places of a host in memory, and its calls.
-use Rattle.std.specs.Prelude.{◌≡◌, ◌≢◌, ◌⊎◌, ◌<◌, [], length}
+use Rattle.std.specs.Prelude.{◌≡◌, ◌≢◌, ◌⊎◌, ◌<◌, [], length, None}
 use Rattle.outside_io.specs.Calls.{Calls, FailsNext}
 use Rattle.outside_host.specs.Shelf.{Shelf, IsAway}
 use Rattle.outside_host.specs.declared.host.HostBad.{HostBad}
@@ -27,6 +27,7 @@ mem_shelf host = record {
   opened_links = host.opened;
   clocks = object_at host.clocks.items;
   next_clock = host.next_clock;
+  report = host.report;
 }
 
 -- its calls
@@ -68,4 +69,5 @@ shelf_of parts = record {
   opened_links = [];
   clocks = object_at parts.clocks.items;
   next_clock = 0;
+  report = None;
 }

@@ -1,14 +1,16 @@
 -- The objects of a host, by the names or places that they are asked by.
-use Rattle.std.specs.Prelude.{◌≡◌, ◌≢◌, ℕ, List, [], ◌∷◌, ◌++◌, length, Bool, true, false, Option, IfSome, Result, Ok, Err}
+use Rattle.std.specs.Prelude.{◌≡◌, ◌≢◌, ℕ, List, [], ◌∷◌, ◌++◌, length, Bool, true, false, Option, None, IfSome, Result, Ok, Err}
 use Rattle.outside_io.specs.Causes.{RoseWhere}
 use Rattle.outside_host.specs.declared.host.HostBad.{HostBad}
 use Rattle.outside_host.specs.declared.host.HostBad.TheVariants.{Failed, NoMemory}
 use Rattle.outside_host.specs.declared.host.Place.{Place}
 use Rattle.outside_host.specs.declared.host.Place.TheVariants.{Absent, Here, Out, Back}
 use Rattle.outside_host.specs.declared.host.Opened.{Opened}
+use Rattle.outside_host.specs.declared.reception.Reception.{Reception}
 
 -- what stands under each name and at each place; which links were handed out, the oldest first, so that their number is
--- the place of the next one; and the places of the clock and of the source of random words that are handed out next
+-- the place of the next one; the places of the clock and of the source of random words that are handed out next; and the counts
+-- of the receiver that came last, where one did
 pub record Shelf (I O E L C : Type 0) : Type 0 where
   pub sources : List ℕ → Place I
   pub sinks : List ℕ → Place O
@@ -18,6 +20,7 @@ pub record Shelf (I O E L C : Type 0) : Type 0 where
   pub opened_links : List Opened
   pub clocks : ℕ → Place C
   pub next_clock : ℕ
+  pub report : Option Reception
 
 -- the object that stood under this name, or at this place, is out, and all others stand as they stood
 pub record HandsOut {N X : Type 0} (old new : N → Place X) (name : N) (object : X) : Type 0 where
@@ -98,6 +101,10 @@ ChangesClocks old new = new ≡ record old { clocks = new.clocks }
 abbrev pub ChangesTiming : {I O E L C : Type 0} → Shelf I O E L C → Shelf I O E L C → Type 0
 ChangesTiming old new = new ≡ record old { clocks = new.clocks; next_clock = new.next_clock }
 
+-- all but the counts of the last receiver
+abbrev pub ChangesReport : {I O E L C : Type 0} → Shelf I O E L C → Shelf I O E L C → Type 0
+ChangesReport old new = new ≡ record old { report = new.report }
+
 -- nothing stands anywhere
 abbrev pub nowhere : {I O E L C : Type 0} → Shelf I O E L C
 nowhere = record {
@@ -109,6 +116,7 @@ nowhere = record {
   opened_links = [];
   clocks = λ _. Absent;
   next_clock = 0;
+  report = None;
 }
 
 -- what a link took is nothing, where it tells

@@ -1,10 +1,12 @@
-//! What hands out sources and sinks by name, links, clocks and random words by place, and takes them back.
-ghost use Rattle.std.specs.Prelude.{◌≡◌, ◌<◌, ◌+◌, ℕ, length, Bool, IsTrue, IfOk, OnOk, OnErr};
+//! What hands out sources and sinks by name, links, clocks and random words by place, and takes them back; and what takes
+//! the counts of a receiver.
+ghost use Rattle.std.specs.Prelude.{◌≡◌, ◌<◌, ◌+◌, ℕ, length, Bool, Some, IsTrue, IfOk, OnOk, OnErr};
 ghost use Rattle.outside_io.specs.Told.{IsEmpty};
 ghost use Rattle.outside_host.specs.Shelf.{Shelf, Stays, TakesBack, HasHostCause};
 ghost use Rattle.outside_host.specs.Shelf.{HandsOutSource, HandsOutSink, HandsOutNext, HandsOutLink, HandsOutClock, KeepsLinks, IsUnwritten};
-ghost use Rattle.outside_host.specs.Shelf.{ChangesSources, ChangesSinks, ChangesEntropies, ChangesDrawing, ChangesLinks, ChangesOpening, ChangesClocks, ChangesTiming};
+ghost use Rattle.outside_host.specs.Shelf.{ChangesSources, ChangesSinks, ChangesEntropies, ChangesDrawing, ChangesLinks, ChangesOpening, ChangesClocks, ChangesTiming, ChangesReport};
 
+use crate::Reception;
 use outside_io::{Entropy, Profile, Sink, Source};
 use outside_net::{Clock, Link, LinkSpec, Role};
 use std::fmt::{self, Display, Formatter, Write};
@@ -61,17 +63,17 @@ pub trait Host {
     /// What it hands out as a source.
     type Input: Source + Drop;
 
-    /// What it hands out as a sink.
-    type Output: Sink + Drop;
+    /// What it hands out as a sink. It can be shared by the threads of links.
+    type Output: Sink + Drop + Send;
 
     /// What it hands out as a source of random words.
     type Random: Entropy + Drop;
 
-    /// What it hands out as a link.
-    type Wire: Link + Drop;
+    /// What it hands out as a link. A thread of its own can have it.
+    type Wire: Link + Drop + Send;
 
-    /// What it hands out as a clock.
-    type Time: Clock + Drop;
+    /// What it hands out as a clock. A thread of its own can have it.
+    type Time: Clock + Drop + Send;
 
     /// Whether a host of this type tells what stands under its names and at its places.
     ghost tells: { Bool };
@@ -160,5 +162,11 @@ pub trait Host {
     fn back_clock(&mut self, place: u8, object: Self::Time)
         ensures state { IsTrue tells → TakesBack (shelf self.old).clocks (shelf self.new).clocks place object }
         ensures same { IsTrue tells → ChangesClocks (shelf self.old) (shelf self.new) }
+        ensures cause { faults self.new ≡ faults self.old };
+
+    /// Takes the counts of a receiver at its end. Those of the last one stand.
+    fn report(&mut self, reception: &Reception)
+        ensures state { IsTrue tells → (shelf self.new).report ≡ Some reception.now }
+        ensures same { IsTrue tells → ChangesReport (shelf self.old) (shelf self.new) }
         ensures cause { faults self.new ≡ faults self.old };
 }

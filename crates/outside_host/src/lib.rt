@@ -8,6 +8,7 @@ mod host;
 mod mem_host;
 mod openings;
 mod real_host;
+mod reception;
 mod slots;
 #[cfg(test)]
 mod tests;
@@ -15,4 +16,5 @@ mod tests;
 pub use host::{Host, HostBad, Opened, Place};
 pub use mem_host::{MemHost, MemParts};
 pub use real_host::RealHost;
+pub use reception::Reception;
 pub use slots::Slot;

@@ -4,7 +4,7 @@ ghost use Rattle.outside_io.specs.Calls.{no_calls, FailsNext, CountsCall};
 ghost use Rattle.outside_io.specs.Told.{IsEmpty};
 ghost use Rattle.outside_host.specs.Shelf.{Stays, TakesBack, IsAway, HasHostCause};
 ghost use Rattle.outside_host.specs.Shelf.{HandsOutSource, HandsOutSink, HandsOutNext, HandsOutLink, HandsOutClock, KeepsLinks, IsUnwritten};
-ghost use Rattle.outside_host.specs.Shelf.{ChangesSources, ChangesSinks, ChangesEntropies, ChangesDrawing, ChangesLinks, ChangesOpening, ChangesClocks, ChangesTiming};
+ghost use Rattle.outside_host.specs.Shelf.{ChangesSources, ChangesSinks, ChangesEntropies, ChangesDrawing, ChangesLinks, ChangesOpening, ChangesClocks, ChangesTiming, ChangesReport};
 ghost use Rattle.outside_host.specs.declared.host.HostBad.TheVariants.{Failed};
 ghost use Rattle.outside_host.specs.ByPlace.{object_at};
 ghost use Rattle.outside_host.specs.Slots.{place_of};
@@ -14,7 +14,7 @@ ghost use Rattle.outside_host.specs.declared.host.Place.TheVariants.{Back};
 use crate::by_place::{is_unwritten, put_place, returned_place, take_place};
 use crate::openings::Openings;
 use crate::slots::{is_fresh, put_back, returned, take_out};
-use crate::{Host, HostBad, Opened, Place, Slot};
+use crate::{Host, HostBad, Opened, Place, Reception, Slot};
 use outside_io::{FailingCalls, MemSource, NoMemory, Profile, Store8, Words};
 use outside_net::{LinkSpec, Role, ScriptClock, ScriptLink};
 use std::alloc::Global;
@@ -48,6 +48,7 @@ pub struct MemHost {
     opened: Openings,
     clocks: Vec<Place<ScriptClock>>,
     next_clock: usize,
+    report: Option<Reception>,
     calls: FailingCalls,
 }
 
@@ -66,6 +67,7 @@ impl MemHost {
             opened: Openings::with(alloc)?,
             clocks: parts.clocks,
             next_clock: 0,
+            report: None,
             calls: FailingCalls::of(parts.failing),
         })
     }
@@ -108,6 +110,13 @@ impl MemHost {
         ensures value { result ≡ slice_get (mem_shelf self.now).opened_links place }
     {
         self.opened.get(place as usize)
+    }
+
+    /// The counts of the last receiver, where one ended.
+    pub fn reported(&self) -> Option<Reception>
+        ensures value { result ≡ (mem_shelf self.now).report }
+    {
+        self.report
     }
 }
 
@@ -330,5 +339,15 @@ impl Host for MemHost {
         ensures calls { mem_calls self.new ≡ mem_calls self.old }
     {
         put_place(&mut self.clocks, place as usize, object);
+    }
+
+    fn report(&mut self, reception: &Reception)
+        ensures state { IsTrue true → (mem_shelf self.new).report ≡ Some reception.now }
+        ensures same { IsTrue true → ChangesReport (mem_shelf self.old) (mem_shelf self.new) }
+        ensures cause { (mem_calls self.new).faults ≡ (mem_calls self.old).faults }
+        // It counts as no call.
+        ensures calls { mem_calls self.new ≡ mem_calls self.old }
+    {
+        self.report = Some(*reception);
     }
 }

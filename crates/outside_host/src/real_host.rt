@@ -3,14 +3,14 @@ ghost use Rattle.std.specs.Prelude.{◌≡◌, false};
 ghost use Rattle.outside_io.specs.Causes.{Rose};
 ghost use Rattle.outside_host.specs.Shelf.{nowhere};
 
-use crate::{Host, HostBad};
+use crate::{Host, HostBad, Reception};
 use outside_io::{
     FileIdentity, Profile, RealEntropy, RealSink, RealSource, create_sink, is_named,
     open_known_source,
 };
 use outside_net::{LinkSpec, ProcessClock, Role, UdpLink};
 use std::fs::Files;
-use std::io::{Input, Print, Printer};
+use std::io::{Eprint, Input, Print, Printer};
 use std::marker::Model;
 use std::net::Net;
 use std::random::RandomSource;
@@ -57,7 +57,10 @@ impl<'a, R> RealHost<'a, R> {
     }
 }
 
-impl<'a, R: Files + Input + Print + RandomSource + Net + Clock> Host for RealHost<'a, R> {
+impl<'a, R: Files + Input + Print + Eprint + RandomSource + Net + Clock + Sync> Host for RealHost<'a, R>
+where
+    R::File: Send,
+{
     type Input = RealSource<R::File, R::Reader>;
 
     type Output = RealSink<R::File, Printer<'a, R>>;
@@ -134,4 +137,10 @@ impl<'a, R: Files + Input + Print + RandomSource + Net + Clock> Host for RealHos
     fn back_link(&mut self, _place: u8, _object: Self::Wire) {}
 
     fn back_clock(&mut self, _place: u8, _object: Self::Time) {}
+
+    /// Writes them as a line to the error output.
+    fn report(&mut self, reception: &Reception) {
+        // A line that can't be written changes no answer.
+        let _ = eprintln!(self.rt; "rist: {reception}");
+    }
 }

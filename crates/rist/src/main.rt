@@ -27,7 +27,7 @@ fn words_of(rt: &HostRuntime) -> Result<Vec<String>, Status> {
 /// How the words of the command line end with the real host.
 fn status_of(rt: &HostRuntime) -> Status {
     match words_of(rt) {
-        Ok(words) => run(rt.alloc(), &words, &mut RealHost::new(rt)),
+        Ok(words) => run(rt, rt.alloc(), &words, &mut RealHost::new(rt)),
         Err(status) => status,
     }
 }

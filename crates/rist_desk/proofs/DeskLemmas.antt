@@ -1,5 +1,5 @@
 -- A desk with one more step.
-use Rattle.std.proofs.Common.{◌≡◌, ◌≢◌, inl, inr, ℕ, ◌+◌, ◌-◌, List, [], ◌∷◌, ◌++◌, reverse, Bool, true, false, Option, None, Some, is_some, option_map, refl, ap, sym, ◌∙◌, subst}
+use Rattle.std.proofs.Common.{◌≡◌, ◌≢◌, inl, inr, ℕ, ◌+◌, ◌-◌, List, [], ◌∷◌, ◌++◌, reverse, Bool, true, false, Option, None, Some, is_some, option_map, IfOk, refl, ap, sym, ◌∙◌, subst}
 use Rattle.outside_io.specs.Causes.{Rose, RoseWhere}
 use Rattle.outside_io.specs.Told.{Writes, WritesPart, IsPrefix}
 use Rattle.receiver_rules.specs.History.{released_bytes}
@@ -9,9 +9,9 @@ use Rattle.reorder_buffer.specs.declared.phase.Phase.{Phase}
 use Rattle.reorder_buffer.specs.declared.phase.Phase.TheVariants.{Open, Ended, Failed}
 use Rattle.request_rules.specs.Steps.{buffer_history}
 use Rattle.rist_wire.specs.Writing.{ShutterState, pairs_left}
-use Rattle.rist_control.specs.Control.{ControlSettings, datagrams_of, words_made}
+use Rattle.rist_control.specs.Control.{ControlSettings, Datagram, datagrams_of, words_made}
 use Rattle.rist_wire.specs.declared.session.Session.{Session}
-use Rattle.rist_reporter.specs.OneMore.{IsMade, TakesPairs, answer_count}
+use Rattle.rist_reporter.specs.OneMore.{AreOpened, IsMade, TakesPairs, answer_count}
 use Rattle.rist_ends.specs.declared.told.Told.{Told}
 use Rattle.rist_ends.specs.declared.told.What.{What}
 use Rattle.rist_ends.specs.declared.told.What.TheVariants.{Media, Control, Keepalive, Refused, Tick, End}
@@ -27,9 +27,9 @@ use Rattle.rist_desk.specs.declared.step.Mark.TheVariants as marks
 use Rattle.rist_desk.specs.declared.step.Event.{Event}
 use Rattle.rist_desk.specs.declared.step.Step.{Step}
 use Rattle.rist_desk.specs.Steps.{history_of}
-use Rattle.rist_desk.specs.Legal.{Setup, is_fault, made_by, phase_at, phase_by, phase_of, released_by, AreWritten, AreWrittenOf}
+use Rattle.rist_desk.specs.Legal.{Setup, is_fault, is_made, made_by, phase_at, phase_by, phase_of, released_by, AreWritten, AreWrittenOf}
 use Rattle.rist_desk.specs.Made.{IsNoEnd, step_of, step_after, steps_with}
-use Rattle.rist_desk.specs.Desk.{DeskState, Given, setup_of, shutter_after, StandsFor, IsDesk, MakesDue, is_failed}
+use Rattle.rist_desk.specs.Desk.{DeskState, Given, setup_of, shutter_after, StandsFor, IsDesk, MakesDue, IsDueAfter, outs_in, is_failed}
 use Rattle.rist_desk.proofs.ListLemmas.{reverse_more, tells_same, written_more, written_part}
 use Rattle.rist_desk.proofs.ToldLemmas.{told_buffer, told_phase_is}
 use Rattle.rist_desk.proofs.StepLemmas.{Says, Fits, fits_verdict, fits_nothing, fits_made, fits_spent, left_after, shutter_more}
@@ -304,3 +304,32 @@ makes_due given told answer outs d e desk step is list held =
     let said = (made before stands.receiver).made in
     subst (λ (x : Session). IsMade x (datagrams_of given.settings before (told_step_of told)) (words_made given.settings before (told_step_of told)) (Some outs)) (ap (λ (x : ShutterState). x.session) stands.shutter)
     (subst (λ (x : ControlSettings). IsMade d.receiver.reporter.shutter.session (datagrams_of x before (told_step_of told)) (words_made x before (told_step_of told)) (Some outs)) desk.settings said)
+
+-- ---- what is due
+
+made_is : (given : Given) (told : Told) (o : Outcome) (d : DeskState) (before : List Step) → settings_of d.receiver ≡ given.settings → StandsFor given d before → MakesStep d.receiver (told_step_of told) o
+    → IfOk (result_of o) (IsMade given.shutter.session (datagrams_of given.settings (history_of before) (told_step_of told)) (words_made given.settings (history_of before) (told_step_of told)))
+made_is given told o d before set stands made =
+    let said = (made (history_of before) stands.receiver).made in
+    subst (λ (x : Session). IfOk (result_of o) (IsMade x (datagrams_of given.settings (history_of before) (told_step_of told)) (words_made given.settings (history_of before) (told_step_of told)))) (ap (λ (x : ShutterState). x.session) stands.shutter)
+    (subst (λ (x : ControlSettings). IfOk (result_of o) (IsMade d.receiver.reporter.shutter.session (datagrams_of x (history_of before) (told_step_of told)) (words_made x (history_of before) (told_step_of told)))) set said)
+
+none_opened : (session : Session) (due : List Datagram) → due ≡ [] → AreOpened session [] due
+none_opened session due e = subst (AreOpened session []) (sym e) tt
+
+-- opened, the datagrams are those that are due
+opened_by : (given : Given) (told : Told) (o : Outcome) (s : Step) (d : DeskState) (before : List Step) → settings_of d.receiver ≡ given.settings → StandsFor given d before
+    → IfStepped o (MakesStep d.receiver (told_step_of told) o) → step_after told o ≡ Some s → is_made s.mark ≡ true
+    → AreOpened given.shutter.session (outs_in o) (datagrams_of given.settings (history_of before) (told_step_of told))
+opened_by given told outcomes.Stopped s d before set stands made is sound = absurd (cc (is))
+opened_by given told outcomes.WriteFault s d before set stands made is sound = absurd (cc (is, sound))
+opened_by given told (outcomes.Verdict v) s d before set stands made is sound = none_opened given.shutter.session (datagrams_of given.settings (history_of before) (told_step_of told)) (made_is given told (outcomes.Verdict v) d before set stands made)
+opened_by given told outcomes.Spent s d before set stands made is sound = absurd (cc (is, sound))
+opened_by given told (outcomes.Made outs) s d before set stands made is sound = (made_is given told (outcomes.Made outs) d before set stands made).0
+opened_by given told outcomes.Nothing s d before set stands made is sound = none_opened given.shutter.session (datagrams_of given.settings (history_of before) (told_step_of told)) (made_is given told outcomes.Nothing d before set stands made)
+
+pub due_after : (given : Given) (told : Told) (o : Outcome) (d e : DeskState) → IsDesk given d → Stepped told o d e → (list : List Step) → d.kept ≡ Some list → IsDueAfter given (reverse list) told o
+due_after given told o d e desk step list held = λ s is.
+    let stands = desk.stands list held in
+    let more = stands_with given told o s d e (reverse list) desk.settings is step stands in
+    (more.legal, λ sound. opened_by given told o s d (reverse list) desk.settings stands step.work.made is sound)

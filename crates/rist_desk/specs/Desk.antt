@@ -1,5 +1,5 @@
 -- What a contract sees of a desk, and what it keeps.
-use Rattle.std.specs.Prelude.{◌≡◌, ◌≢◌, ℕ, List, [], reverse, Bool, true, false, Result, Ok, Err, Option, None, Some, is_some}
+use Rattle.std.specs.Prelude.{◌≡◌, ◌≢◌, ℕ, List, [], ◌∷◌, reverse, Bool, true, false, Result, Ok, Err, Option, None, Some, is_some}
 use Rattle.outside_io.specs.Causes.{RoseWhere}
 use Rattle.outside_io.specs.declared.profile.Profile.TheVariants.{Simple}
 use Rattle.seq_unwrap.specs.declared.width.Width.TheVariants.{W16}
@@ -9,15 +9,19 @@ use Rattle.reorder_buffer.specs.declared.phase.Phase.TheVariants.{Open, Ended, F
 use Rattle.rist_wire.specs.Writing.{ShutterState, pairs_left}
 use Rattle.rist_control.specs.Control.{ControlSettings, datagrams_of, words_made}
 use Rattle.rist_reporter.specs.declared.out.Outs.{Outs}
-use Rattle.rist_reporter.specs.OneMore.{IsMade, after_pairs}
+use Rattle.rist_reporter.specs.Made.{OutOf}
+use Rattle.rist_reporter.specs.OneMore.{AreOpened, IsMade, after_pairs, outs_of}
 use Rattle.rist_ends.specs.declared.told.Told.{Told}
 use Rattle.rist_ends.specs.Told.{step_of}
+use Rattle.rist_ends.specs.declared.outcome.Outcome.{Outcome}
+use Rattle.rist_ends.specs.declared.outcome.Outcome.TheVariants as outcomes
 use Rattle.rist_ends.specs.declared.outcome.Answer.{Answer}
 use Rattle.rist_ends.specs.declared.outcome.Answer.TheVariants as answers
 use Rattle.rist_ends.specs.Receiver.{ReceiverState, IsReceiverAfter, settings_of}
 use Rattle.rist_desk.specs.declared.step.Step.{Step}
 use Rattle.rist_desk.specs.Steps.{history_of}
-use Rattle.rist_desk.specs.Legal.{Setup, IsLegal, phase_of, made_by, AreWritten}
+use Rattle.rist_desk.specs.Legal.{Setup, IsLegal, is_made, phase_of, made_by, AreWritten}
+use Rattle.rist_desk.specs.Made.{step_after}
 
 -- its receiver; the steps that its trace tells, the oldest first, and the trace's limit; what its sink tells, and the sink's faults
 pub record DeskState : Type 0 where
@@ -61,6 +65,7 @@ pub record StandsFor (given : Given) (d : DeskState) (steps : List Step) : Type 
   pub tells : is_some d.contents ≡ given.tells_octets
   pub sink : (octets : List ℕ) → d.contents ≡ Some octets → AreWritten (setup_of given) steps octets
 
+-- a write failed before
 abbrev pub is_failed : Phase → Bool
 is_failed Open = false
 is_failed Ended = false
@@ -97,6 +102,23 @@ abbrev pub MakesDue : Given → List Step → Told → Outs → Type 0
 MakesDue given before told outs =
     IsMade given.shutter.session (datagrams_of given.settings (history_of before) (step_of told))
     (words_made given.settings (history_of before) (step_of told)) (Some outs)
+
+-- the datagrams that an outcome holds
+abbrev pub outs_in : Outcome → List OutOf
+outs_in outcomes.Stopped = []
+outs_in outcomes.WriteFault = []
+outs_in (outcomes.Verdict v) = []
+outs_in outcomes.Spent = []
+outs_in (outcomes.Made outs) = outs_of outs
+outs_in outcomes.Nothing = []
+
+-- A step that was made after these, the newest first, is legal; and where all that was due to it was made, its datagrams, opened in
+-- the session, are those that the rules make of what was told, and no others.
+abbrev pub IsDueAfter : Given → List Step → Told → Outcome → Type 0
+IsDueAfter given before told outcome =
+    (s : Step) → step_after told outcome ≡ Some s
+    → IsLegal (setup_of given) (s ∷ before)
+    × (is_made s.mark ≡ true → AreOpened given.shutter.session (outs_in outcome) (datagrams_of given.settings (history_of before) (step_of told)))
 
 -- ---- answers
 

@@ -13,7 +13,11 @@ use Rattle.rist_desk.specs.declared.step.Event.{Event}
 use Rattle.rist_desk.specs.declared.step.Event.TheVariants as events
 use Rattle.rist_desk.specs.declared.step.Mark.TheVariants as marks
 use Rattle.rist_desk.specs.declared.step.Step.{Step}
-use Rattle.rist_desk.specs.Made.{echoes_of}
+use Rattle.request_rules.specs.Steps.{Input, Media, Control, Keepalive, Refused, Tick, control_input}
+use Rattle.rist_ends.specs.declared.told.Told.{Told}
+use Rattle.rist_ends.specs.Told.{input_of as told_input}
+use Rattle.rist_desk.specs.Steps.{arrival_of}
+use Rattle.rist_desk.specs.Made.{echoes_of, event_of}
 
 -- media with its null packets restored
 abbrev pub packet_read : MediaValue → Packet
@@ -25,6 +29,13 @@ event_read us (Ok (items.Media m)) = events.Media (packet_read m)
 event_read us (Ok (items.Control packets)) = events.Control (echoes_of us packets)
 event_read us (Ok (items.Keepalive keepalive)) = events.Keepalive
 event_read us (Err bad) = events.Refused
+
+-- the same, as the rules see it
+abbrev pub input_read : ℕ → Result Item WireBad → Input
+input_read us (Ok (items.Media m)) = Media (arrival_of (packet_read m))
+input_read us (Ok (items.Control packets)) = control_input us packets
+input_read us (Ok (items.Keepalive keepalive)) = Keepalive
+input_read us (Err bad) = Refused
 
 -- a step of a link at a moment, before it is known what it came to
 abbrev pub unmarked : ℕ → ℕ → Event → Step
@@ -41,3 +52,20 @@ datagram_step session place moment channel octets = unmarked place moment (event
 -- a tick
 abbrev pub tick_step : ℕ → ℕ → Step
 tick_step place moment = unmarked place moment (events.Tick moment)
+
+-- a step that is to be made: what a list keeps of it, and all that comes with it as the rules see it
+pub record Planned : Type 0 where
+  pub step : Step
+  pub input : Input
+
+-- that of a datagram
+abbrev pub datagram_plan : Session → ℕ → ℕ → Channel → List ℕ → Planned
+datagram_plan session place moment channel octets = record { step = datagram_step session place moment channel octets; input = input_read moment (item_of session channel octets) }
+
+-- that of a tick
+abbrev pub tick_plan : ℕ → ℕ → Planned
+tick_plan place moment = record { step = tick_step place moment; input = Tick moment }
+
+-- that of what is told
+abbrev pub told_plan : Told → Planned
+told_plan told = record { step = unmarked told.link told.us (event_of told.us told.what); input = told_input told.us told.what }

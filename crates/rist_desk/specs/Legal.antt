@@ -57,6 +57,7 @@ mark_on setup before tick Refused wanting = marks.Plain
 mark_on setup before tick (Tick micros) wanting = mark_by wanting
 mark_on setup before tick End wanting = marks.Plain
 
+-- that of a step after these
 abbrev pub mark_of : Setup → List Step → Step → Mark
 mark_of setup before s = mark_on setup before s.at (told_step s).input (is_wanting setup before s)
 
@@ -72,6 +73,7 @@ abbrev pub made_where : Bool → List Datagram → ℕ
 made_where true due = length due
 made_where false due = 0
 
+-- likewise the words
 abbrev pub asked_where : Bool → List AskWord → List AskWord
 asked_where true words = words
 asked_where false words = []
@@ -92,6 +94,7 @@ abbrev pub phase_by : Bool → Event → Phase
 phase_by true what = Failed
 phase_by false what = phase_at what
 
+-- that after these steps
 abbrev pub phase_of : List Step → Phase
 phase_of [] = Open
 phase_of (s ∷ before) = phase_by (is_fault s.mark) s.what

@@ -34,6 +34,7 @@ IsNoEnd End = ⊥
 abbrev pub end_told : Told
 end_told = record { link = 0; us = 0; what = End }
 
+-- a media packet as a step keeps it
 abbrev pub packet_of : Offered → Packet
 packet_of a = record { flow = a.flow; width = a.width; word = a.word; stamp = a.stamp; payload = a.payload.now }
 

@@ -1,14 +1,16 @@
 -- What a worker did, by what its objects tell.
-use Rattle.std.specs.Prelude.{◌≡◌, ℕ, List, Bool, Option, Some}
+use Rattle.std.specs.Prelude.{◌≡◌, ℕ, List, Bool, Option, None, Some}
 use Rattle.outside_io.specs.Causes.{RoseWhere}
 use Rattle.outside_io.specs.declared.channel.Channel.{Channel}
 use Rattle.outside_net.specs.Links.{Datagram, Answer}
 use Rattle.rist_wire.specs.declared.session.Session.{Session}
 use Rattle.rist_desk.specs.declared.ended.Ended.{Ended}
+use Rattle.rist_desk.specs.declared.ended.Ended.TheVariants as ends
 use Rattle.rist_desk.specs.declared.step.Step.{Step}
 use Rattle.rist_desk.specs.declared.worker.Limits.{Limits}
 use Rattle.rist_desk.specs.declared.worker.Worker.{Worker}
-use Rattle.rist_desk.specs.Sending.{holds}
+use Rattle.rist_desk.specs.Desk.{Given}
+use Rattle.rist_desk.specs.Sending.{holds, LacksRoom}
 use Rattle.rist_desk.specs.Turns.{Feed, IsServed}
 use Rattle.rist_desk.specs.Inside.Going.{IsTask, is_link_end, is_link_failure}
 
@@ -26,14 +28,29 @@ pub record IsFeed (f : Feed) (session : Session) (place : ℕ) (limits : Limits)
   pub moments_are : moments ≡ Some f.moments
   pub answers_are : answers ≡ Some f.answers
 
--- the worker at this place ended: its own list has gained the steps of its turns, and its link what they made
-pub record Serves {L C U : Type 0} (moments : C → Option (ℕ → ℕ)) (tells : LinkTells L) (list : U → Option (List Step)) (limits : Limits) (place : ℕ) (old new : Worker L C U) : Type 0 where
+-- The worker at this place ended: its own list has gained the steps of its turns, and its link what they made. Of a named desk that
+-- tells its steps, that is what the rules make.
+pub record ServesBy {L C U : Type 0} (desk : Option Given) (moments : C → Option (ℕ → ℕ)) (tells : LinkTells L) (list : U → Option (List Step)) (limits : Limits) (place : ℕ) (old new : Worker L C U) : Type 0 where
   pub end : Ended
   pub ended : new.end ≡ Some end
   pub served : (f : Feed) → IsFeed f old.opener place limits (moments old.clock) (tells.reads old.link)
-      → IsServed f (tells.knows old.link) end (moments new.clock) (tells.reads new.link)
+      → IsServed desk f (tells.knows old.link) end (moments new.clock) (tells.reads new.link)
       (holds (list old.trace) (tells.taken old.link)) (holds (list new.trace) (tells.taken new.link))
   pub session : new.opener ≡ old.opener
   -- End and Failed come exactly where the link's count rose
   pub end_cause : RoseWhere (is_link_end (Some end)) (tells.ends old.link) (tells.ends new.link)
   pub failed_cause : RoseWhere (is_link_failure (Some end)) (tells.faults old.link) (tells.faults new.link)
+
+-- so, whatever the desk
+abbrev pub Serves : {L C U : Type 0} → (C → Option (ℕ → ℕ)) → LinkTells L → (U → Option (List Step)) → Limits → ℕ → Worker L C U → Worker L C U → Type 0
+Serves moments tells list limits place old new = ServesBy None moments tells list limits place old new
+
+-- what a kind of traces tells, and how many steps one takes
+pub record TraceTells (U : Type 0) : Type 0 where
+  pub list : U → Option (List Step)
+  pub limit : U → Option ℕ
+
+-- so on this desk; and where it ended since a trace was full, that is its own, or the desk's was
+pub record ServesOn {L C U : Type 0} (given : Given) (moments : C → Option (ℕ → ℕ)) (tells : LinkTells L) (trace : TraceTells U) (limits : Limits) (place : ℕ) (old new : Worker L C U) : Type 0 where
+  pub made : ServesBy (Some given) moments tells trace.list limits place old new
+  pub full : new.end ≡ Some ends.TraceFull → LacksRoom given (trace.limit new.trace) (trace.list new.trace)

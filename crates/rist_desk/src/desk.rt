@@ -6,10 +6,13 @@ ghost use Rattle.reorder_buffer.specs.declared.phase.Phase.TheVariants.{Open};
 ghost use Rattle.outside_net.specs.Traces.{is_full};
 ghost use Rattle.rist_ends.specs.Told.{IsFit};
 ghost use Rattle.rist_ends.specs.Outcome.{outcome_with};
+ghost use Rattle.rist_ends.specs.Receiver.{settings_of};
 ghost use Rattle.rist_desk.specs.declared.step.Step.{Step};
+ghost use Rattle.rist_desk.specs.Aside.{HandsOn};
 ghost use Rattle.rist_desk.specs.Made.{IsNoEnd, end_told, step_after, steps_with};
-ghost use Rattle.rist_desk.specs.Desk.{IsNew, IsDesk, StandsFor, MakesDue, is_write_fault, is_cut_off, state_of};
+ghost use Rattle.rist_desk.specs.Desk.{IsNew, IsDesk, StandsFor, MakesDue, IsDueAfter, is_write_fault, is_cut_off, state_of};
 
+use crate::beside::{Beside, Side};
 use crate::name::Name;
 use crate::step::Step;
 use crate::trace::{StepTrace, keep};
@@ -74,6 +77,10 @@ impl<N: Name, T: StepTrace + Drop, K: Sink + Drop> Desk<N, T, K> {
         // Opened in the session, they are those that the rules make after the steps that its trace tells.
         ensures opened { (list : List Step) → self.old.kept ≡ Some list → result ≡ Ok Answer.Made
             → MakesDue N.given (reverse list) told.now outs.new }
+        // A step that was made is legal after these, and all that is due to it was made, or nothing.
+        ensures due { (list : List Step) → self.old.kept ≡ Some list → IfOk result (λ answer.
+            IsDueAfter N.given (reverse list) told.now (outcome_with answer outs.new)) }
+        ensures desk { IsDesk N.given self.old }
     {
         match self.trace.room() {
             Ok(()) => {}
@@ -107,7 +114,8 @@ impl<N: Name, T: StepTrace + Drop, K: Sink + Drop> Desk<N, T, K> {
         (receiver, trace, sink)
     }
 
-    /// Tells the end, which makes no datagrams, and gives its parts back. It is Full, and the end isn't told, exactly where the trace is at its limit.
+    /// Tells the end, which makes no datagrams, and gives its parts back. It is Full, and the end isn't told, exactly where the
+    /// trace is at its limit.
     pub fn finish(self, outs: &mut Outs) -> (Result<Answer, Full>, Receiver, T, K)
         ensures full { has_failed result.0 ≡ is_full self.limit self.kept }
         ensures same { OnErr result.0 (self
@@ -115,6 +123,7 @@ impl<N: Name, T: StepTrace + Drop, K: Sink + Drop> Desk<N, T, K> {
         ensures kept { IfOk result.0 (λ answer. T.list result.2
             ≡ option_map (steps_with (step_after end_told (outcome_with answer outs.new))) self.kept) }
         ensures desk { IsDesk N.given self }
+        ensures settings { settings_of result.1 ≡ N.given.settings }
         ensures stands { (list : List Step) → T.list result.2 ≡ Some list → StandsFor N.given
             (state_of result.1 (T.list result.2) (T.limit result.2) (K.contents result.3) (K.faults result.3))
             (reverse list) }
@@ -140,5 +149,16 @@ impl<N: Name, T: StepTrace + Drop, K: Sink + Drop> Desk<N, T, K> {
         let answer = receiver.step_into(&told, outs, &mut sink);
         keep(&mut trace, &told, answer, outs);
         (Ok(answer), receiver, trace, sink)
+    }
+}
+
+impl<N: Name, T: StepTrace + Drop, K: Beside + Drop> Desk<N, T, K> {
+    /// Hands an aside on to the sink: one read of its link at a place, at a moment in microseconds, and what is due there. It is no
+    /// step: the receiver, the steps that the trace tells, and what the sink tells stay as they are.
+    pub fn aside(&mut self, us: u64, link: u8) -> Side
+        ensures same { self.new ≡ self.old }
+        ensures looks { HandsOn K.contents K.faults K.looks self.old us link result }
+    {
+        self.sink.aside(us, link)
     }
 }

@@ -2,9 +2,11 @@
 ghost use Rattle.std.specs.Prelude.{◌≡◌, ◌≤◌, ◌<◌, ℕ, length};
 ghost use Rattle.seq_unwrap.specs.Nearest.{cycle_of};
 ghost use Rattle.rist_wire.specs.Media.{content_of};
-ghost use Rattle.rist_ends.specs.Told.{IsFitArrival, IsFitWhat};
+ghost use Rattle.rist_ends.specs.Told.{IsFitArrival, IsFitWhat, input_of};
 ghost use Rattle.rist_desk.specs.Made.{packet_of, event_of, IsNoEnd};
-ghost use Rattle.rist_desk.specs.Items.{packet_read, event_read};
+ghost use Rattle.receiver_rules.specs.Seen.{seen};
+ghost use Rattle.rist_desk.specs.Steps.{arrival_of};
+ghost use Rattle.rist_desk.specs.Items.{packet_read, event_read, input_read};
 
 use receiver_rules::Arrival;
 use rist_ends::What;
@@ -28,6 +30,7 @@ fn content_in<'a>(media: &Media<'a>, block: &'a mut [u8; MAX_PAYLOAD]) -> &'a [u
 
 fn arrival_in<'a>(media: &Media<'a>, block: &'a mut [u8; MAX_PAYLOAD]) -> Arrival<'a>
     ensures value { packet_of result ≡ packet_read media.now }
+    ensures seen { seen result ≡ arrival_of (packet_read media.now) }
     ensures fits { IsFitArrival result }
 {
     Arrival {
@@ -45,6 +48,7 @@ pub fn what_of<'a>(
     block: &'a mut [u8; MAX_PAYLOAD],
 ) -> What<'a>
     ensures value { (us : ℕ) → event_of us result ≡ event_read us item.now }
+    ensures input { (us : ℕ) → input_of us result ≡ input_read us item.now }
     ensures fits { IsFitWhat result }
     ensures going { IsNoEnd result }
 {

@@ -2,6 +2,7 @@
 //! steps that were made on it, where its trace tells them, and each worker's own list.
 #![tactic(auto)]
 
+mod beside;
 mod desk;
 mod echoes;
 mod ended;
@@ -20,6 +21,7 @@ mod turn;
 mod words;
 mod worker;
 
+pub use beside::{Beside, Side};
 pub use desk::Desk;
 pub use ended::Ended;
 pub use name::Name;

@@ -1,12 +1,12 @@
 //! A worker's steps on the desk, and what they make on its link.
-ghost use Rattle.std.specs.Prelude.{◌≡◌, ◌<◌, [], ◌∷◌, ◌++◌, IfErr, OnOk, OnErr, ℕ, List, Some, option_map};
+ghost use Rattle.std.specs.Prelude.{◌≡◌, ◌<◌, [], ◌∷◌, ◌++◌, IfErr, OnOk, OnErr, ℕ, List, Some, Err, option_map};
 ghost use Rattle.outside_io.specs.Causes.{HasCause, RoseWhere};
 ghost use Rattle.rist_reporter.specs.OneMore.{outs_of};
 ghost use Rattle.rist_ends.specs.Told.{IsFit};
-ghost use Rattle.rist_desk.specs.Made.{IsNoEnd, event_of};
-ghost use Rattle.rist_desk.specs.Items.{unmarked, datagram_step};
+ghost use Rattle.rist_desk.specs.Made.{IsNoEnd};
+ghost use Rattle.rist_desk.specs.Items.{told_plan, datagram_plan};
 ghost use Rattle.rist_desk.specs.Turns.{is_tick_due, tick_steps, ticked_after};
-ghost use Rattle.rist_desk.specs.Sending.{Goes, CutShort, holds, written, written_where};
+ghost use Rattle.rist_desk.specs.Sending.{Goes, CutShort, LacksRoom, holds, written, written_where};
 ghost use Rattle.rist_desk.specs.Inside.Links.{IsKept, IsInside, SentPart, has_link_failed};
 
 use crate::desk::Desk;
@@ -55,13 +55,14 @@ fn make_step<N: Name, T: StepTrace + Drop, K: Sink + Drop, L: Link, U: StepTrace
 ) -> Result<(), Ended>
     requires fits { IsFit told.now }
     requires going { IsNoEnd told.now.what }
-    ensures ok { OnOk result (Goes (L.knows link.old) (holds (U.list own.old) (L.taken link.old))
+    ensures ok { OnOk result (Goes (Some N.given) (L.knows link.old) (holds (U.list own.old) (L.taken link.old))
         (holds (U.list own.new) (L.taken link.new))
-        (unmarked told.now.link told.now.us (event_of told.now.us told.now.what) ∷ [])) }
-    ensures err { IfErr result (λ end. CutShort (L.knows link.old) end (holds (U.list own.old) (L.taken link.old))
+        (told_plan told.now ∷ [])) }
+    ensures err { IfErr result (λ end. CutShort (Some N.given) (L.knows link.old) end (holds (U.list own.old) (L.taken link.old))
         (holds (U.list own.new) (L.taken link.new))
-        (unmarked told.now.link told.now.us (event_of told.now.us told.now.what) ∷ [])) }
+        (told_plan told.now ∷ [])) }
     ensures inside { IfErr result IsInside }
+    ensures full { result ≡ Err Ended.TraceFull → LacksRoom N.given (U.limit own.new) (U.list own.new) }
     ensures same { IsKept L.reads L.ends L.knows link.old link.new }
     ensures cause { RoseWhere (has_link_failed result) (L.faults link.old) (L.faults link.new) }
 {
@@ -102,11 +103,12 @@ pub fn step_datagram<N: Name, T: StepTrace + Drop, K: Sink + Drop, L: Link, U: S
     octets: &mut [u8],
 ) -> Result<(), Ended>
     requires place { place < 16 }
-    ensures ok { OnOk result (Goes (L.knows link.old) (holds (U.list own.old) (L.taken link.old))
-        (holds (U.list own.new) (L.taken link.new)) (datagram_step opener.old place us channel octets.old ∷ [])) }
-    ensures err { IfErr result (λ end. CutShort (L.knows link.old) end (holds (U.list own.old) (L.taken link.old))
-        (holds (U.list own.new) (L.taken link.new)) (datagram_step opener.old place us channel octets.old ∷ [])) }
+    ensures ok { OnOk result (Goes (Some N.given) (L.knows link.old) (holds (U.list own.old) (L.taken link.old))
+        (holds (U.list own.new) (L.taken link.new)) (datagram_plan opener.old place us channel octets.old ∷ [])) }
+    ensures err { IfErr result (λ end. CutShort (Some N.given) (L.knows link.old) end (holds (U.list own.old) (L.taken link.old))
+        (holds (U.list own.new) (L.taken link.new)) (datagram_plan opener.old place us channel octets.old ∷ [])) }
     ensures inside { IfErr result IsInside }
+    ensures full { result ≡ Err Ended.TraceFull → LacksRoom N.given (U.limit own.new) (U.list own.new) }
     ensures same { IsKept L.reads L.ends L.knows link.old link.new }
     ensures cause { RoseWhere (has_link_failed result) (L.faults link.old) (L.faults link.new) }
     ensures opener { opener.new ≡ opener.old }
@@ -133,11 +135,12 @@ pub fn step_tick<N: Name, T: StepTrace + Drop, K: Sink + Drop, L: Link, U: StepT
     ticked: &mut Option<u64>,
 ) -> Result<(), Ended>
     requires place { place < 16 }
-    ensures ok { OnOk result (Goes (L.knows link.old) (holds (U.list own.old) (L.taken link.old))
+    ensures ok { OnOk result (Goes (Some N.given) (L.knows link.old) (holds (U.list own.old) (L.taken link.old))
         (holds (U.list own.new) (L.taken link.new)) (tick_steps place us (is_tick_due ticked.old us))) }
-    ensures err { IfErr result (λ end. CutShort (L.knows link.old) end (holds (U.list own.old) (L.taken link.old))
+    ensures err { IfErr result (λ end. CutShort (Some N.given) (L.knows link.old) end (holds (U.list own.old) (L.taken link.old))
         (holds (U.list own.new) (L.taken link.new)) (tick_steps place us (is_tick_due ticked.old us))) }
     ensures inside { IfErr result IsInside }
+    ensures full { result ≡ Err Ended.TraceFull → LacksRoom N.given (U.limit own.new) (U.list own.new) }
     ensures same { IsKept L.reads L.ends L.knows link.old link.new }
     ensures cause { RoseWhere (has_link_failed result) (L.faults link.old) (L.faults link.new) }
     ensures ticked { ticked.new ≡ ticked_after ticked.old us }

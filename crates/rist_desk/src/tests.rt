@@ -4,7 +4,7 @@ ghost use Rattle.rist_wire.specs.Session.{IsSession};
 ghost use Rattle.rist_desk.specs.Desk.{IsNew, state_of};
 
 use super::*;
-use outside_io::{Profile, Sink, Store8};
+use outside_io::{Failed, Profile, Sink, Store8};
 use outside_net::{Full, Kept, Quiet, Trace};
 use receiver_rules::{Arrival, Verdict};
 use rist_ends::{Answer, Outs, Receiver, Settings, Told, What};
@@ -41,8 +41,8 @@ struct Run<T> {
 }
 
 /// Brings a packet of one octet at 0 us.
-fn bring<N: Name, T: StepTrace + Drop>(
-    desk: &mut Desk<N, T, Store8>,
+fn bring<N: Name, T: StepTrace + Drop, K: Sink + Drop>(
+    desk: &mut Desk<N, T, K>,
     link: u8,
     word: u16,
     outs: &mut Outs,
@@ -158,5 +158,74 @@ fn a_silent_desk_steps_as_well(rt: HostRuntime) -> Result<(), Fail> {
     assert!(rt; run.answers.get(3) == Some(&Ok(TWICE)));
     assert!(rt; run.last == Ok(Answer::WriteFault));
     assert!(rt; run.sink.octets() == b"AB".as_slice());
+    Ok(())
+}
+
+/// A sink that counts how often it was put to and looked at.
+#[derive(Drop)]
+struct Counting {
+    inner: Store8,
+    puts: u64,
+    looks: u64,
+}
+
+impl Sink for Counting {
+    ghost contents = { λ sink. Some sink.inner.contents };
+
+    ghost faults = { λ sink. sink.inner.calls.faults };
+
+    fn put(&mut self, piece: &[u8]) -> Result<(), Failed> {
+        self.puts = self.puts.saturating_add(1);
+        self.inner.put(piece)
+    }
+}
+
+impl Beside for Counting {
+    ghost use Rattle.rist_desk.specs.declared.beside.Side.TheVariants as Side;
+
+    ghost looks = { λ old new us link side. side ≡ Side.Quiet old.puts };
+
+    fn aside(&mut self, _us: u64, _link: u8) -> Side {
+        self.looks = self.looks.saturating_add(1);
+        Side::Quiet(self.puts)
+    }
+}
+
+/// Looks before and after a packet, and then the end.
+fn looked<N: Name>(
+    receiver: Receiver,
+    trace: Kept<Step>,
+    sink: Counting,
+) -> (Side, Side, Kept<Step>, Counting)
+    requires fresh { IsNew N.given
+        (state_of receiver (Some trace.items) (Some trace.limit) (Some sink.inner.contents) sink.inner.calls.faults) }
+{
+    let mut desk: Desk<N, Kept<Step>, Counting> = Desk::with(receiver, trace, sink);
+    let mut outs = Outs::none();
+    let first = desk.aside(0, 0);
+    let _ = bring(&mut desk, 0, 10, &mut outs);
+    let second = desk.aside(0, 0);
+    let (_last, _receiver, trace, sink) = desk.finish(&mut outs);
+    (first, second, trace, sink)
+}
+
+/// The same in memory.
+fn looking(alloc: Global) -> Result<(Side, Side, Kept<Step>, Counting), Fail> {
+    let receiver = Receiver::with(alloc, &Settings::muted(1000, 8), &simple(), None)?;
+    let trace: Kept<Step> = Kept::with(alloc, 8)?;
+    let sink = Counting {
+        inner: Store8::with(alloc, 64, &[])?,
+        puts: 0,
+        looks: 0,
+    };
+    Ok(looked::<Brand>(receiver, trace, sink))
+}
+
+#[test]
+fn an_aside_is_no_step(rt: HostRuntime) -> Result<(), Fail> {
+    let (first, second, trace, sink) = looking(rt.alloc())?;
+    assert!(rt; first == Side::Quiet(0) && second == Side::Quiet(0));
+    assert!(rt; trace.kept().len() == 2);
+    assert!(rt; sink.looks == 2 && sink.puts == 1 && sink.inner.octets() == b"A".as_slice());
     Ok(())
 }

@@ -4,7 +4,7 @@ ghost use Rattle.outside_io.specs.declared.channel.Channel.{Channel};
 ghost use Rattle.outside_io.specs.Causes.{RoseWhere};
 ghost use Rattle.outside_net.specs.Links.{Gave, Quiet, answer_of};
 ghost use Rattle.rist_desk.specs.Turns.{Feed, is_tick_due, tick_steps, turn_steps, ticked_after, quiet_since, is_idle, end_by, IsServed};
-ghost use Rattle.rist_desk.specs.Sending.{Holds, holds, Goes, TurnEnds};
+ghost use Rattle.rist_desk.specs.Sending.{Holds, holds, Goes, TurnEnds, LacksRoom};
 ghost use Rattle.rist_desk.specs.Inside.Links.{IsKept};
 ghost use Rattle.rist_desk.specs.Inside.Going.{IsTask, IsGoing, is_link_end, is_link_failure};
 
@@ -36,18 +36,19 @@ fn datagram_turn<N: Name, T: StepTrace + Drop, K: Sink + Drop, L: Link, U: StepT
     last: bool,
 ) -> Option<Ended>
     requires place { place < 16 }
-    ensures gains { IfNone result (Goes (L.knows link.old) (holds (U.list own.old) (L.taken link.old))
+    ensures gains { IfNone result (Goes (Some N.given) (L.knows link.old) (holds (U.list own.old) (L.taken link.old))
         (holds (U.list own.new) (L.taken link.new))
         (turn_steps opener.old place ticked.old us (Gave (record { channel = channel; octets = octets.old })))) }
     ensures going { IfNone result (last ≡ false) }
     ensures ticked { IfNone result (ticked.new ≡ ticked_after ticked.old us) }
-    ensures ended { (idle : Bool) → IfSome result (λ end. TurnEnds (L.knows link.old) end
+    ensures ended { (idle : Bool) → IfSome result (λ end. TurnEnds (Some N.given) (L.knows link.old) end
         (end_by (Gave (record { channel = channel; octets = octets.old })) last idle)
         (holds (U.list own.old) (L.taken link.old)) (holds (U.list own.new) (L.taken link.new))
         (turn_steps opener.old place ticked.old us (Gave (record { channel = channel; octets = octets.old })))) }
     ensures same { IsKept L.reads L.ends L.knows link.old link.new }
     ensures opener { opener.new ≡ opener.old }
     ensures inside { is_link_end result ≡ false }
+    ensures full { result ≡ Some Ended.TraceFull → LacksRoom N.given (U.limit own.new) (U.list own.new) }
     ensures cause { RoseWhere (is_link_failure result) (L.faults link.old) (L.faults link.new) }
 {
     match step_datagram(
@@ -77,15 +78,16 @@ fn quiet_turn<N: Name, T: StepTrace + Drop, K: Sink + Drop, L: Link, U: StepTrac
     idle: bool,
 ) -> Option<Ended>
     requires place { place < 16 }
-    ensures gains { IfNone result (Goes (L.knows link.old) (holds (U.list own.old) (L.taken link.old))
+    ensures gains { IfNone result (Goes (Some N.given) (L.knows link.old) (holds (U.list own.old) (L.taken link.old))
         (holds (U.list own.new) (L.taken link.new)) (tick_steps place us (is_tick_due ticked.old us))) }
     ensures going { IfNone result ((last ≡ false) × (idle ≡ false)) }
     ensures ticked { IfNone result (ticked.new ≡ ticked_after ticked.old us) }
-    ensures ended { IfSome result (λ end. TurnEnds (L.knows link.old) end (end_by Quiet last idle)
+    ensures ended { IfSome result (λ end. TurnEnds (Some N.given) (L.knows link.old) end (end_by Quiet last idle)
         (holds (U.list own.old) (L.taken link.old)) (holds (U.list own.new) (L.taken link.new))
         (tick_steps place us (is_tick_due ticked.old us))) }
     ensures same { IsKept L.reads L.ends L.knows link.old link.new }
     ensures inside { is_link_end result ≡ false }
+    ensures full { result ≡ Some Ended.TraceFull → LacksRoom N.given (U.limit own.new) (U.list own.new) }
     ensures cause { RoseWhere (is_link_failure result) (L.faults link.old) (L.faults link.new) }
 {
     match step_tick(rt, desk, link, own, outs, place, us, ticked) {
@@ -133,17 +135,18 @@ pub fn turn<N: Name, T: StepTrace + Drop, K: Sink + Drop, L: Link, C: Clock, U: 
     requires place { place < 16 }
     ensures going { IfNone result ((f : Feed) (n : ℕ) (knows : Channel → Bool) (first : Holds)
         → IsTask f worker.old.opener place limits.now → last ≡ nat_le f.turns (n + 1)
-        → IsGoing f n knows (L.knows worker.old.link) (C.moments worker.old.clock) (L.reads worker.old.link)
+        → IsGoing (Some N.given) f n knows (L.knows worker.old.link) (C.moments worker.old.clock) (L.reads worker.old.link)
         first (holds (U.list worker.old.trace) (L.taken worker.old.link)) ticked.old since.old
-        → IsGoing f (n + 1) knows (L.knows worker.new.link) (C.moments worker.new.clock) (L.reads worker.new.link)
+        → IsGoing (Some N.given) f (n + 1) knows (L.knows worker.new.link) (C.moments worker.new.clock) (L.reads worker.new.link)
         first (holds (U.list worker.new.trace) (L.taken worker.new.link)) ticked.new since.new) }
     ensures ended { IfSome result (λ end. (f : Feed) (n : ℕ) (knows : Channel → Bool) (first : Holds)
         → IsTask f worker.old.opener place limits.now → last ≡ nat_le f.turns (n + 1)
-        → IsGoing f n knows (L.knows worker.old.link) (C.moments worker.old.clock) (L.reads worker.old.link)
+        → IsGoing (Some N.given) f n knows (L.knows worker.old.link) (C.moments worker.old.clock) (L.reads worker.old.link)
         first (holds (U.list worker.old.trace) (L.taken worker.old.link)) ticked.old since.old
-        → IsServed f knows end (C.moments worker.new.clock) (L.reads worker.new.link)
+        → IsServed (Some N.given) f knows end (C.moments worker.new.clock) (L.reads worker.new.link)
         first (holds (U.list worker.new.trace) (L.taken worker.new.link))) }
     ensures more { IfNone result (last ≡ false) }
+    ensures full { result ≡ Some Ended.TraceFull → LacksRoom N.given (U.limit worker.new.trace) (U.list worker.new.trace) }
     ensures session { worker.new.opener ≡ worker.old.opener }
     ensures same { worker.new.end ≡ worker.old.end }
     ensures ends { RoseWhere (is_link_end result) (L.ends worker.old.link) (L.ends worker.new.link) }

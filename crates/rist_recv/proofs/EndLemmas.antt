@@ -1,7 +1,8 @@
 -- What the lists hold where the end was told, and where it wasn't.
-use Rattle.std.proofs.Common.{◌≡◌, ◌≢◌, ◌↔◌, ◌⊎◌, inl, inr, ℕ, List, [], ◌∷◌, ◌++◌, reverse, Bool, true, false, Option, None, Some, unwrap_or, refl, ap, sym, ◌∙◌, subst}
+use Rattle.std.proofs.Common.{◌≡◌, ◌≢◌, ◌≤◌, ◌↔◌, ◌⊎◌, inl, inr, ℕ, List, [], ◌∷◌, ◌++◌, reverse, Bool, true, false, Option, None, Some, unwrap_or, refl, ap, sym, ◌∙◌, subst}
 use Rattle.std.specs.Prelude.{Result, Ok, Err, IfOk, OnErr}
 use Rattle.std.specs.Option.{option_map}
+use Rattle.std.specs.List.{concat}
 use Rattle.outside_io.specs.Causes as causes
 use Rattle.outside_io.specs.Causes.{RoseWhere}
 use Rattle.outside_net.specs.declared.trace.Full.{Full}
@@ -24,6 +25,11 @@ use Rattle.rist_compare.specs.declared.tear.Tear.{Tear}
 use Rattle.rist_compare.specs.Tears.{Agree, IsFirstTear}
 use Rattle.rist_recv.specs.declared.deciding.Last.{Last}
 use Rattle.rist_recv.specs.declared.deciding.Last.TheVariants as lasts
+use Rattle.receiver_rules.specs.Steps.{end_step}
+use Rattle.receiver_rules.specs.History.{released_payloads}
+use Rattle.receiver_rules.specs.Sent.{SentStream, Delivery, HasSteadyTimestamps, AreDeliveriesOf}
+use Rattle.receiver_rules.proofs.SentLemmas as sent
+use Rattle.rist_recv.specs.Exact.{IsRunOf, reached_payloads}
 use Rattle.rist_recv.specs.Endings.{LacksRoom}
 use Rattle.rist_recv.specs.Receiving.{the_end, IsWhole, HasReceived, IsTorn}
 use Rattle.rist_recv.specs.Inside.Deciding.{has_fault, last_by, last_of, has_failed}
@@ -185,3 +191,16 @@ torn_by given d new failed r outs read own tear t f some told is = record {
   whole = whole_end given d new failed r outs f.desk f.full f.kept f.stands told;
   first = subst (λ (l : List Step). IsFirstTear l own t) f.read_is (some.0 is);
 }
+
+-- ---- what was reached
+
+pub whole_is_exact : (given : Given) (p : SentStream) (run : List Delivery) (steps : List Step) (kept : Option (List Step)) (contents : Option (List ℕ)) (octets : List ℕ)
+    → IsWhole given (Some steps) kept contents → contents ≡ Some octets → IsRunOf p run steps → 1 ≤ given.settings.limits.playout_delay → HasSteadyTimestamps p
+    → AreDeliveriesOf given.settings.limits p run → octets ≡ concat (reached_payloads given.settings.limits p run)
+whole_is_exact given p run steps kept contents octets whole told is some steady honest =
+    let all : List Step = steps ++ the_end ∷ [] in
+    let back : reverse all ≡ the_end ∷ reverse steps = reverse_more steps the_end in
+    whole.sink all octets whole.ended told
+    ∙ ap (released_by (setup_of given)) back
+    ∙ ap (λ h. concat (released_payloads given.settings.limits (end_step ∷ h))) is
+    ∙ ap concat (sent.release_set given.settings.limits p run steady some honest)

@@ -1,2 +1,4 @@
 pub mod EndLemmas
 pub mod TornLemmas
+pub mod SeatLemmas
+pub mod RunLemmas

@@ -1,4 +1,4 @@
--- What is printed of an ending.
+-- What is printed of a tear.
 use Rattle.std.specs.Prelude.{ℕ, List, ◌++◌, codes, decimal, Option, None, Some}
 use Rattle.receiver_rules.specs.declared.verdict.Verdict.TheVariants as verdicts
 use Rattle.rist_desk.specs.declared.step.Event.{Event}
@@ -6,9 +6,9 @@ use Rattle.rist_desk.specs.declared.step.Event.TheVariants as events
 use Rattle.rist_desk.specs.declared.step.Mark.{Mark}
 use Rattle.rist_desk.specs.declared.step.Mark.TheVariants as marks
 use Rattle.rist_desk.specs.declared.step.Step.{Step}
-use Rattle.rist_recv.specs.declared.ending.Ending.{Ending}
-use Rattle.rist_recv.specs.declared.ending.Ending.TheVariants as endings
+use Rattle.rist_compare.specs.declared.tear.Tear.{Tear}
 
+-- what came with a step
 abbrev pub kind_text : Event → List ℕ
 kind_text (events.Media packet) = codes "media"
 kind_text (events.Control echoes) = codes "control"
@@ -46,12 +46,8 @@ there_text None = codes "none"
 there_text (Some s) =
     kind_text s.what ++ (codes " " ++ (decimal s.at ++ (codes " " ++ (decimal (word_in s.what) ++ (codes " " ++ decimal (mark_number s.mark))))))
 
-abbrev pub ending_text : Ending → List ℕ
-ending_text endings.WriteFault = codes "write failed"
-ending_text endings.Spent = codes "keys spent"
-ending_text endings.TraceFull = codes "trace full"
-ending_text (endings.Torn t) =
+-- where the lists differ first, and what stands there in each
+abbrev pub tear_text : Tear → List ℕ
+tear_text t =
     codes "torn: link " ++ (decimal t.link ++ (codes " step " ++ (decimal t.place
     ++ (codes ": desk " ++ (there_text t.desk ++ (codes ", own " ++ there_text t.own))))))
-ending_text endings.LinksDown = codes "all links down"
-ending_text endings.Done = codes "done"

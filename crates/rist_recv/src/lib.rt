@@ -6,9 +6,15 @@ mod deciding;
 mod ending;
 pub mod laws;
 mod receiving;
+mod running;
+mod seats;
 #[cfg(test)]
 mod tests;
 mod text;
+mod workers;
 
 pub use ending::Ending;
 pub use receiving::{Received, receive};
+pub use running::{Run, receive_on};
+pub use seats::{Made, MadeTrace, Seat, make};
+pub use text::TearText;

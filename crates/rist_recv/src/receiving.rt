@@ -2,9 +2,10 @@
 ghost use Rattle.std.specs.Prelude.{◌≡◌, ◌<◌, ◌≤◌, ◌^◌, ℕ, List, length, reverse, slice_index_or, is_some, true, false, Some};
 ghost use Rattle.outside_io.specs.Causes.{RoseWhere};
 ghost use Rattle.rist_compare.specs.declared.tear.Tear.{Tear};
+ghost use Rattle.rist_ends.specs.Receiver.{settings_of};
 ghost use Rattle.rist_desk.specs.declared.step.Step.{Step};
 ghost use Rattle.rist_desk.specs.Desk.{IsNew, StandsFor, state_of};
-ghost use Rattle.rist_desk.specs.Serving.{Serves};
+ghost use Rattle.rist_desk.specs.Serving.{Serves, ServesOn};
 ghost use Rattle.rist_recv.specs.declared.ending.Ending.{Ending};
 ghost use Rattle.rist_recv.specs.Endings.{is_spent, is_link_failed, any_worker, all_workers, is_write_fault, IsSound, IsWithoutRoom};
 ghost use Rattle.rist_recv.specs.Receiving.{IsUnused, given_by, own_lists, HasReceived, IsTorn};
@@ -55,10 +56,15 @@ fn session<
     ensures served { (i : ℕ) (d : _) → i < length workers.old → Serves C.moments
         (record { reads = L.reads; taken = L.taken; knows = L.knows; ends = L.ends; faults = L.faults })
         U.list limits.now i (slice_index_or workers.old i d) (slice_index_or workers.new i d) }
+    ensures on { (i : ℕ) (d : _) → i < length workers.old → ServesOn N.given C.moments
+        (record { reads = L.reads; taken = L.taken; knows = L.knows; ends = L.ends; faults = L.faults })
+        (record { list = U.list; limit = U.limit }) limits.now i
+        (slice_index_or workers.old i d) (slice_index_or workers.new i d) }
     ensures stands { (steps : List Step) → T.list result.trace ≡ Some steps → StandsFor N.given
         (state_of result.receiver (T.list result.trace) (T.limit result.trace)
         (K.contents result.sink) (K.faults result.sink)) (reverse steps) }
     ensures tells { is_some (T.list result.trace) ≡ N.given.tells_steps }
+    ensures settings { settings_of result.receiver ≡ N.given.settings }
     ensures fault { RoseWhere (is_write_fault result.ending) N.given.faults (K.faults result.sink) }
     ensures spent { result.ending ≡ Ending.Spent → any_worker is_spent workers.new ≡ true }
     ensures full { result.ending ≡ Ending.TraceFull → IsWithoutRoom workers.new N.given
@@ -118,12 +124,19 @@ pub fn receive<
     ensures served { (i : ℕ) (d : _) → i < length workers.old → Serves C.moments
         (record { reads = L.reads; taken = L.taken; knows = L.knows; ends = L.ends; faults = L.faults })
         U.list limits.now i (slice_index_or workers.old i d) (slice_index_or workers.new i d) }
+    // What it wrote is what its steps made by the rules, where the desk's trace tells its steps; and why a trace was full is told.
+    ensures on { (i : ℕ) (d : _) → i < length workers.old → ServesOn
+        (given_by (state_of receiver (T.list trace) (T.limit trace) (K.contents sink) (K.faults sink))) C.moments
+        (record { reads = L.reads; taken = L.taken; knows = L.knows; ends = L.ends; faults = L.faults })
+        (record { list = U.list; limit = U.limit }) limits.now i
+        (slice_index_or workers.old i d) (slice_index_or workers.new i d) }
     // However it ends, the kept list is a legal history of the receiver, and the sink holds what it releases.
     ensures stands { (steps : List Step) → T.list result.trace ≡ Some steps → StandsFor
         (given_by (state_of receiver (T.list trace) (T.limit trace) (K.contents sink) (K.faults sink)))
         (state_of result.receiver (T.list result.trace) (T.limit result.trace)
         (K.contents result.sink) (K.faults result.sink)) (reverse steps) }
     ensures tells { is_some (T.list result.trace) ≡ is_some (T.list trace) }
+    ensures settings { settings_of result.receiver ≡ settings_of receiver }
     // WriteFault comes exactly where the sink's count rose.
     ensures fault { RoseWhere (is_write_fault result.ending) (K.faults sink) (K.faults result.sink) }
     ensures spent { result.ending ≡ Ending.Spent → any_worker is_spent workers.new ≡ true }

@@ -1,9 +1,9 @@
-//! What is printed of an ending.
+//! What is printed of a tear.
 ghost use Rattle.std.specs.Prelude.{◌≡◌};
 ghost use Rattle.rist_recv.specs.Text.{kind_text, word_in, mark_number};
 
-use crate::ending::Ending;
 use receiver_rules::Verdict;
+use rist_compare::Tear;
 use rist_desk::{Event, Mark, Step};
 use std::fmt::{self, Display, Formatter, Write};
 
@@ -67,28 +67,24 @@ impl<'a> Display for There<'a> {
     }
 }
 
-impl Display for Ending {
-    ghost use Rattle.std.specs.Prelude.{Some};
-    ghost use Rattle.rist_recv.specs.Text.{ending_text};
+/// What is printed of a tear.
+#[derive(Drop)]
+pub struct TearText<'a>(pub &'a Tear);
 
-    ghost output = { λ ending. Some (ending_text ending) };
+impl<'a> Display for TearText<'a> {
+    ghost use Rattle.std.specs.Prelude.{Some};
+    ghost use Rattle.rist_recv.specs.Text.{tear_text};
+
+    ghost output = { λ text. Some (tear_text text.0.now) };
 
     fn fmt<W: Write>(&self, f: &mut Formatter<W>) -> fmt::Result {
-        match self {
-            Ending::WriteFault => f.write_str("write failed"),
-            Ending::Spent => f.write_str("keys spent"),
-            Ending::TraceFull => f.write_str("trace full"),
-            Ending::Torn(tear) => {
-                let desk = There(&tear.desk);
-                let own = There(&tear.own);
-                write!(
-                    f,
-                    "torn: link {} step {}: desk {}, own {}",
-                    tear.link, tear.place, desk, own
-                )
-            }
-            Ending::LinksDown => f.write_str("all links down"),
-            Ending::Done => f.write_str("done"),
-        }
+        let TearText(tear) = self;
+        let desk = There(&tear.desk);
+        let own = There(&tear.own);
+        write!(
+            f,
+            "torn: link {} step {}: desk {}, own {}",
+            tear.link, tear.place, desk, own
+        )
     }
 }

@@ -7,3 +7,6 @@ pub mod SendLemmas
 pub mod PiecesLemmas
 pub mod FrameLemmas
 pub mod WholeLemmas
+pub mod ReceiveLemmas
+pub mod HeardLemmas
+pub mod DoesLemmas

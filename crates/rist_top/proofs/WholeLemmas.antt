@@ -32,7 +32,7 @@ none_of s a b d (inl e) = a e
 none_of s a b d (inr (inl e)) = b e
 none_of s a b d (inr (inr e)) = d e
 
-is_refused : (s : Status) → CanRefuse s ⊎ (CanRefuse s → ⊥)
+pub is_refused : (s : Status) → CanRefuse s ⊎ (CanRefuse s → ⊥)
 is_refused statuses.OpenFault = inl (inl refl)
 is_refused statuses.Memory = inl (inr (inl refl))
 is_refused statuses.EntropyFault = inl (inr (inr refl))
@@ -43,6 +43,8 @@ is_refused statuses.WriteFault = inr (none_of statuses.WriteFault (λ e. cc) (λ
 is_refused (statuses.BadCapture kind at) = inr (none_of (statuses.BadCapture kind at) (λ e. cc) (λ e. cc) (λ e. cc))
 is_refused statuses.TooLong = inr (none_of statuses.TooLong (λ e. cc) (λ e. cc) (λ e. cc))
 is_refused statuses.LinksDown = inr (none_of statuses.LinksDown (λ e. cc) (λ e. cc) (λ e. cc))
+is_refused statuses.TraceFull = inr (none_of statuses.TraceFull (λ e. cc) (λ e. cc) (λ e. cc))
+is_refused (statuses.Torn tear) = inr (none_of (statuses.Torn tear) (λ e. cc) (λ e. cc) (λ e. cc))
 is_refused statuses.Spent = inr (none_of statuses.Spent (λ e. cc) (λ e. cc) (λ e. cc))
 is_refused statuses.TurnsSpent = inr (none_of statuses.TurnsSpent (λ e. cc) (λ e. cc) (λ e. cc))
 

@@ -16,6 +16,8 @@ fault_of (statuses.BadCapture kind at) = NoFault
 fault_of statuses.EntropyFault = NoFault
 fault_of statuses.TooLong = NoFault
 fault_of statuses.LinksDown = NoFault
+fault_of statuses.TraceFull = NoFault
+fault_of (statuses.Torn tear) = NoFault
 fault_of statuses.Spent = NoFault
 fault_of statuses.TurnsSpent = NoFault
 

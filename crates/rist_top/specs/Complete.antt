@@ -6,7 +6,8 @@ use Rattle.outside_host.specs.declared.host.Place.{Place}
 use Rattle.outside_host.specs.declared.host.Place.TheVariants.{Here, Back}
 use Rattle.capture_file.specs.Capture.{Record, IsCapture}
 use Rattle.rist_sender.specs.Links.{Line}
-use Rattle.rist_words.specs.CommandLine.{CommandLine, Replay, Show, Pack, Send, Recv, Gate, SendCommand}
+use Rattle.rist_words.specs.CommandLine.{CommandLine, Replay, Show, Pack, Send, Recv, Gate, SendCommand, RecvCommand}
+use Rattle.rist_compare.specs.declared.tear.Tear.{Tear}
 use Rattle.rist_top.specs.Ran.{source_name, sink_name}
 use Rattle.rist_top.specs.Sealing.{FailedAt}
 use Rattle.rist_top.specs.Objects.{Tells}
@@ -58,3 +59,20 @@ abbrev pub CompletesSending : {I O E L C : Type 0} → Tells I O E → Line L �
 CompletesSending {I} tells line old new c status =
     (source : I) (b : List ℕ) → old.sources c.source ≡ Here source → tells.remaining source ≡ Some b → length b ≤ 2 ^ 40
     → NoneFailed tells old new (Send c) → StaysUp line old.links new.links (length c.links) → IsWhole c status
+
+-- no write to the sink of a receiving and no drawing of random words failed
+pub record NoWriteFailed {I O E L C : Type 0} (tells : Tells I O E) (old new : Shelf I O E L C) (c : RecvCommand) : Type 0 where
+  pub writes : (sink filled : O) → old.sinks c.out ≡ Here sink → new.sinks c.out ≡ Back filled
+      → Rose (tells.write_faults sink) (tells.write_faults filled) → ⊥
+  pub words : FailedAt tells old new → ⊥
+
+-- a receiving came to its end, or too few pairs were left, or its kept steps had no room or differ, or memory was refused
+abbrev pub IsHeard : RecvCommand → Status → Type 0
+IsHeard c status =
+    (status ≡ statuses.Done)
+    ⊎ ((status ≡ statuses.Spent) ⊎ ((status ≡ statuses.TraceFull) ⊎ (((tear : Tear) × (status ≡ statuses.Torn tear)) ⊎ (status ≡ statuses.Memory))))
+
+-- a receiving in which nothing failed but links, of which one stays up, ends so
+abbrev pub CompletesReceiving : {I O E L C : Type 0} → Tells I O E → Line L → Shelf I O E L C → Shelf I O E L C → RecvCommand → Status → Type 0
+CompletesReceiving tells line old new c status =
+    NoWriteFailed tells old new c → StaysUp line old.links new.links (length c.links) → IsHeard c status

@@ -1,10 +1,10 @@
 -- What a run leaves as it stood.
 use Rattle.std.specs.Prelude.{◌≡◌, ◌≢◌, ◌≤◌, ℕ, List, length, map, Bool, false, is_some}
-use Rattle.outside_net.specs.declared.link_spec.Role.TheVariants.{Sends}
-use Rattle.outside_host.specs.Shelf.{Shelf, ChangesSources}
+use Rattle.outside_net.specs.declared.link_spec.Role.TheVariants.{Receives, Sends}
+use Rattle.outside_host.specs.Shelf.{Shelf, ChangesSources, ChangesSinks}
 use Rattle.outside_host.specs.declared.host.Opened.{Opened}
 use Rattle.outside_host.specs.declared.host.Place.{Place}
-use Rattle.rist_words.specs.CommandLine.{CommandLine, Replay, Show, Pack, Send, Recv, Gate, SendCommand}
+use Rattle.rist_words.specs.CommandLine.{CommandLine, Replay, Show, Pack, Send, Recv, Gate, SendCommand, RecvCommand}
 use Rattle.rist_top.specs.Places.{CameBack, IsAsItWas, KeepsLive}
 use Rattle.rist_top.specs.Ran.{source_name, sink_name}
 
@@ -64,3 +64,27 @@ OpensLinksAfter old new c = new.sources c.source ≡ old.sources c.source → Ch
 -- the links that a sending opens, the first first: it sends to each, in the profile of its session
 abbrev pub links_opened : SendCommand → List Opened
 links_opened c = map (λ spec. record { spec = spec; role = Sends; profile = c.session.profile }) c.links
+
+-- all random words stand as they stood but for the first, which came back; that one too where none are drawn
+pub record KeepsWords {I O E L C : Type 0} (old new : Shelf I O E L C) (draws : Bool) : Type 0 where
+  pub others : (place : ℕ) → place ≢ 0 → new.entropies place ≡ old.entropies place
+  pub first : CameBack (old.entropies 0) (new.entropies 0)
+  pub undrawn : draws ≡ false → new.entropies 0 ≡ old.entropies 0
+
+-- what a receiving doesn't speak of stands as it stood, and what it speaks of came back
+pub record KeepsAroundSink {I O E L C : Type 0} (old new : Shelf I O E L C) (c : RecvCommand) : Type 0 where
+  pub sources : new.sources ≡ old.sources
+  pub sinks : (n : List ℕ) → n ≢ c.out → new.sinks n ≡ old.sinks n
+  pub sink : CameBack (old.sinks c.out) (new.sinks c.out)
+  pub links : KeepsLinksBut (length c.links) old.links new.links
+  pub clocks : KeepsLinksBut (length c.links) old.clocks new.clocks
+  pub words : KeepsWords old new (is_some c.session.pass)
+
+-- nothing else is opened before the sink of a receiving could be: where the sink stands as it stood, so do links, clocks and
+-- random words
+abbrev pub OpensLinksAfterSink : {I O E L C : Type 0} → Shelf I O E L C → Shelf I O E L C → RecvCommand → Type 0
+OpensLinksAfterSink old new c = new.sinks c.out ≡ old.sinks c.out → ChangesSinks old new
+
+-- the links that a receiving opens, the first first: it is bound to each, in the profile of its session
+abbrev pub links_received : RecvCommand → List Opened
+links_received c = map (λ spec. record { spec = spec; role = Receives; profile = c.session.profile }) c.links

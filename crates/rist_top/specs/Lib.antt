@@ -8,10 +8,12 @@ pub mod Works
 pub mod Places
 pub mod Sealing
 pub mod Sent
+pub mod Received
 pub mod Pieces
 pub mod Ran
 pub mod Frame
 pub mod Untouched
 pub mod Exact
 pub mod Complete
+pub mod Does
 pub mod Inside

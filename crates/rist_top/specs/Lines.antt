@@ -2,38 +2,48 @@
 use Rattle.std.specs.Prelude.{◌≡◌, Bool, List, Option, Some, None, IsTrue, map, string_bytes}
 use Rattle.std.specs.declared.string.String.{String}
 use Rattle.outside_host.specs.Shelf.{Shelf}
-use Rattle.rist_words.specs.CommandLine.{CommandLine, Replay, Show, Pack, Send, Recv, Gate, SendCommand, line_of}
+use Rattle.rist_words.specs.CommandLine.{CommandLine, Replay, Show, Pack, Send, Recv, Gate, SendCommand, RecvCommand, line_of}
 
 -- they are this line
 abbrev pub IsLine : {A : Type 0} → List (String A) → CommandLine → Type 0
 IsLine words c = line_of (map string_bytes words) ≡ Some c
 
--- a command that is done here: no receiving and no gateway is yet
-abbrev pub IsKnown : CommandLine → Type 0
-IsKnown (Replay c) = Unit {0}
-IsKnown (Show c) = Unit {0}
-IsKnown (Pack c) = Unit {0}
-IsKnown (Send c) = Unit {0}
-IsKnown (Recv c) = ⊥
-IsKnown (Gate c) = ⊥
+-- a command that waits for nobody: no receiving and no gateway does
+abbrev pub IsPlain : CommandLine → Type 0
+IsPlain (Replay c) = Unit {0}
+IsPlain (Show c) = Unit {0}
+IsPlain (Pack c) = Unit {0}
+IsPlain (Send c) = Unit {0}
+IsPlain (Recv c) = ⊥
+IsPlain (Gate c) = ⊥
 
--- a line, if its command is done here
-abbrev pub known : Option CommandLine → Option CommandLine
-known None = None
-known (Some (Replay c)) = Some (Replay c)
-known (Some (Show c)) = Some (Show c)
-known (Some (Pack c)) = Some (Pack c)
-known (Some (Send c)) = Some (Send c)
-known (Some (Recv c)) = None
-known (Some (Gate c)) = None
+-- a line, if its command is such a one
+abbrev pub plain_line : Option CommandLine → Option CommandLine
+plain_line None = None
+plain_line (Some (Replay c)) = Some (Replay c)
+plain_line (Some (Show c)) = Some (Show c)
+plain_line (Some (Pack c)) = Some (Pack c)
+plain_line (Some (Send c)) = Some (Send c)
+plain_line (Some (Recv c)) = None
+plain_line (Some (Gate c)) = None
 
--- they are this one, whose command is done here
-abbrev pub IsKnownLine : {A : Type 0} → List (String A) → CommandLine → Type 0
-IsKnownLine words c = known (line_of (map string_bytes words)) ≡ Some c
+-- a line, if its command is done: a gateway isn't yet
+abbrev pub done_line : Option CommandLine → Option CommandLine
+done_line None = None
+done_line (Some (Replay c)) = Some (Replay c)
+done_line (Some (Show c)) = Some (Show c)
+done_line (Some (Pack c)) = Some (Pack c)
+done_line (Some (Send c)) = Some (Send c)
+done_line (Some (Recv c)) = Some (Recv c)
+done_line (Some (Gate c)) = None
 
--- they are none whose command is done here
+-- they are no line whose command waits for nobody
+abbrev pub IsNoPlainLine : {A : Type 0} → List (String A) → Type 0
+IsNoPlainLine words = plain_line (line_of (map string_bytes words)) ≡ None
+
+-- they are none whose command is done
 abbrev pub IsNoLine : {A : Type 0} → List (String A) → Type 0
-IsNoLine words = known (line_of (map string_bytes words)) ≡ None
+IsNoLine words = done_line (line_of (map string_bytes words)) ≡ None
 
 -- a command over a source and a sink: any but those over links
 abbrev pub IsOverFiles : CommandLine → Type 0
@@ -51,6 +61,10 @@ IfFiles words P = (c : CommandLine) → IsLine words c → IsOverFiles c → P c
 -- P holds of the sending that they are, if they are one
 abbrev pub IfSending : {A : Type 0} → List (String A) → (SendCommand → Type 0) → Type 0
 IfSending words P = (c : SendCommand) → IsLine words (Send c) → P c
+
+-- P holds of the receiving that they are, if they are one
+abbrev pub IfReceiving : {A : Type 0} → List (String A) → (RecvCommand → Type 0) → Type 0
+IfReceiving words P = (c : RecvCommand) → IsLine words (Recv c) → P c
 
 -- a host tells what stands on its shelf, and has handed out no random words yet
 abbrev pub IsFresh : {I O E L C : Type 0} → Bool → Shelf I O E L C → Type 0

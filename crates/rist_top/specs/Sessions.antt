@@ -1,12 +1,16 @@
 -- The session and the settings that a line speaks of.
-use Rattle.std.specs.Prelude.{◌*◌, ℕ, List, length, Option, Some, None, Bool, false, if◌then◌else◌}
+use Rattle.std.specs.Prelude.{◌*◌, ◌==◌, ℕ, List, length, Option, Some, None, Bool, false, if◌then◌else◌}
 use Rattle.seq_unwrap.specs.declared.width.Width.TheVariants.{W16, W32}
 use Rattle.receiver_rules.specs.declared.limits.Limits.{Limits}
 use Rattle.rist_wire.specs.declared.session.Session.{Session}
-use Rattle.rist_words.specs.CommandLine.{ReplayCommand, PackCommand, SendCommand}
+use Rattle.psk_seal.specs.Sealer.{SealerState}
+use Rattle.rist_words.specs.CommandLine.{ReplayCommand, PackCommand, SendCommand, RecvCommand}
 use Rattle.rist_pack.specs.declared.settings.PackSettings.{PackSettings}
 use Rattle.rist_words.specs.CommandLine as lines
 use Rattle.rist_ends.specs.Settings.{limits_of, muted_settings}
+use Rattle.rist_ends.specs.declared.settings.Settings.{Settings as ReceiverSettings}
+use Rattle.rist_desk.specs.declared.worker.Limits.{Limits as WorkerLimits}
+use Rattle.rist_recv.specs.Setup.{Setup as ReceiveSetup, setup_made}
 use Rattle.sender_rules.specs.Bonding.{Bonding, Duplicate, Share}
 use Rattle.rist_sender.specs.Calls.{Rules}
 use Rattle.rist_sender.specs.Sender.{has_keepalives}
@@ -58,3 +62,28 @@ setup_sent c = record {
   session = session_sent c;
   links = length c.links;
 }
+
+-- what the receiver of a receiving is set to
+abbrev pub settings_received : RecvCommand → ReceiverSettings
+settings_received c = record {
+  delay = c.receiver.delay;
+  span = c.receiver.span;
+  reorder = c.receiver.reorder;
+  least = c.receiver.least;
+  tries = c.receiver.tries;
+  nack = c.receiver.nack;
+  own = c.receiver.own;
+  muted = false;
+}
+
+-- how many steps it keeps at most, where it keeps any
+abbrev pub kept_steps : RecvCommand → Option ℕ
+kept_steps c = if c.serving.keep == 0 then None else Some c.serving.keep
+
+-- what its run is set to, under a sealer where there is one
+abbrev pub setup_received : RecvCommand → Option SealerState → ReceiveSetup
+setup_received c sealer = setup_made (settings_received c) (session_read c.session) sealer (kept_steps c)
+
+-- when its workers end, with times in microseconds
+abbrev pub limits_received : RecvCommand → WorkerLimits
+limits_received c = record { turns = c.serving.turns; idle = 1000 * c.serving.idle }

@@ -1,8 +1,9 @@
 -- What is printed for each status.
 use Rattle.std.specs.Prelude.{ℕ, List, ◌++◌, codes, decimal}
 use Rattle.capture_file.specs.Text.{kind_text}
+use Rattle.rist_recv.specs.Text.{tear_text}
 use Rattle.rist_top.specs.declared.status.Status.{Status}
-use Rattle.rist_top.specs.declared.status.Status.TheVariants.{Done, Memory, Usage, OpenFault, ReadFault, WriteFault, BadCapture, EntropyFault, TooLong, LinksDown, Spent, TurnsSpent}
+use Rattle.rist_top.specs.declared.status.Status.TheVariants.{Done, Memory, Usage, OpenFault, ReadFault, WriteFault, BadCapture, EntropyFault, TooLong, LinksDown, TraceFull, Torn, Spent, TurnsSpent}
 
 -- for a bad capture the test that fails and the offset, in decimal digits
 abbrev pub text_of : Status → List ℕ
@@ -16,5 +17,7 @@ text_of (BadCapture kind at) = codes "bad capture: " ++ (kind_text kind ++ (code
 text_of EntropyFault = codes "no randomness"
 text_of TooLong = codes "input too long"
 text_of LinksDown = codes "all links down"
+text_of TraceFull = codes "trace full"
+text_of (Torn tear) = tear_text tear
 text_of Spent = codes "keys spent"
 text_of TurnsSpent = codes "turns spent"

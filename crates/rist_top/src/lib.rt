@@ -2,6 +2,7 @@
 //! sinks tell before and after.
 #![tactic(auto)]
 
+mod receiving;
 mod sealing;
 mod sending;
 mod sessions;
@@ -14,4 +15,4 @@ mod working;
 
 pub use rist_words::USAGE;
 pub use status::Status;
-pub use top::run;
+pub use top::{plain, run};

@@ -2,12 +2,14 @@
 use capture_file::CapKind;
 use capture_walk::WalkBad;
 use outside_host::HostBad;
+use rist_compare::Tear;
 use rist_pack::PackBad;
+use rist_recv::{Ending, TearText};
 use rist_send::SendFault;
 use std::fmt::{self, Display, Formatter, Write};
 
 /// How a command ended.
-#[derive(Clone, Copy, Debug, PartialEq, Eq)]
+#[derive(Drop, PartialEq, Eq)]
 pub enum Status {
     /// The command did its work.
     Done,
@@ -27,9 +29,13 @@ pub enum Status {
     EntropyFault,
     /// A record ends, or what was read of a source goes, past 2^40 octets.
     TooLong,
-    /// Every link of a sending is down: a write on each has failed.
+    /// Every link is down: a write on each has failed, or in a receiving each has failed.
     LinksDown,
-    /// The sealer had no pair for the next datagram, or the sequence numbers have ended.
+    /// A trace of steps was at its limit, and one more step came.
+    TraceFull,
+    /// The kept steps of a receiving and those of its links differ there.
+    Torn(Tear),
+    /// The sealer had no pair for the datagrams that were due, or the sequence numbers have ended.
     Spent,
     /// The turns of a sending were made before its source's end.
     TurnsSpent,
@@ -40,8 +46,8 @@ impl Status {
     ghost use Rattle.rist_top.specs.ExitCodes.{exit_code_of};
 
     /// The exit status of the program.
-    pub fn exit_code(self) -> u8
-        ensures { result ≡ exit_code_of self }
+    pub fn exit_code(&self) -> u8
+        ensures { result ≡ exit_code_of self.now }
     {
         match self {
             Status::Done => 0,
@@ -54,6 +60,8 @@ impl Status {
             Status::EntropyFault => 11,
             Status::TooLong => 12,
             Status::LinksDown => 6,
+            Status::TraceFull => 8,
+            Status::Torn(_) => 9,
             Status::Spent => 10,
             Status::TurnsSpent => 13,
         }
@@ -64,6 +72,7 @@ impl Status {
     ghost use Rattle.std.specs.Prelude.{◌≡◌};
     ghost use Rattle.rist_top.specs.Works.{walk_status, pack_status, host_status};
     ghost use Rattle.rist_top.specs.Sent.{send_status};
+    ghost use Rattle.rist_top.specs.Received.{receive_status};
 
     /// How a walk over a capture ended.
     pub(crate) fn of_walk(end: Result<(), WalkBad>) -> Status
@@ -105,6 +114,20 @@ impl Status {
         }
     }
 
+    /// How a receiving ended.
+    pub(crate) fn of_ending(ending: Ending) -> Status
+        ensures value { result ≡ receive_status ending }
+    {
+        match ending {
+            Ending::Done => Status::Done,
+            Ending::WriteFault => Status::WriteFault,
+            Ending::Spent => Status::Spent,
+            Ending::TraceFull => Status::TraceFull,
+            Ending::Torn(tear) => Status::Torn(tear),
+            Ending::LinksDown => Status::LinksDown,
+        }
+    }
+
     /// Where a host hands nothing out.
     pub(crate) fn of_host(bad: HostBad) -> Status
         ensures value { result ≡ host_status bad }
@@ -134,6 +157,8 @@ impl Display for Status {
             Status::EntropyFault => f.write_str("no randomness"),
             Status::TooLong => f.write_str("input too long"),
             Status::LinksDown => f.write_str("all links down"),
+            Status::TraceFull => f.write_str("trace full"),
+            Status::Torn(tear) => write!(f, "{}", TearText(tear)),
             Status::Spent => f.write_str("keys spent"),
             Status::TurnsSpent => f.write_str("turns spent"),
         }

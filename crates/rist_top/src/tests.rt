@@ -4,7 +4,7 @@ ghost use Rattle.std.specs.List.{All};
 ghost use Rattle.receiver_rules.specs.Bounds.{AreInRange};
 ghost use Rattle.receiver_plain.specs.Told.{IsFit};
 
-use crate::{Status, run};
+use crate::{Status, plain};
 use capture_file::CapKind;
 use outside_host::{Host, MemHost, MemParts, Place, Slot};
 use outside_io::{MemSource, Pieces, Store8, Words};
@@ -98,7 +98,7 @@ fn written(
 ) -> Result<Vec<u8>, Fail> {
     let line = words(alloc, line)?;
     let mut host = host(alloc, source, outside)?;
-    let ended = run(alloc, line.as_slice(), &mut host);
+    let ended = plain(alloc, line.as_slice(), &mut host);
     if ended == Status::Memory {
         return Err(Fail::new("out of memory"));
     }
@@ -190,15 +190,12 @@ fn what_is_no_line_or_not_there_is_refused(rt: HostRuntime) -> Result<(), Fail> 
     ] {
         let line = words(alloc, line)?;
         let mut host = host(alloc, b"", &NOTHING)?;
-        assert_eq!(rt; run(alloc, line.as_slice(), &mut host), Status::Usage);
+        assert!(rt; plain(alloc, line.as_slice(), &mut host) == Status::Usage);
         assert!(rt; host.source("-").is_ok() && host.sink("-").is_ok());
     }
     let missing = words(alloc, "replay file -")?;
     let mut host_without = host(alloc, b"", &NOTHING)?;
-    assert_eq!(rt;
-        run(alloc, missing.as_slice(), &mut host_without),
-        Status::OpenFault
-    );
+    assert!(rt; plain(alloc, missing.as_slice(), &mut host_without) == Status::OpenFault);
     // The second call of the host fails: that for the sink, so the source comes back.
     let line = words(alloc, "replay - -")?;
     let outside = Outside {
@@ -206,10 +203,7 @@ fn what_is_no_line_or_not_there_is_refused(rt: HostRuntime) -> Result<(), Fail> 
         ..NOTHING
     };
     let mut failing = host(alloc, b"", &outside)?;
-    assert_eq!(rt;
-        run(alloc, line.as_slice(), &mut failing),
-        Status::OpenFault
-    );
+    assert!(rt; plain(alloc, line.as_slice(), &mut failing) == Status::OpenFault);
     assert!(rt; failing.returned_source("-").is_some() && failing.returned_sink("-").is_none());
     assert_eq!(rt; Status::EntropyFault.exit_code(), 11);
     Ok(())
@@ -228,7 +222,7 @@ fn what_a_line_does_not_name_is_not_opened(rt: HostRuntime) -> Result<(), Fail> 
     ] {
         let line = words(alloc, line)?;
         let mut host = host(alloc, capture.as_slice(), &NOTHING)?;
-        assert_eq!(rt; run(alloc, line.as_slice(), &mut host), status);
+        assert!(rt; plain(alloc, line.as_slice(), &mut host) == status);
         assert!(rt; host.source("other").is_ok() && host.sink("other").is_ok());
     }
     Ok(())

@@ -1,30 +1,41 @@
 //! The top call, and a line from its objects to its status.
-ghost use Rattle.std.specs.Prelude.{◌≡◌, ◌≢◌, ◌⊎◌, Err, IfOk, IsTrue};
+ghost use Rattle.std.specs.Prelude.{◌≡◌, ◌≢◌, ◌⊎◌, Ok, Err, None, IfOk, IfSome, IsTrue};
 ghost use Rattle.outside_io.specs.Causes.{HasOpenCause, Rose};
-ghost use Rattle.rist_words.specs.CommandLine.{Replay, ReplayCommand, Send, SendCommand};
-ghost use Rattle.rist_words.specs.Shown.{shown};
+ghost use Rattle.rist_words.specs.CommandLine.{Recv, RecvCommand, Send, SendCommand};
+ghost use Rattle.rist_words.specs.Shown.{shown, shown_recv};
 ghost use Rattle.rist_words.specs.Ranges.{IsInRange};
 ghost use Rattle.rist_top.specs.Causes.{CanRefuse, fault_of};
-ghost use Rattle.rist_top.specs.Lines.{IsKnown, IsKnownLine, IsLine, IsNoLine, IsOverFiles, IfFiles, IfSending, IsFresh};
+ghost use Rattle.rist_top.specs.Lines.{IfReceiving, IsFresh, IsLine, IsNoLine, IsNoPlainLine, IsOverFiles, IsPlain};
 ghost use Rattle.rist_top.specs.Ran.{Ran, source_name, sink_name};
 ghost use Rattle.rist_top.specs.Frame.{KeepsAround, KeepsOthers, OpensLinksAfter, OpensSourceFirst, links_opened};
-ghost use Rattle.rist_top.specs.Untouched.{Untouched, LeavesAtMemory};
-ghost use Rattle.rist_top.specs.Exact.{WritesReached};
+ghost use Rattle.rist_top.specs.Frame.{KeepsAroundSink, OpensLinksAfterSink, links_received};
+ghost use Rattle.rist_top.specs.Untouched.{Untouched};
 ghost use Rattle.rist_top.specs.Sealing.{FailedAt};
 ghost use Rattle.rist_top.specs.Sent.{IsUnused, Sent, Unsent};
-ghost use Rattle.rist_top.specs.Pieces.{SentInPieces};
-ghost use Rattle.rist_top.specs.Complete.{Completes, CompletesSending};
+ghost use Rattle.rist_top.specs.Received.{Received, Unreceived};
+ghost use Rattle.rist_top.specs.Complete.{CompletesReceiving};
+ghost use Rattle.rist_top.specs.Does.{Does};
 
+use crate::receiving::receive_line;
 use crate::sending::send_line;
 use crate::status::Status;
 use crate::telling::Telling;
 use crate::working::{Worked, work};
 use outside_host::Host;
-use rist_words::{Line, Refused, line};
+use outside_io::NoMemory;
+use rist_words::{Line, RecvLine, Refused, line};
 use std::alloc::Global;
+use std::sync::Wait;
+use std::thread::Threads;
 
-/// Does what the words of a command line say, the program's name first, with the objects of a host.
-pub fn run<H: Host>(alloc: Global, words: &[String], host: &mut H) -> Status
+/// Does what the words of a command line say, the program's name first, with the objects of a host. A receiving waits for its links,
+/// each in a thread of its own; every other command returns as [`plain`] does. A gateway isn't done yet.
+pub fn run<R: Threads + Wait + Sync, H: Host>(
+    rt: &R,
+    alloc: Global,
+    words: &[String],
+    host: &mut H,
+) -> Status
     // The words are refused exactly where they are no line, memory aside.
     ensures usage { result ≡ Status.Usage → IsNoLine words.now }
     ensures refused { IsNoLine words.now → (result ≡ Status.Usage) ⊎ (result ≡ Status.Memory) }
@@ -32,78 +43,80 @@ pub fn run<H: Host>(alloc: Global, words: &[String], host: &mut H) -> Status
     // A fault at opening comes exactly where a call of the host failed.
     ensures opened { HasOpenCause (fault_of result) (H.faults host.old) (H.faults host.new) }
 
-    // What is no line touches nothing, and a line only what it speaks of.
+    // What is no line touches nothing.
     ensures same { IsTrue H.tells → IsNoLine words.now → H.shelf host.new ≡ H.shelf host.old }
-    ensures others { IsFresh H.tells (H.shelf host.old)
-        → IfFiles words.now (λ c. KeepsOthers (H.shelf host.old) (H.shelf host.new) c) }
 
-    // A sink is opened only after its source.
-    ensures order { IsTrue H.tells
-        → IfFiles words.now (λ c. OpensSourceFirst (H.shelf host.old) (H.shelf host.new) c) }
+    // What every command but a receiving leaves.
+    ensures does { Does H.tells ⟦<H as Telling>⟧.objects ⟦<H as Telling>⟧.live words.now
+        (H.faults host.old) (H.faults host.new) (H.shelf host.old) (H.shelf host.new) result }
 
-    // Every other answer but want of memory is about what the host's objects tell.
-    ensures ran { IsFresh H.tells (H.shelf host.old) → result ≢ Status.OpenFault → result ≢ Status.Memory
-        → IfFiles words.now (λ c.
-        Ran ⟦<H as Telling>⟧.objects (H.shelf host.old) (H.shelf host.new) c result) }
+    // What comes on the links of a receiving is played out to its sink, links and clocks come back, and the receiver's counts reach
+    // the host; or nothing was read and nothing written.
+    ensures received { IsUnused H.tells (H.shelf host.old) → (CanRefuse result → ⊥)
+        → IfReceiving words.now (λ c.
+        Received ⟦<H as Telling>⟧.objects ⟦<H as Telling>⟧.live (H.shelf host.old) (H.shelf host.new) c result) }
+    ensures unreceived { IsUnused H.tells (H.shelf host.old) → CanRefuse result
+        → IfReceiving words.now (λ c. Unreceived (H.shelf host.old) (H.shelf host.new) c) }
 
-    // Where nothing can be opened, all comes back as it was.
-    ensures closed { IsTrue H.tells → result ≡ Status.OpenFault
-        → IfFiles words.now (λ c. Untouched (H.shelf host.old) (H.shelf host.new) c) }
-    // Where memory is refused, a packing has touched nothing. A walk over a capture may have written what it read before.
-    ensures memory { IsFresh H.tells (H.shelf host.old) → result ≡ Status.Memory
-        → IfFiles words.now (λ c.
-        LeavesAtMemory ⟦<H as Telling>⟧.objects (H.shelf host.old) (H.shelf host.new) c) }
-
-    // What a replay leaves is the exact release set, in sent numbers.
-    ensures reached { (c : ReplayCommand) → IsLine words.now (Replay c)
-        → IsFresh H.tells (H.shelf host.old) → result ≡ Status.Done
-        → WritesReached ⟦<H as Telling>⟧.objects (H.shelf host.old) (H.shelf host.new) c }
-
-    // A source is sent onto the links of its line by the first clock, and source, links and clock come back; or nothing
-    // was read of it and nothing written.
-    ensures sent { IsUnused H.tells (H.shelf host.old) → (CanRefuse result → ⊥)
-        → IfSending words.now (λ c.
-        Sent ⟦<H as Telling>⟧.objects ⟦<H as Telling>⟧.live (H.shelf host.old) (H.shelf host.new) c result) }
-    // The payloads sent are the first pieces of the source's octets, in order, each once, and with Done all of them.
-    ensures pieces { IsUnused H.tells (H.shelf host.old) → (CanRefuse result → ⊥)
-        → IfSending words.now (λ c.
-        SentInPieces ⟦<H as Telling>⟧.objects ⟦<H as Telling>⟧.live (H.shelf host.old) (H.shelf host.new) c result) }
-    ensures unsent { IsUnused H.tells (H.shelf host.old) → CanRefuse result
-        → IfSending words.now (λ c. Unsent (H.shelf host.old) (H.shelf host.new) c) }
-
-    // A sending, too, touches only what its line speaks of, and random words fail it only where the first of them failed.
+    // A receiving, too, touches only what its line speaks of.
     ensures around { IsUnused H.tells (H.shelf host.old)
-        → IfSending words.now (λ c. KeepsAround (H.shelf host.old) (H.shelf host.new) c) }
-    // Just the links of the line are opened, in its order, and none before the source could be.
+        → IfReceiving words.now (λ c. KeepsAroundSink (H.shelf host.old) (H.shelf host.new) c) }
+    // Just the links of the line are opened, in its order, and none before the sink could be.
     ensures links_opened { IsUnused H.tells (H.shelf host.old) → (CanRefuse result → ⊥)
-        → IfSending words.now (λ c. (H.shelf host.new).opened_links ≡ links_opened c) }
+        → IfReceiving words.now (λ c. (H.shelf host.new).opened_links ≡ links_received c) }
     ensures links_after { IsTrue H.tells
-        → IfSending words.now (λ c. OpensLinksAfter (H.shelf host.old) (H.shelf host.new) c) }
+        → IfReceiving words.now (λ c. OpensLinksAfterSink (H.shelf host.old) (H.shelf host.new) c) }
     ensures random { IsUnused H.tells (H.shelf host.old) → result ≡ Status.EntropyFault
-        → IfSending words.now (λ c.
+        → IfReceiving words.now (λ c.
         FailedAt ⟦<H as Telling>⟧.objects (H.shelf host.old) (H.shelf host.new)) }
 
-    // Where no call fails, a capture is taken to its end, and so is a source.
-    ensures complete { IsFresh H.tells (H.shelf host.old) → (Rose (H.faults host.old) (H.faults host.new) → ⊥)
-        → IfFiles words.now (λ c.
-        Completes ⟦<H as Telling>⟧.objects (H.shelf host.old) (H.shelf host.new) c result) }
-    // So is the source of a sending where one link stays up, unless turns or pairs are spent before.
-    ensures whole { IsUnused H.tells (H.shelf host.old) → (Rose (H.faults host.old) (H.faults host.new) → ⊥)
-        → IfSending words.now (λ c. CompletesSending ⟦<H as Telling>⟧.objects ⟦<H as Telling>⟧.live.line
+    // Where no call fails and one link doesn't, a receiving is done, unless pairs are spent or its kept steps have no room or
+    // differ.
+    ensures heard { IsUnused H.tells (H.shelf host.old) → (Rose (H.faults host.old) (H.faults host.new) → ⊥)
+        → IfReceiving words.now (λ c. CompletesReceiving ⟦<H as Telling>⟧.objects ⟦<H as Telling>⟧.live.line
         (H.shelf host.old) (H.shelf host.new) c result) }
 {
-    match known_line(alloc, words) {
+    match receiving(alloc, words) {
+        Ok(Some(line)) => receive_line(rt, alloc, host, &line),
+        Ok(None) => plain(alloc, words, host),
+        Err(NoMemory) => Status::Memory,
+    }
+}
+
+/// The receiving that the words are, if they are one.
+fn receiving<'a>(alloc: Global, words: &'a [String]) -> Result<Option<RecvLine<'a>>, NoMemory>
+    ensures some { IfOk result (λ found. IfSome found (λ l. IsLine words.entry.now (Recv (shown_recv l)))) }
+    ensures none { (c : RecvCommand) → result ≡ Ok None → IsLine words.entry.now (Recv c) → ⊥ }
+{
+    match line(alloc, words) {
+        Ok(Line::Recv(line)) => Ok(Some(line)),
+        Ok(_) | Err(Refused::Usage) => Ok(None),
+        Err(Refused::Memory) => Err(NoMemory),
+    }
+}
+
+/// Does each command that waits for nobody: all but a receiving and a gateway, whose lines are none here. It always returns.
+pub fn plain<H: Host>(alloc: Global, words: &[String], host: &mut H) -> Status
+    // The words are refused exactly where they are no such line, memory aside.
+    ensures usage { result ≡ Status.Usage → IsNoPlainLine words.now }
+    ensures refused { IsNoPlainLine words.now → (result ≡ Status.Usage) ⊎ (result ≡ Status.Memory) }
+    ensures opened { HasOpenCause (fault_of result) (H.faults host.old) (H.faults host.new) }
+    ensures same { IsTrue H.tells → IsNoPlainLine words.now → H.shelf host.new ≡ H.shelf host.old }
+    ensures does { Does H.tells ⟦<H as Telling>⟧.objects ⟦<H as Telling>⟧.live words.now
+        (H.faults host.old) (H.faults host.new) (H.shelf host.old) (H.shelf host.new) result }
+{
+    match plain_line(alloc, words) {
         Ok(line) => run_line(alloc, host, &line),
         Err(Refused::Usage) => Status::Usage,
         Err(Refused::Memory) => Status::Memory,
     }
 }
 
-/// The line that the words are, if its command is done here.
-fn known_line<'a>(alloc: Global, words: &'a [String]) -> Result<Line<'a>, Refused>
+/// The line that the words are, if its command waits for nobody.
+fn plain_line<'a>(alloc: Global, words: &'a [String]) -> Result<Line<'a>, Refused>
     ensures ok { IfOk result (λ l. IsLine words.entry.now (shown l)) }
-    ensures known { IfOk result (λ l. IsKnownLine words.entry.now (shown l) × IsKnown (shown l)) }
-    ensures usage { result ≡ Err Refused.Usage → IsNoLine words.entry.now }
+    ensures plain { IfOk result (λ l. IsPlain (shown l)) }
+    ensures usage { result ≡ Err Refused.Usage → IsNoPlainLine words.entry.now }
 {
     match line(alloc, words)? {
         Line::Recv(_) | Line::Gate(_) => Err(Refused::Usage),
@@ -114,7 +127,7 @@ fn known_line<'a>(alloc: Global, words: &'a [String]) -> Result<Line<'a>, Refuse
 /// Does a line.
 fn run_line<H: Host>(alloc: Global, host: &mut H, line: &Line<'_>) -> Status
     requires range { IsInRange (shown line.now) }
-    requires known { IsKnown (shown line.now) }
+    requires plain { IsPlain (shown line.now) }
     ensures line { result ≢ Status.Usage }
     ensures opened { HasOpenCause (fault_of result) (H.faults host.old) (H.faults host.new) }
     ensures others { IsFresh H.tells (H.shelf host.old) → IsOverFiles (shown line.now)

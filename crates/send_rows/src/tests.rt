@@ -2,7 +2,7 @@
 use outside_host::{MemHost, MemParts, Place, Slot};
 use outside_io::{Channel, MemSource, Pieces, Words};
 use outside_net::{ScriptClock, ScriptLink};
-use rist_top::{Status, run};
+use rist_top::{Status, plain};
 use std::alloc::Global;
 use std::test::Fail;
 
@@ -14,7 +14,7 @@ struct Row<'a> {
     octets: usize,
     moments: &'a [u64],
     failing: &'a [u64],
-    status: Status,
+    status: &'a Status,
     link: u8,
     taken: &'a [(u8, usize)],
 }
@@ -112,13 +112,13 @@ fn is_as_told(alloc: Global, row: &Row<'_>) -> Result<bool, Fail> {
         words.push(String::from_str(alloc, word)?)?;
     }
     let mut host = host(alloc, row)?;
-    let status = run(alloc, words.as_slice(), &mut host);
+    let status = plain(alloc, words.as_slice(), &mut host);
     if status == Status::Memory {
         return Err(Fail::new("out of memory"));
     }
     match host.returned_link(row.link) {
-        Some(link) => Ok(status == row.status && has_taken(link, row.taken)),
-        None => Ok(status == row.status && row.taken.is_empty()),
+        Some(link) => Ok(status == *row.status && has_taken(link, row.taken)),
+        None => Ok(status == *row.status && row.taken.is_empty()),
     }
 }
 
@@ -130,7 +130,7 @@ fn sendings_end_and_give_as_told(rt: HostRuntime) -> Result<(), Fail> {
         octets: 2632,
         moments: PASSING,
         failing: &[],
-        status: Status::Done,
+        status: &Status::Done,
         link: 0,
         taken: &[(0, 1328), (1, 1328)],
     };
@@ -170,39 +170,39 @@ fn sendings_end_and_give_as_told(rt: HostRuntime) -> Result<(), Fail> {
         Row {
             line: "rist send - 127.0.0.1:5000 --turns 5",
             moments: STANDING,
-            status: Status::TurnsSpent,
+            status: &Status::TurnsSpent,
             taken: &[(0, 1328)],
             ..plain
         },
         Row {
             line: "rist send - 127.0.0.1:5000 --turns 2 --gap 2000",
-            status: Status::TurnsSpent,
+            status: &Status::TurnsSpent,
             taken: &[(0, 1328)],
             ..plain
         },
         // The first write fails.
         Row {
             failing: &[0],
-            status: Status::LinksDown,
+            status: &Status::LinksDown,
             taken: &[],
             ..plain
         },
         // What can't be opened, and what is no line.
         Row {
             line: "rist send other 127.0.0.1:5000",
-            status: Status::OpenFault,
+            status: &Status::OpenFault,
             taken: &[],
             ..plain
         },
         Row {
             line: "rist send - 127.0.0.1:5000 127.0.0.1:5002 127.0.0.1:5004",
-            status: Status::OpenFault,
+            status: &Status::OpenFault,
             taken: &[],
             ..plain
         },
         Row {
             line: "rist send - 127.0.0.1:5001",
-            status: Status::Usage,
+            status: &Status::Usage,
             taken: &[],
             ..plain
         },

@@ -6,6 +6,7 @@ use Rattle.rist_wire.specs.declared.session.Session.{Session}
 use Rattle.rist_desk.specs.declared.ended.Ended.{Ended}
 use Rattle.rist_desk.specs.declared.ended.Ended.TheVariants as ends
 use Rattle.rist_desk.specs.declared.worker.Limits.{Limits}
+use Rattle.rist_desk.specs.Desk.{Given}
 use Rattle.rist_desk.specs.Sending.{IsKnownIn, Holds, Goes}
 use Rattle.rist_desk.specs.Turns.{Feed, steps_until, last_tick, since_until, end_at, from}
 use Rattle.rist_desk.specs.Inside.Links.{is_failure}
@@ -36,12 +37,12 @@ pub record IsTask (f : Feed) (session : Session) (place : ℕ) (limits : Limits)
 
 -- after n turns: what its clock and link have left, what was made and sent since the first, the moment of its last tick, and since
 -- when it is quiet
-pub record IsGoing (f : Feed) (n : ℕ) (knows peers : Channel → Bool) (moments : Option (ℕ → ℕ)) (answers : Option (ℕ → Answer)) (first now : Holds) (ticked since : Option ℕ) : Type 0 where
+pub record IsGoing (desk : Option Given) (f : Feed) (n : ℕ) (knows peers : Channel → Bool) (moments : Option (ℕ → ℕ)) (answers : Option (ℕ → Answer)) (first now : Holds) (ticked since : Option ℕ) : Type 0 where
   pub within : n < f.turns
   pub took_moments : moments ≡ Some (from n f.moments)
   pub took_answers : answers ≡ Some (from n f.answers)
   pub peers_are : IsKnownIn knows peers
-  pub own : Goes knows first now (steps_until f n)
+  pub own : Goes desk knows first now (steps_until f n)
   pub ticked_is : ticked ≡ last_tick f n
   pub since_is : since ≡ since_until f n
   pub going : (k : ℕ) → k < n → end_at f k ≡ None

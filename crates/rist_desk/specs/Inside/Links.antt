@@ -32,6 +32,7 @@ is_failure ends.WriteFault = false
 is_failure ends.Spent = false
 is_failure ends.TraceFull = false
 
+-- the worker ended since the link failed
 abbrev pub has_link_failed : {T : Type 0} → Result T Ended → Bool
 has_link_failed (Ok x) = false
 has_link_failed (Err end) = is_failure end

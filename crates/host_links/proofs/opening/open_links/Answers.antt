@@ -4,10 +4,6 @@ use Rattle.host_links.specs.Opening.{AreBack}
 use Rattle.host_links.proofs.OpeningLemmas.{one_out, all_as_they_were, one_more}
 use Rattle.host_links.proofs.opening.open_links.Goals as goal
 
-pub back_links-requires : goal.back_links-requires
-back_links-requires g c = record {
-  few = omega (arith, ap length c.in-Err-open_next.ensures.kept, c.loop-spec.invariant.0, c.loop-spec-test.true, c.requires.few);
-}
 
 pub returns-in-Err-open_next-clause-err : goal.returns-in-Err-open_next-clause-err
 returns-in-Err-open_next-clause-err g c =

@@ -1,5 +1,5 @@
 -- Before the first turn, after one more, and after the last.
-use Rattle.std.proofs.Common.{refl, subst, sym, ap, ◌∙◌, ◌+◌, nat_le}
+use Rattle.std.proofs.Common.{Some, refl, subst, sym, ap, ◌∙◌, ◌+◌, nat_le}
 use Rattle.rist_wire.specs.declared.session.Session.{Session}
 use Rattle.rist_desk.specs.Sending.{holds}
 use Rattle.rist_desk.specs.Inside.Going.{IsTask}
@@ -14,7 +14,7 @@ turns-init g c =
       session = refl;
       ends = refl;
       faults = refl;
-      going = λ f feed. going_first f w.opener c.args.place c.args.limits.now (g.L.Link.knows w.link) (g.C.Clock.moments w.clock) (g.L.Link.reads w.link) (holds (g.U.Trace.list w.trace) (g.L.Link.taken w.link)) feed.task feed.moments_are feed.answers_are c.requires.turns.0;
+      going = λ f feed. going_first (Some g.N.Name.given) f w.opener c.args.place c.args.limits.now (g.L.Link.knows w.link) (g.C.Clock.moments w.clock) (g.L.Link.reads w.link) (holds (g.U.Trace.list w.trace) (g.L.Link.taken w.link)) feed.task feed.moments_are feed.answers_are c.requires.turns.0;
     }
 
 pub returns-in-Some-clause-served : goal.returns-in-Some-clause-served

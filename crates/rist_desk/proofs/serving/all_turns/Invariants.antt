@@ -1,5 +1,5 @@
 -- The turns that were made.
-use Rattle.std.proofs.Common.{◌≡◌, ◌<◌, ◌-◌}
+use Rattle.std.proofs.Common.{Some, ◌≡◌, ◌<◌, ◌-◌}
 use Rattle.rist_desk.specs.Turns.{Feed}
 use Rattle.rist_desk.specs.Sending.{holds}
 use Rattle.rist_desk.specs.Serving.{IsFeed}
@@ -13,7 +13,7 @@ invariant-turns g l = record {
   ends : g.L.Link.ends l.worker.link ≡ g.L.Link.ends l.initial.worker.link;
   faults : g.L.Link.faults l.worker.link ≡ g.L.Link.faults l.initial.worker.link;
   going : (f : Feed) → IsFeed f l.initial.worker.opener l.place l.limits (g.C.Clock.moments l.initial.worker.clock) (g.L.Link.reads l.initial.worker.link)
-      → IsGoing f l.made (g.L.Link.knows l.initial.worker.link) (g.L.Link.knows l.worker.link) (g.C.Clock.moments l.worker.clock) (g.L.Link.reads l.worker.link)
+      → IsGoing (Some g.N.Name.given) f l.made (g.L.Link.knows l.initial.worker.link) (g.L.Link.knows l.worker.link) (g.C.Clock.moments l.worker.clock) (g.L.Link.reads l.worker.link)
       (holds (g.U.Trace.list l.initial.worker.trace) (g.L.Link.taken l.initial.worker.link)) (holds (g.U.Trace.list l.worker.trace) (g.L.Link.taken l.worker.link)) l.ticked l.since;
 }
 

@@ -9,7 +9,7 @@ use Rattle.deadline_index.proofs.index.DeadlineIndex.first_by.Goals as goal
 pub returns-clause-some : goal.returns-clause-some
 returns-clause-some c =
     some_as (λ place f. subst (λ xs. IsFirstBy xs c.args.start c.args.tick place) c.self.view_is
-    (first_at_front c.self.inside.places c.args.start c.args.tick place c.self.inside.all.items (let room = inside 4 0 c.self.inside.places c.self.inside.all.items c.self.invariant in omega arith) (subst (λ xs. IsFirstIn xs 0 c.args.start c.self.inside.places c.args.tick place) c.deref.ensures.value f)))
+    (first_at_front c.self.inside.places c.args.start c.args.tick place c.self.inside.all.items (let room = inside c.self.inside.levels 0 c.self.inside.places c.self.inside.all.items c.self.invariant in omega arith) (subst (λ xs. IsFirstIn xs 0 c.args.start c.self.inside.places c.args.tick place) c.deref.ensures.value f)))
     c.first_by.result c.first_by.ensures.some
 
 pub returns-clause-none : goal.returns-clause-none

@@ -1,0 +1,1 @@
+-- Each part stands at its place again.

@@ -1,0 +1,82 @@
+-- What a run of receiving leaves, by what its objects tell.
+use Rattle.std.specs.Prelude.{◌≡◌, ℕ, List, map, reverse, length, slice_get, true, false, Option, Some, None, is_some}
+use Rattle.std.specs.List.{All, concat}
+use Rattle.outside_io.specs.Causes.{RoseWhere}
+use Rattle.receiver_rules.specs.Sent.{SentStream, Delivery, HasSteadyTimestamps, AreDeliveriesOf}
+use Rattle.rist_ends.specs.declared.counts.Counts.{Counts}
+use Rattle.rist_ends.specs.Counts.{AreCountsOf}
+use Rattle.rist_desk.specs.declared.step.Step.{Step}
+use Rattle.rist_desk.specs.declared.worker.Limits.{Limits}
+use Rattle.rist_desk.specs.declared.worker.Worker.{Worker}
+use Rattle.rist_desk.specs.Desk.{DeskState, Given, StandsFor}
+use Rattle.rist_desk.specs.Serving.{LinkTells, ServesOn}
+use Rattle.rist_desk.specs.Steps.{history_of}
+use Rattle.rist_recv.specs.declared.ending.Ending.{Ending}
+use Rattle.rist_recv.specs.declared.ending.Ending.TheVariants as endings
+use Rattle.rist_recv.specs.Endings.{is_spent, is_link_failed, any_worker, all_workers, is_write_fault, IsSound, IsWithoutRoom}
+use Rattle.rist_recv.specs.Exact.{IsRunOf, reached_payloads}
+use Rattle.rist_recv.specs.Receiving.{own_lists, HasReceived, IsTorn}
+use Rattle.rist_recv.specs.Setup.{Setup, given_to, no_steps}
+use Rattle.rist_recv.specs.Workers.{ToldTrace, link_of, clock_of, told_trace}
+
+-- the lists of workers of which a list is what they tell
+abbrev pub told_lists : {L C : Type 0} → List (Worker L C ToldTrace) → List (List Step)
+told_lists workers = own_lists (λ trace. trace.list) workers
+
+-- What was received is exact. The steps before the end are those of the links, each link's once and in its order; the sink holds all
+-- that they release; and where they are a run of copies of what one sender sent, near enough for their words to tell them apart, that
+-- is the payloads of the numbers that were reached, by rising number, each once. The counts are those of the steps.
+pub record IsExact (given : Given) (desk : DeskState) (own : List (List Step)) (counts : Counts) : Type 0 where
+  pub received : HasReceived given desk.kept desk.contents own
+  pub reached : (steps : List Step) (octets : List ℕ) (p : SentStream) (run : List Delivery)
+      → received.before ≡ Some steps → desk.contents ≡ Some octets → IsRunOf p run steps
+      → HasSteadyTimestamps p → AreDeliveriesOf given.settings.limits p run
+      → octets ≡ concat (reached_payloads given.settings.limits p run)
+  pub counted : (steps : List Step) → desk.kept ≡ Some steps
+      → AreCountsOf counts given.settings.limits (history_of (reverse steps))
+
+-- what each ending says of the workers and of the desk at the end
+abbrev pub EndsAs : {L C : Type 0} → Ending → Given → DeskState → List (Worker L C ToldTrace) → Counts → Type 0
+EndsAs endings.WriteFault given desk workers counts = Unit {0}
+EndsAs endings.Spent given desk workers counts = any_worker is_spent workers ≡ true
+EndsAs endings.TraceFull given desk workers counts = IsWithoutRoom workers given desk
+EndsAs (endings.Torn tear) given desk workers counts =
+    IsSound workers × IsTorn given desk.kept desk.contents (told_lists workers) tear
+EndsAs endings.LinksDown given desk workers counts =
+    IsSound workers × (all_workers is_link_failed workers ≡ true) × IsExact given desk (told_lists workers) counts
+EndsAs endings.Done given desk workers counts =
+    IsSound workers × (all_workers is_link_failed workers ≡ false) × IsExact given desk (told_lists workers) counts
+
+-- a worker that has done nothing yet
+pub record IsNewWorker {L C : Type 0} (s : Setup) (w : Worker L C ToldTrace) : Type 0 where
+  pub session : w.opener ≡ s.session
+  pub list : w.trace.list ≡ no_steps s.keep
+  pub limit : w.trace.limit ≡ s.keep
+  pub unended : w.end ≡ None
+
+-- Links and clocks were served, each by a worker, and the desk that they shared stands for its steps, where it keeps them. The sink
+-- told this before and tells that now, and so did its count of failed writes.
+pub record Receives {L C : Type 0} (moments : C → Option (ℕ → ℕ)) (tells : LinkTells L) (s : Setup) (limits : Limits)
+    (links_were links_are : List L) (clocks_were clocks_are : List C) (contents_were contents_are : Option (List ℕ))
+    (faults_were faults_are : ℕ) (counts : Counts) (ending : Ending) : Type 0 where
+  pub were : List (Worker L C ToldTrace)
+  pub are : List (Worker L C ToldTrace)
+  pub desk : DeskState
+  pub links_had : map link_of were ≡ links_were
+  pub clocks_had : map clock_of were ≡ clocks_were
+  pub begun : All (IsNewWorker s) were
+  pub links_have : map link_of are ≡ links_are
+  pub clocks_have : map clock_of are ≡ clocks_are
+  pub as_many : length are ≡ length were
+  -- each worker's own list holds its turns' steps, and its link what these made, by the rules where the desk tells its steps
+  pub served : (link : ℕ) (was is : Worker L C ToldTrace) → slice_get were link ≡ Some was
+      → slice_get are link ≡ Some is → ServesOn (given_to s contents_were faults_were) moments tells told_trace limits link was is
+  pub tells_steps : is_some desk.kept ≡ is_some s.keep
+  pub contents : desk.contents ≡ contents_are
+  pub faults : desk.faults ≡ faults_are
+  -- however it ends, the kept list is a legal history of the receiver, and the sink holds what it releases
+  pub stands : (steps : List Step) → desk.kept ≡ Some steps
+      → StandsFor (given_to s contents_were faults_were) desk (reverse steps)
+  -- a write failed exactly where the sink's count rose
+  pub fault : RoseWhere (is_write_fault ending) faults_were faults_are
+  pub ends : EndsAs ending (given_to s contents_were faults_were) desk are counts

@@ -1,0 +1,39 @@
+-- The parts of a worker, and a worker as far as it tells.
+use Rattle.std.specs.Prelude.{◌≡◌, ℕ, List, Option, None}
+use Rattle.rist_desk.specs.declared.step.Step.{Step}
+use Rattle.rist_desk.specs.declared.worker.Worker.{Worker}
+use Rattle.rist_desk.specs.Serving.{TraceTells}
+use Rattle.rist_recv.specs.declared.seats.Seat.{Seat}
+
+abbrev pub link_of : {L C U : Type 0} → Worker L C U → L
+link_of w = w.link
+
+abbrev pub clock_of : {L C U : Type 0} → Worker L C U → C
+clock_of w = w.clock
+
+-- what it has beside them
+abbrev pub seat_of : {L C U : Type 0} → Worker L C U → Seat U
+seat_of w = record { opener = w.opener; trace = w.trace }
+
+-- it has not ended
+abbrev pub is_unended : {L C U : Type 0} → Worker L C U → Type 0
+is_unended w = w.end ≡ None
+
+-- what a trace tells
+pub record ToldTrace : Type 0 where
+  pub list : Option (List Step)
+  pub limit : Option ℕ
+
+-- it tells just that
+abbrev pub told_trace : TraceTells ToldTrace
+told_trace = record { list = λ t. t.list; limit = λ t. t.limit }
+
+-- a worker as far as it tells: in place of its trace what this tells
+abbrev pub told_by : {L C U : Type 0} → TraceTells U → Worker L C U → Worker L C ToldTrace
+told_by tells w = record {
+  link = w.link;
+  clock = w.clock;
+  opener = w.opener;
+  trace = record { list = tells.list w.trace; limit = tells.limit w.trace };
+  end = w.end;
+}

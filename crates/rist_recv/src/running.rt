@@ -1,0 +1,70 @@
+//! A run over links, clocks and a sink.
+ghost use Rattle.std.specs.Prelude.{◌≡◌, ◌<◌, ◌≤◌, ◌^◌, length};
+ghost use Rattle.outside_io.specs.Told.{IsEmpty};
+ghost use Rattle.rist_recv.specs.Run.{Receives};
+ghost use Rattle.rist_recv.specs.Setup.{IsMade, setup_of};
+
+use crate::ending::Ending;
+use crate::receiving::receive;
+use crate::seats::{Made, MadeTrace};
+use crate::workers::{seated, unseated};
+use outside_io::Sink;
+use outside_net::{Clock, Link};
+use rist_desk::Limits;
+use rist_ends::Counts;
+use std::sync::Wait;
+use std::thread::Threads;
+
+/// What a run leaves.
+#[derive(Drop)]
+pub struct Run<K> {
+    pub ending: Ending,
+    /// What became of the datagrams.
+    pub counts: Counts,
+    pub sink: K,
+}
+
+/// Receives on these links, each by its own clock, into an empty sink, with what was made for so many links. Links and clocks stand
+/// in their lists again when it ends.
+pub fn receive_on<
+    T: MadeTrace + Drop + Send,
+    K: Sink + Drop + Send,
+    L: Link + Drop + Send,
+    C: Clock + Drop + Send,
+    R: Threads + Wait + Sync,
+>(
+    rt: &R,
+    made: Made<T, L, C>,
+    links: &mut Vec<L>,
+    clocks: &mut Vec<C>,
+    sink: K,
+    limits: &Limits,
+) -> Run<K>
+    requires some { 0 < length links.old.items }
+    requires few { length links.old.items ≤ 16 }
+    requires clocks { length clocks.old.items ≡ length links.old.items }
+    requires turns { (0 < limits.now.turns) × (limits.now.turns ≤ 2 ^ 40) }
+    requires made { IsMade T.list T.limit (length links.old.items) made }
+    requires empty { IsEmpty (K.contents sink) }
+    ensures work { Receives C.moments
+        (record { reads = L.reads; taken = L.taken; knows = L.knows; ends = L.ends; faults = L.faults })
+        (setup_of T.limit made) limits.now links.old.items links.new.items clocks.old.items clocks.new.items
+        (K.contents sink) (K.contents result.sink) (K.faults sink) (K.faults result.sink) result.counts result.ending }
+    ensures links { length links.new.items ≡ length links.old.items }
+    ensures clocks { length clocks.new.items ≡ length clocks.old.items }
+{
+    let Made {
+        receiver,
+        trace,
+        seats,
+        workers,
+    } = made;
+    let mut workers = seated(links, clocks, seats, workers);
+    let received = receive(rt, receiver, trace, &mut workers, sink, limits);
+    unseated(workers, links, clocks);
+    Run {
+        ending: received.ending,
+        counts: received.receiver.counts(),
+        sink: received.sink,
+    }
+}

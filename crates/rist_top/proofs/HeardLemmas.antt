@@ -1,0 +1,111 @@
+-- A receiving in which nothing fails but links, of which one doesn't, comes to its end.
+use Rattle.std.proofs.Common.{◌≡◌, ◌∙◌, ◌⊎◌, ◌<◌, ℕ, List, [], ◌∷◌, length, map, Bool, true, false, Option, None, Some, refl, sym, ap, subst, slice_get, get_or, arith}
+use Rattle.std.proofs.lemmas.List.{length-map, get_or-map}
+use Rattle.std.proofs.lemmas.List.Folds.{All-from_list_all}
+use Rattle.std.proofs.lemmas.Option.{get_or_from_slice_get, slice_get-get_or}
+use mathlib.Core.Logic.{inl, inr}
+use Rattle.outside_io.specs.Causes.{Rose, RoseWhere}
+use Rattle.outside_host.specs.Shelf.{Shelf}
+use Rattle.outside_host.specs.declared.host.Place.{Place}
+use Rattle.outside_host.specs.declared.host.Place.TheVariants.{Here, Back}
+use Rattle.rist_desk.specs.declared.ended.Ended.{Ended}
+use Rattle.rist_desk.specs.declared.ended.Ended.TheVariants as ends
+use Rattle.rist_desk.specs.declared.step.Step.{Step}
+use Rattle.rist_desk.specs.declared.worker.Worker.{Worker}
+use Rattle.rist_desk.specs.Serving.{Serves}
+use Rattle.rist_desk.specs.Inside.Going.{is_link_failure}
+use Rattle.rist_recv.specs.declared.ending.Ending.{Ending}
+use Rattle.rist_recv.specs.declared.ending.Ending.TheVariants as endings
+use Rattle.rist_recv.specs.Endings.{all_workers, is_link_failed, is_write_fault}
+use Rattle.rist_recv.specs.Run.{EndsAs, Receives}
+use Rattle.rist_recv.specs.Setup.{given_to}
+use Rattle.rist_recv.specs.Workers.{link_of}
+use Rattle.rist_words.specs.CommandLine.{RecvCommand}
+use Rattle.rist_top.specs.Causes.{CanRefuse}
+use Rattle.rist_top.specs.Complete.{CompletesReceiving, IsHeard, NoWriteFailed, StaysUp}
+use Rattle.rist_top.specs.Objects.{Tells}
+use Rattle.rist_top.specs.Received.{Received, receive_status, link_tells}
+use Rattle.rist_top.specs.Sealing.{FailedAt}
+use Rattle.rist_top.specs.Sent.{TellsLive}
+use Rattle.rist_top.specs.Sessions.{setup_received, limits_received}
+use Rattle.rist_top.specs.declared.status.Status.{Status}
+use Rattle.rist_top.specs.declared.status.Status.TheVariants as statuses
+use Rattle.rist_top.proofs.WholeLemmas.{is_refused}
+
+same_failure : (e : Ended) → is_link_failed (Some e) ≡ is_link_failure (Some e)
+same_failure ends.End = refl
+same_failure ends.Turns = refl
+same_failure ends.Quiet = refl
+same_failure ends.Failed = refl
+same_failure ends.Stopped = refl
+same_failure ends.WriteFault = refl
+same_failure ends.Spent = refl
+same_failure ends.TraceFull = refl
+
+-- an element stands at each place of a list
+at_place : {X : Type 0} (xs : List X) (i : ℕ) → i < length xs → (x : X) × (slice_get xs i ≡ Some x)
+at_place [] i less = absurd (omega (arith, less))
+at_place (x ∷ xs) i less = (get_or (x ∷ xs) i x, slice_get-get_or (x ∷ xs) i x less)
+
+rose_by : (b : Bool) (before now : ℕ) → b ≡ true → RoseWhere b before now → Rose before now
+rose_by b before now is rose = subst (λ x. RoseWhere x before now) is rose
+
+-- the link of a worker
+link_at : {L C : Type 0} (ws : List (Worker L C (Option (List Step)))) (links : List L) (i : ℕ) (w : Worker L C (Option (List Step))) → map link_of ws ≡ links → i < length ws → slice_get ws i ≡ Some w
+    → get_or links i w.link ≡ w.link
+link_at ws links i w are less here =
+    ap (λ l. get_or l i w.link) (sym are) ∙ (get_or-map link_of ws i w w.link less ∙ ap link_of (get_or_from_slice_get ws i w w here))
+
+-- where each link failed, the count of each rose
+each_failed : {I O E L C : Type 0} (tells : Tells I O E) (live : TellsLive L C) (old new : Shelf I O E L C) (c : RecvCommand) (status : Status) (r : Received tells live old new c status)
+    → all_workers is_link_failed r.received.received.receives.run.are ≡ true → StaysUp live.line old.links new.links (length c.links) → ⊥
+each_failed {L = L} {C = C} tells live old new c status r failed stays =
+    let o = r.received in
+    let run = o.received.receives.run in
+    let many : length run.were ≡ length c.links = sym (length-map run.were link_of) ∙ (ap length run.links_had ∙ o.count) in
+    let less : stays.place < length run.were = subst (λ n. stays.place < n) (sym many) stays.among in
+    let later : stays.place < length run.are = subst (λ n. stays.place < n) (sym run.as_many) less in
+    let was = at_place run.were stays.place less in
+    let is = at_place run.are stays.place later in
+    let s : Serves live.moments (link_tells live.line) (λ list. list) (limits_received c) stays.place was.0 is.0 = run.served stays.place was.0 is.0 was.1 is.1 in
+    let end : is_link_failed (Some s.end) ≡ true =
+        ap is_link_failed (sym s.ended) ∙ (ap (λ (w : Worker L C (Option (List Step))). is_link_failed w.end) (sym (get_or_from_slice_get run.are stays.place is.0 is.0 is.1))
+        ∙ All-from_list_all (λ (w : Worker L C (Option (List Step))). is_link_failed w.end) run.are failed stays.place is.0 later) in
+    let rose : Rose (live.line.faults was.0.link) (live.line.faults is.0.link) =
+        rose_by (is_link_failure (Some s.end)) (live.line.faults was.0.link) (live.line.faults is.0.link) (sym (same_failure s.end) ∙ end) s.failed_cause in
+    let among : stays.place < length o.links_were = subst (λ n. stays.place < n) (sym o.count) stays.among in
+    stays.up was.0.link is.0.link
+    (o.links.took stays.place was.0.link among ∙ ap Here (link_at run.were o.links_were stays.place was.0 run.links_had less was.1))
+    (o.links.gave stays.place is.0.link among ∙ ap Back (link_at run.are o.links_are stays.place is.0 run.links_have later is.1))
+    rose
+
+ended_by : {I O E L C : Type 0} (tells : Tells I O E) (live : TellsLive L C) (old new : Shelf I O E L C) (c : RecvCommand) (status : Status) (r : Received tells live old new c status) (end : Ending)
+    → r.received.received.receives.ending ≡ end → status ≡ receive_status end → NoWriteFailed tells old new c → StaysUp live.line old.links new.links (length c.links) → IsHeard c status
+ended_by tells live old new c status r endings.Done is answer none stays = inl answer
+ended_by tells live old new c status r endings.Spent is answer none stays = inr (inl answer)
+ended_by tells live old new c status r endings.TraceFull is answer none stays = inr (inr (inl answer))
+ended_by tells live old new c status r (endings.Torn tear) is answer none stays = inr (inr (inr (inl (tear, answer))))
+ended_by tells live old new c status r endings.WriteFault is answer none stays =
+    absurd (none.writes r.sink r.filled r.took r.gave
+    (rose_by (is_write_fault r.received.received.receives.ending) (tells.write_faults r.sink) (tells.write_faults r.filled) (ap is_write_fault is) r.received.received.receives.run.fault))
+ended_by tells live old new c status r endings.LinksDown is answer none stays =
+    let run = r.received.received.receives.run in
+    absurd (each_failed tells live old new c status r
+    (subst (λ e. EndsAs e (given_to (setup_received c r.received.received.sealer) (tells.contents r.sink) (tells.write_faults r.sink)) run.desk run.are r.received.received.counts) is run.ends).1
+    stays)
+
+refused_ends : (c : RecvCommand) (s : Status) → (s ≡ statuses.OpenFault → ⊥) → (s ≡ statuses.EntropyFault → ⊥) → CanRefuse s → IsHeard c s
+refused_ends c s opened words (inl e) = absurd (opened e)
+refused_ends c s opened words (inr (inl e)) = inr (inr (inr (inr e)))
+refused_ends c s opened words (inr (inr e)) = absurd (words e)
+
+pub received_completes : {I O E L C : Type 0} (tells : Tells I O E) (live : TellsLive L C) (old new : Shelf I O E L C) (c : RecvCommand) (status : Status)
+    → (status ≡ statuses.OpenFault → ⊥) → (status ≡ statuses.EntropyFault → FailedAt tells old new) → ((CanRefuse status → ⊥) → Received tells live old new c status)
+    → CompletesReceiving tells live.line old new c status
+received_completes tells live old new c status opened words received none stays = by_refusal (is_refused status)
+  where
+    by_refusal : CanRefuse status ⊎ (CanRefuse status → ⊥) → IsHeard c status
+    by_refusal (inl refused) = refused_ends c status opened (λ e. none.words (words e)) refused
+    by_refusal (inr ran) =
+        let r = received ran in
+        ended_by tells live old new c status r r.received.received.receives.ending refl r.received.received.receives.answer none stays

@@ -1,0 +1,97 @@
+-- What a receiving leaves, part by part.
+use Rattle.std.proofs.Common.{◌≡◌, ◌∙◌, ◌<◌, ℕ, List, [], length, map, Bool, true, false, Option, None, Some, IfSome, is_some, refl, sym, ap, subst, get_or}
+use Rattle.std.specs.Prelude.{if◌then◌else◌}
+use mathlib.Core.Logic.{inl, inr}
+use Rattle.outside_io.specs.declared.profile.Profile.{Profile}
+use Rattle.outside_net.specs.declared.link_spec.LinkSpec.{LinkSpec}
+use Rattle.outside_net.specs.declared.link_spec.Role.TheVariants.{Receives as Bound}
+use Rattle.outside_host.specs.declared.host.Opened.{Opened}
+use Rattle.outside_host.specs.declared.host.Place.{Place}
+use Rattle.outside_host.specs.declared.host.Place.TheVariants.{Here, Out, Back}
+use Rattle.outside_host.specs.Shelf.{Shelf, HandsOut, TakesBack, ChangesSinks}
+use Rattle.host_links.specs.Opening.{AreOut, AreBack}
+use Rattle.psk_seal.specs.Sealer.{SealerState}
+use Rattle.rist_ends.specs.declared.counts.Counts.{Counts}
+use Rattle.rist_recv.specs.declared.ending.Ending.{Ending}
+use Rattle.rist_recv.specs.Run.{Receives}
+use Rattle.rist_recv.specs.Setup.{Setup}
+use Rattle.rist_words.specs.CommandLine.{RecvCommand}
+use Rattle.rist_top.specs.Frame.{KeepsLinksBut, KeepsWords, KeepsAroundSink}
+use Rattle.rist_top.specs.Inside.Answers.{KeepsFiles}
+use Rattle.rist_top.specs.Objects.{Tells}
+use Rattle.rist_top.specs.Places.{CameBack}
+use Rattle.rist_top.specs.Received.{FromTheFirst, ReceivedByClocks, ReceivedOnLinks, ReceivesAs, link_tells, receive_status}
+use Rattle.rist_top.specs.Sealing.{DrawnFirst}
+use Rattle.rist_top.specs.Sent.{TellsLive}
+use Rattle.rist_top.specs.Sessions.{setup_received, limits_received}
+use Rattle.rist_top.specs.declared.status.Status.{Status}
+
+-- a kind of trace that keeps steps where a line says so keeps as many as it says
+pub kept_as : (b t : Bool) (n : ℕ) → b ≡ is_some {ℕ} (if t then None else Some n) → (if b then Some n else None) ≡ (if t then None else Some n)
+kept_as true true n is = absurd (cc (is))
+kept_as true false n is = refl
+kept_as false true n is = refl
+kept_as false false n is = absurd (cc (is))
+
+-- objects that were handed out from the first places, and came back there
+pub from_first : {X : Type 0} (old mid later new : ℕ → Place X) (were are : List X) → AreOut old mid were → later ≡ mid → AreBack later new are → length are ≡ length were
+    → FromTheFirst old new were are
+from_first old mid later new were are out same back count = record {
+  took = out.was;
+  gave = λ place d less. back.now place d (subst (λ n. place < n) (sym count) less) (ap (λ f. f place) same ∙ out.now place less);
+}
+
+-- what was received by clocks, over shelves that are the same but for sinks and links
+pub by_clocks_between : {I O E L C : Type 0} (tells : Tells I O E) (live : TellsLive L C) (old mid later new : Shelf I O E L C) (c : RecvCommand) (were are : List L) (sink filled : O) (status : Status)
+    → mid.clocks ≡ old.clocks → mid.entropies ≡ old.entropies → new.clocks ≡ later.clocks → new.entropies ≡ later.entropies → new.report ≡ later.report
+    → ReceivedByClocks tells live mid later c were are sink filled status → ReceivedByClocks tells live old new c were are sink filled status
+by_clocks_between tells live old mid later new c were are sink filled status k e l f r s = record {
+  clocks_were = s.clocks_were;
+  clocks_are = s.clocks_are;
+  clocks = subst (λ x. FromTheFirst x new.clocks s.clocks_were s.clocks_are) k (subst (λ x. FromTheFirst mid.clocks x s.clocks_were s.clocks_are) (sym l) s.clocks);
+  sealer = s.sealer;
+  fresh = s.fresh;
+  drawn = subst (λ x. IfSome s.sealer (DrawnFirst tells x new.entropies)) e (subst (λ x. IfSome s.sealer (DrawnFirst tells mid.entropies x)) (sym f) s.drawn);
+  counts = s.counts;
+  reported = r ∙ s.reported;
+  receives = s.receives;
+}
+
+-- what was received on links, over shelves that are the same but for sinks
+pub on_links_received : {I O E L C : Type 0} (tells : Tells I O E) (live : TellsLive L C) (old mid later new : Shelf I O E L C) (c : RecvCommand) (sink filled : O) (status : Status)
+    → ChangesSinks old mid → ChangesSinks later new
+    → ReceivedOnLinks tells live mid later c sink filled status → ReceivedOnLinks tells live old new c sink filled status
+on_links_received tells live old mid later new c sink filled status e f s = record {
+  links_were = s.links_were;
+  links_are = s.links_are;
+  count = s.count;
+  links = subst (λ x. FromTheFirst x new.links s.links_were s.links_are) (ap (λ x. x.links) e) (subst (λ x. FromTheFirst mid.links x s.links_were s.links_are) (sym (ap (λ x. x.links) f)) s.links);
+  received = by_clocks_between tells live old mid later new c s.links_were s.links_are sink filled status (ap (λ x. x.clocks) e) (ap (λ x. x.entropies) e) (ap (λ x. x.clocks) f) (ap (λ x. x.entropies) f)
+      (ap (λ x. x.report) f) s.received;
+}
+
+-- words that are the same before and after
+pub words_between : {I O E L C : Type 0} (old mid later new : Shelf I O E L C) (draws : Bool) → mid.entropies ≡ old.entropies → new.entropies ≡ later.entropies
+    → KeepsWords mid later draws → KeepsWords old new draws
+words_between old mid later new draws a b k = record {
+  others = λ place other. ap (λ x. x place) b ∙ (k.others place other ∙ ap (λ x. x place) a);
+  first = subst (λ x. CameBack (x 0) (new.entropies 0)) a (subst (λ x. CameBack (mid.entropies 0) (x 0)) (sym b) k.first);
+  undrawn = λ none. ap (λ x. x 0) b ∙ (k.undrawn none ∙ ap (λ x. x 0) a);
+}
+
+-- all of that between a sink that was handed out and came back
+pub around_sink : {I O E L C : Type 0} (old mid later new : Shelf I O E L C) (c : RecvCommand) (sink filled : O) → HandsOut old.sinks mid.sinks c.out sink → ChangesSinks old mid
+    → KeepsFiles mid later → KeepsLinksBut (length c.links) mid.links later.links → KeepsLinksBut (length c.links) mid.clocks later.clocks → KeepsWords mid later (is_some c.session.pass)
+    → TakesBack later.sinks new.sinks c.out filled → ChangesSinks later new → KeepsAroundSink old new c
+around_sink old mid later new c sink filled out e files links clocks words back f = record {
+  sources = ap (λ s. s.sources) f ∙ (files.sources ∙ ap (λ s. s.sources) e);
+  sinks = λ name other. back.others name other ∙ (ap (λ x. x name) files.sinks ∙ out.others name other);
+  sink = inr (sink, filled, out.was, back.now (ap (λ x. x c.out) files.sinks ∙ out.now));
+  links = subst (λ x. KeepsLinksBut (length c.links) x new.links) (ap (λ s. s.links) e) (subst (λ x. KeepsLinksBut (length c.links) mid.links x) (sym (ap (λ s. s.links) f)) links);
+  clocks = subst (λ x. KeepsLinksBut (length c.links) x new.clocks) (ap (λ s. s.clocks) e) (subst (λ x. KeepsLinksBut (length c.links) mid.clocks x) (sym (ap (λ s. s.clocks) f)) clocks);
+  words = words_between old mid later new (is_some c.session.pass) (ap (λ s. s.entropies) e) (ap (λ s. s.entropies) f) words;
+}
+
+-- links that are bound
+abbrev pub links_bound : Profile → List LinkSpec → List Opened
+links_bound profile specs = map (λ spec. record { spec = spec; role = Bound; profile = profile }) specs

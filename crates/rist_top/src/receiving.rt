@@ -1,0 +1,339 @@
+//! A receiving, from its objects to its status.
+ghost use Rattle.std.specs.Prelude.{◌≡◌, ◌≢◌, ◌<◌, ◌≤◌, ◌⊎◌, IsTrue, IfOk, OnErr, length, is_some};
+ghost use Rattle.outside_io.specs.Causes.{HasOpenCause};
+ghost use Rattle.outside_io.specs.Told.{IsEmpty};
+ghost use Rattle.outside_host.specs.Shelf.{ChangesReport};
+ghost use Rattle.host_links.specs.Opening.{AreAsTheyWere};
+ghost use Rattle.rist_words.specs.Shown.{shown_recv};
+ghost use Rattle.rist_words.specs.Ranges.{IsInRecv};
+ghost use Rattle.rist_top.specs.Causes.{CanRefuse, fault_of};
+ghost use Rattle.rist_top.specs.Sealing.{FailedAt};
+ghost use Rattle.rist_top.specs.Sessions.{kept_steps, limits_received, settings_received, setup_received};
+ghost use Rattle.rist_top.specs.Works.{IsFreshFor};
+ghost use Rattle.rist_top.specs.Sent.{IsUnused};
+ghost use Rattle.rist_top.specs.Received.{ReceivedByClocks, ReceivedOnLinks, Received, ReceivesAs, Unreceived, reception_of};
+ghost use Rattle.rist_top.specs.Frame.{KeepsAroundSink, KeepsLinksBut, KeepsWords, OpensLinksAfterSink, links_received};
+ghost use Rattle.rist_top.specs.Inside.Answers.{KeepsButTiming, KeepsFiles};
+ghost use Rattle.rist_top.specs.Inside.Heard.{Hears};
+
+use crate::sealing::sealer_for;
+use crate::sessions::session_of;
+use crate::status::Status;
+use crate::telling::Telling;
+use host_links::{back_clocks, back_links, open_clocks, open_links};
+use outside_host::{Host, Reception};
+use outside_io::{NoMemory, Sink};
+use outside_net::{Clock, Kept, Link, Quiet, Role};
+use psk_seal::Sealer;
+use rist_desk::{Limits, Step};
+use rist_ends::{Counts, Settings};
+use rist_recv::{MadeTrace, Run, make, receive_on};
+use rist_words::RecvLine;
+use std::alloc::Global;
+use std::sync::Wait;
+use std::thread::Threads;
+
+// What the receiver of a line is set to.
+fn settings_of(line: &RecvLine<'_>) -> Settings
+    ensures value { result ≡ settings_received (shown_recv line.now) }
+{
+    Settings {
+        delay: line.receiver.delay,
+        span: line.receiver.span,
+        reorder: line.receiver.reorder,
+        least: line.receiver.least,
+        tries: line.receiver.tries,
+        nack: line.receiver.nack,
+        own: line.receiver.own,
+        muted: false,
+    }
+}
+
+// What a receiver counted, as a host takes it.
+fn reception_of(counts: &Counts) -> Reception
+    ensures value { result ≡ reception_of counts.now }
+{
+    Reception {
+        kept: counts.kept,
+        late: counts.late,
+        behind: counts.behind,
+        early: counts.early,
+        twice: counts.twice,
+        span: counts.span,
+        stranger: counts.stranger,
+        exhausted: counts.exhausted,
+        refused: counts.refused,
+    }
+}
+
+/// A run that ended, or that could not begin for want of memory, and its sink.
+struct Heard<K> {
+    sink: K,
+    end: Result<(Status, Counts), NoMemory>,
+}
+
+// Receives on links with traces of one kind.
+fn receive_with<
+    T: MadeTrace + Drop + Send,
+    K: Sink + Drop + Send,
+    L: Link + Drop + Send,
+    C: Clock + Drop + Send,
+    R: Threads + Wait + Sync,
+>(
+    rt: &R,
+    alloc: Global,
+    line: &RecvLine<'_>,
+    sealer: Option<Sealer>,
+    links: &mut Vec<L>,
+    clocks: &mut Vec<C>,
+    sink: K,
+) -> Heard<K>
+    requires range { IsInRecv (shown_recv line.now) }
+    requires kind { T.told ≡ is_some (kept_steps (shown_recv line.now)) }
+    requires fresh { IsFreshFor (shown_recv line.now).session sealer }
+    requires count { length links.old.items ≡ length line.now.links.items }
+    requires clocks { length clocks.old.items ≡ length line.now.links.items }
+    requires empty { IsEmpty (K.contents sink) }
+    ensures work { IfOk result.end (λ ended. ReceivesAs
+        (record { line = record { taken = L.taken; knows = L.knows; faults = L.faults; reads = L.reads; ends = L.ends }; moments = C.moments })
+        (shown_recv line.now) sealer links.old.items links.new.items clocks.old.items clocks.new.items
+        (K.contents sink) (K.contents result.sink) (K.faults sink) (K.faults result.sink) ended.1 ended.0) }
+    ensures memory { OnErr result.end
+        ((links.new ≡ links.old) × (clocks.new ≡ clocks.old) × (result.sink ≡ sink)) }
+    ensures line { IfOk result.end (λ ended. ended.0 ≢ Status.Usage) }
+    ensures ran { IfOk result.end (λ ended. CanRefuse ended.0 → ⊥) }
+    ensures links { length links.new.items ≡ length links.old.items }
+    ensures clocks { length clocks.new.items ≡ length clocks.old.items }
+{
+    let session = session_of(&line.session, false, false);
+    let made = match make::<T, L, C>(
+        alloc,
+        &settings_of(line),
+        &session,
+        sealer,
+        links.len(),
+        line.serving.keep as usize,
+    ) {
+        Ok(made) => made,
+        Err(refused) => {
+            return Heard {
+                sink,
+                end: Err(refused),
+            };
+        }
+    };
+    let limits = Limits {
+        turns: line.serving.turns,
+        idle: 1000 * line.serving.idle,
+    };
+    let Run {
+        ending,
+        counts,
+        sink,
+    } = receive_on(rt, made, links, clocks, sink, &limits);
+    Heard {
+        sink,
+        end: Ok((Status::of_ending(ending), counts)),
+    }
+}
+
+// Receives on links; its steps are kept where the line says so.
+fn receive_kept<
+    K: Sink + Drop + Send,
+    L: Link + Drop + Send,
+    C: Clock + Drop + Send,
+    R: Threads + Wait + Sync,
+>(
+    rt: &R,
+    alloc: Global,
+    line: &RecvLine<'_>,
+    sealer: Option<Sealer>,
+    links: &mut Vec<L>,
+    clocks: &mut Vec<C>,
+    sink: K,
+) -> Heard<K>
+    requires range { IsInRecv (shown_recv line.now) }
+    requires fresh { IsFreshFor (shown_recv line.now).session sealer }
+    requires count { length links.old.items ≡ length line.now.links.items }
+    requires clocks { length clocks.old.items ≡ length line.now.links.items }
+    requires empty { IsEmpty (K.contents sink) }
+    ensures work { IfOk result.end (λ ended. ReceivesAs
+        (record { line = record { taken = L.taken; knows = L.knows; faults = L.faults; reads = L.reads; ends = L.ends }; moments = C.moments })
+        (shown_recv line.now) sealer links.old.items links.new.items clocks.old.items clocks.new.items
+        (K.contents sink) (K.contents result.sink) (K.faults sink) (K.faults result.sink) ended.1 ended.0) }
+    ensures memory { OnErr result.end
+        ((links.new ≡ links.old) × (clocks.new ≡ clocks.old) × (result.sink ≡ sink)) }
+    ensures line { IfOk result.end (λ ended. ended.0 ≢ Status.Usage) }
+    ensures ran { IfOk result.end (λ ended. CanRefuse ended.0 → ⊥) }
+    ensures links { length links.new.items ≡ length links.old.items }
+    ensures clocks { length clocks.new.items ≡ length clocks.old.items }
+{
+    if line.serving.keep == 0 {
+        receive_with::<Quiet, K, L, C, R>(rt, alloc, line, sealer, links, clocks, sink)
+    } else {
+        receive_with::<Kept<Step>, K, L, C, R>(rt, alloc, line, sealer, links, clocks, sink)
+    }
+}
+
+// Receives on links and tells the host what the receiver counted.
+fn receive_sealed<R: Threads + Wait + Sync, H: Host>(
+    rt: &R,
+    alloc: Global,
+    host: &mut H,
+    line: &RecvLine<'_>,
+    sealer: Option<Sealer>,
+    links: &mut Vec<H::Wire>,
+    clocks: &mut Vec<H::Time>,
+    sink: H::Output,
+) -> (H::Output, Status)
+    requires range { IsInRecv (shown_recv line.now) }
+    requires fresh { IsFreshFor (shown_recv line.now).session sealer }
+    requires count { length links.old.items ≡ length line.now.links.items }
+    requires clocks { length clocks.old.items ≡ length line.now.links.items }
+    requires empty { IsEmpty (H.Output.contents sink) }
+    ensures work { (CanRefuse result.1 → ⊥) → Hears ⟦<H as Telling>⟧.objects ⟦<H as Telling>⟧.live H.tells
+        (H.shelf host.new) (shown_recv line.now) sealer links.old.items links.new.items clocks.old.items clocks.new.items
+        sink result.0 result.1 }
+    ensures refused { CanRefuse result.1 → (result.1 ≡ Status.Memory) × (links.new ≡ links.old)
+        × (clocks.new ≡ clocks.old) × (result.0 ≡ sink) × (host.new ≡ host.old) }
+    ensures line { result.1 ≢ Status.Usage }
+    ensures same { IsTrue H.tells → ChangesReport (H.shelf host.old) (H.shelf host.new) }
+    ensures opened { H.faults host.new ≡ H.faults host.old }
+    ensures links { length links.new.items ≡ length links.old.items }
+    ensures clocks { length clocks.new.items ≡ length clocks.old.items }
+{
+    let Heard { sink, end } = receive_kept(rt, alloc, line, sealer, links, clocks, sink);
+    match end {
+        Ok((status, counts)) => {
+            host.report(&reception_of(&counts));
+            (sink, status)
+        }
+        Err(_) => (sink, Status::Memory),
+    }
+}
+
+// Receives on links by the host's next clocks, under a sealer where the line has a passphrase.
+fn receive_by_clocks<R: Threads + Wait + Sync, H: Host>(
+    rt: &R,
+    alloc: Global,
+    host: &mut H,
+    line: &RecvLine<'_>,
+    links: &mut Vec<H::Wire>,
+    sink: H::Output,
+) -> (H::Output, Status)
+    requires range { IsInRecv (shown_recv line.now) }
+    requires count { length links.old.items ≡ length line.now.links.items }
+    requires empty { IsEmpty (H.Output.contents sink) }
+    ensures received { IsTrue H.tells → (H.shelf host.old).next_clock ≡ 0 → (H.shelf host.old).next_entropy ≡ 0
+        → (CanRefuse result.1 → ⊥) → ReceivedByClocks ⟦<H as Telling>⟧.objects ⟦<H as Telling>⟧.live
+        (H.shelf host.old) (H.shelf host.new) (shown_recv line.now)
+        links.old.items links.new.items sink result.0 result.1 }
+    ensures unreceived { CanRefuse result.1 → (links.new ≡ links.old) × (result.0 ≡ sink) }
+    ensures clocks { IsTrue H.tells → (H.shelf host.old).next_clock ≡ 0 → CanRefuse result.1
+        → AreAsTheyWere (H.shelf host.old).clocks (H.shelf host.new).clocks }
+    ensures unreported { IsTrue H.tells → CanRefuse result.1 → (H.shelf host.new).report ≡ (H.shelf host.old).report }
+    ensures random { IsTrue H.tells → (H.shelf host.old).next_entropy ≡ 0 → result.1 ≡ Status.EntropyFault
+        → FailedAt ⟦<H as Telling>⟧.objects (H.shelf host.old) (H.shelf host.new) }
+    ensures others { IsTrue H.tells → KeepsButTiming (H.shelf host.old) (H.shelf host.new) }
+    ensures times { IsTrue H.tells → (H.shelf host.old).next_clock ≡ 0
+        → KeepsLinksBut (length line.now.links.items) (H.shelf host.old).clocks (H.shelf host.new).clocks }
+    ensures words { IsTrue H.tells → (H.shelf host.old).next_entropy ≡ 0
+        → KeepsWords (H.shelf host.old) (H.shelf host.new) (is_some (shown_recv line.now).session.pass) }
+    ensures line { result.1 ≢ Status.Usage }
+    ensures opened { HasOpenCause (fault_of result.1) (H.faults host.old) (H.faults host.new) }
+    ensures links { length links.new.items ≡ length links.old.items }
+{
+    let mut clocks = match open_clocks(alloc, host, links.len()) {
+        Ok(clocks) => clocks,
+        Err(bad) => return (sink, Status::of_host(bad)),
+    };
+    let (sink, status) = match sealer_for(host, &line.session) {
+        Ok(sealer) => {
+            receive_sealed(rt, alloc, host, line, sealer, links, &mut clocks, sink)
+        }
+        Err(status) => (sink, status),
+    };
+    back_clocks(host, clocks);
+    (sink, status)
+}
+
+// Receives on the links of a line.
+fn receive_on_links<R: Threads + Wait + Sync, H: Host>(
+    rt: &R,
+    alloc: Global,
+    host: &mut H,
+    line: &RecvLine<'_>,
+    sink: H::Output,
+) -> (H::Output, Status)
+    requires range { IsInRecv (shown_recv line.now) }
+    requires empty { IsEmpty (H.Output.contents sink) }
+    ensures received { IsUnused H.tells (H.shelf host.old) → (CanRefuse result.1 → ⊥)
+        → ReceivedOnLinks ⟦<H as Telling>⟧.objects ⟦<H as Telling>⟧.live
+        (H.shelf host.old) (H.shelf host.new) (shown_recv line.now) sink result.0 result.1 }
+    ensures unreceived { CanRefuse result.1 → result.0 ≡ sink }
+    ensures others { IsTrue H.tells → KeepsFiles (H.shelf host.old) (H.shelf host.new) }
+    ensures kept { IsUnused H.tells (H.shelf host.old) → KeepsLinksBut (length (shown_recv line.now).links)
+        (H.shelf host.old).links (H.shelf host.new).links }
+    ensures times { IsUnused H.tells (H.shelf host.old) → KeepsLinksBut (length (shown_recv line.now).links)
+        (H.shelf host.old).clocks (H.shelf host.new).clocks }
+    ensures words { IsUnused H.tells (H.shelf host.old)
+        → KeepsWords (H.shelf host.old) (H.shelf host.new) (is_some (shown_recv line.now).session.pass) }
+    ensures links_opened { IsUnused H.tells (H.shelf host.old) → (CanRefuse result.1 → ⊥)
+        → (H.shelf host.new).opened_links ≡ links_received (shown_recv line.now) }
+    ensures links { IsUnused H.tells (H.shelf host.old) → CanRefuse result.1
+        → AreAsTheyWere (H.shelf host.old).links (H.shelf host.new).links }
+    ensures clocks { IsUnused H.tells (H.shelf host.old) → CanRefuse result.1
+        → AreAsTheyWere (H.shelf host.old).clocks (H.shelf host.new).clocks }
+    ensures unreported { IsTrue H.tells → CanRefuse result.1 → (H.shelf host.new).report ≡ (H.shelf host.old).report }
+    ensures random { IsUnused H.tells (H.shelf host.old) → result.1 ≡ Status.EntropyFault
+        → FailedAt ⟦<H as Telling>⟧.objects (H.shelf host.old) (H.shelf host.new) }
+    ensures line { result.1 ≢ Status.Usage }
+    ensures opened { HasOpenCause (fault_of result.1) (H.faults host.old) (H.faults host.new) }
+{
+    let mut links = match open_links(
+        alloc,
+        host,
+        line.links.as_slice(),
+        Role::Receives,
+        line.session.profile,
+    ) {
+        Ok(links) => links,
+        Err(bad) => return (sink, Status::of_host(bad)),
+    };
+    let (sink, status) = receive_by_clocks(rt, alloc, host, line, &mut links, sink);
+    back_links(host, links);
+    (sink, status)
+}
+
+/// Does the line of a receiving.
+pub fn receive_line<R: Threads + Wait + Sync, H: Host>(
+    rt: &R,
+    alloc: Global,
+    host: &mut H,
+    line: &RecvLine<'_>,
+) -> Status
+    requires range { IsInRecv (shown_recv line.now) }
+    ensures received { IsUnused H.tells (H.shelf host.old) → (CanRefuse result → ⊥)
+        → Received ⟦<H as Telling>⟧.objects ⟦<H as Telling>⟧.live
+        (H.shelf host.old) (H.shelf host.new) (shown_recv line.now) result }
+    ensures unreceived { IsUnused H.tells (H.shelf host.old) → CanRefuse result
+        → Unreceived (H.shelf host.old) (H.shelf host.new) (shown_recv line.now) }
+    ensures around { IsUnused H.tells (H.shelf host.old)
+        → KeepsAroundSink (H.shelf host.old) (H.shelf host.new) (shown_recv line.now) }
+    ensures links_opened { IsUnused H.tells (H.shelf host.old) → (CanRefuse result → ⊥)
+        → (H.shelf host.new).opened_links ≡ links_received (shown_recv line.now) }
+    ensures order { IsTrue H.tells
+        → OpensLinksAfterSink (H.shelf host.old) (H.shelf host.new) (shown_recv line.now) }
+    ensures random { IsUnused H.tells (H.shelf host.old) → result ≡ Status.EntropyFault
+        → FailedAt ⟦<H as Telling>⟧.objects (H.shelf host.old) (H.shelf host.new) }
+    ensures line { result ≢ Status.Usage }
+    ensures opened { HasOpenCause (fault_of result) (H.faults host.old) (H.faults host.new) }
+{
+    let sink = match host.sink(line.out) {
+        Ok(sink) => sink,
+        Err(bad) => return Status::of_host(bad),
+    };
+    let (sink, status) = receive_on_links(rt, alloc, host, line, sink);
+    host.back_sink(line.out, sink);
+    status
+}
