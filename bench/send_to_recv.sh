@@ -5,9 +5,9 @@
 # in the middle. Pieces before the first that came and after the last can't be known to be missing; none may be missing between,
 # and none may come twice. It takes two minutes, needs python3, uses 127.0.0.1 alone and writes only below a new folder in /tmp.
 # Where a tool isn't there it says so and ends with status 3, without `recv` with status 4.
-# Words: the relay's seed (default 1).
+# Words: the relay's seed (default 1), how many pieces (8,000), microseconds between two (1,000).
 set -eu
-seed=${1:-1}
+seed=${1:-1} count=${2:-8000} gap=${3:-1000}
 here=$(cd "$(dirname "$0")" && pwd)
 top=$(dirname "$here")
 . "$here/recv_common.sh"
@@ -16,7 +16,7 @@ work=$(mktemp -d /tmp/send_to_recv.XXXXXX)
 started=
 trap 'kill $started 2> /dev/null || true; rm -rf "$work"' EXIT
 need_recv
-python3 "$here/pieces.py" make "$work/source" 8000
+python3 "$here/pieces.py" make "$work/source" "$count"
 loss='--lose 4 --lose-back 4 --delay 5 --late 2 --later 8 --double 1 --whole 20 --quiet 4'
 
 # try NAME SESSION RECV RELAY LINKS INS OUTS: a sending to INS and a receiving at OUTS with the session's words and RECV's, and
@@ -32,7 +32,7 @@ try() {
     started="$started $receiver"
     sleep 0.3
     status=0
-    timeout 60 "$top/bin/rist" send "$work/source" $ins --linger 2000 $session || status=$?
+    timeout 60 "$top/bin/rist" send "$work/source" $ins --gap "$gap" --linger 2000 $session || status=$?
     [ "$status" = 0 ] || echo "rist send ended with status $status"
     got=0
     wait $receiver || got=$?
@@ -51,9 +51,8 @@ for nack in range mask; do
     try "Main Profile, enciphered, $nack requests" "$keyed" "--nack $nack" --one-port 7000:5000 127.0.0.1:7000 127.0.0.1:5000 || bad=1
 done
 # Until the cut link's worker ends, half of the requests go there: more of them are allowed.
-two='7000:5000 7002:5002' tries='--tries 20'
-try 'two links, one cut in the middle' '' "$tries" '--cut 1@4000' "$two" '127.0.0.1:7000 127.0.0.1:7002' \
-    '127.0.0.1:5000 127.0.0.1:5002' || bad=1
-try 'two links, enciphered, one cut in the middle' "$keyed" "$tries" '--one-port --cut 0@4000' "$two" '127.0.0.1:7000 127.0.0.1:7002' \
-    '127.0.0.1:5000 127.0.0.1:5002' || bad=1
+two='7000:5000 7002:5002' ins='127.0.0.1:7000 127.0.0.1:7002' outs='127.0.0.1:5000 127.0.0.1:5002' tries='--tries 20'
+half=$((count / 2))
+try 'two links, one cut in the middle' '' "$tries" "--cut 1@$half" "$two" "$ins" "$outs" || bad=1
+try 'two links, enciphered, one cut in the middle' "$keyed" "$tries" "--one-port --cut 0@$half" "$two" "$ins" "$outs" || bad=1
 exit $bad
