@@ -19,10 +19,10 @@ need_recv
 python3 "$here/pieces.py" make "$work/source" "$count"
 loss='--lose 4 --lose-back 4 --delay 5 --late 2 --later 8 --double 1 --whole 20 --quiet 4'
 
-# try NAME SESSION RECV RELAY LINKS INS OUTS: a sending to INS and a receiving at OUTS with the session's words and RECV's, and
-# a relay with the words RELAY between them.
+# try NAME SESSION SEND RECV RELAY LINKS INS OUTS: a sending to INS and a receiving at OUTS with the session's words and those of
+# each, and a relay with the words RELAY between them.
 try() {
-    name=$1 session=$2 recv=$3 relay=$4 links=$5 ins=$6 outs=$7
+    name=$1 session=$2 send=$3 recv=$4 relay=$5 links=$6 ins=$7 outs=$8
     echo "$name"
     timeout 60 python3 "$here/relay.py" $loss --seed "$seed" $relay $links > "$work/relay" &
     started="$!"
@@ -32,7 +32,7 @@ try() {
     started="$started $receiver"
     sleep 0.3
     status=0
-    timeout 60 "$top/bin/rist" send "$work/source" $ins --gap "$gap" --linger 2000 $session || status=$?
+    timeout 60 "$top/bin/rist" send "$work/source" $ins --gap "$gap" --linger 2000 $session $send || status=$?
     [ "$status" = 0 ] || echo "rist send ended with status $status"
     got=0
     wait $receiver || got=$?
@@ -46,13 +46,17 @@ try() {
 
 bad=0
 keyed='--profile main --pass secret'
+half=$((count / 2))
+one=7000:5000 in=127.0.0.1:7000 out=127.0.0.1:5000
+# With mask requests the sequence numbers wrap in the middle.
 for nack in range mask; do
-    try "Simple Profile, $nack requests" '' "--nack $nack" '' 7000:5000 127.0.0.1:7000 127.0.0.1:5000 || bad=1
-    try "Main Profile, enciphered, $nack requests" "$keyed" "--nack $nack" --one-port 7000:5000 127.0.0.1:7000 127.0.0.1:5000 || bad=1
+    first=0
+    [ $nack = range ] || first=$((65536 - half))
+    try "Simple Profile, $nack requests" '' "--first $first" "--nack $nack" '' $one $in $out || bad=1
+    try "Main Profile, enciphered, $nack requests" "$keyed" "--first $first" "--nack $nack" --one-port $one $in $out || bad=1
 done
 # Until the cut link's worker ends, half of the requests go there: more of them are allowed.
 two='7000:5000 7002:5002' ins='127.0.0.1:7000 127.0.0.1:7002' outs='127.0.0.1:5000 127.0.0.1:5002' tries='--tries 20'
-half=$((count / 2))
-try 'two links, one cut in the middle' '' "$tries" "--cut 1@$half" "$two" "$ins" "$outs" || bad=1
-try 'two links, enciphered, one cut in the middle' "$keyed" "$tries" "--one-port --cut 0@$half" "$two" "$ins" "$outs" || bad=1
+try 'two links, one cut in the middle' '' '' "$tries" "--cut 1@$half" "$two" "$ins" "$outs" || bad=1
+try 'two links, enciphered, one cut in the middle' "$keyed" '' "$tries" "--one-port --cut 0@$half" "$two" "$ins" "$outs" || bad=1
 exit $bad
