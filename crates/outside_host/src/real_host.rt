@@ -57,7 +57,8 @@ impl<'a, R> RealHost<'a, R> {
     }
 }
 
-impl<'a, R: Files + Input + Print + Eprint + RandomSource + Net + Clock + Sync> Host for RealHost<'a, R>
+impl<'a, R: Files + Input + Print + Eprint + RandomSource + Net + Clock + Sync> Host
+    for RealHost<'a, R>
 where
     R::File: Send,
 {

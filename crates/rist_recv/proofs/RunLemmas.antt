@@ -82,9 +82,9 @@ all_served {L} {C} {U} given moments links tells limits ws later served link was
     let before = told_at tells ws link was had in
     let after = told_at tells later link is has in
     let there : ServesOn given moments links tells limits link before.0 after.0 =
-        subst (λ x. ServesOn given moments links tells limits link x after.0) (get_or_from_slice_get ws link before.0 before.0 before.1)
-        (subst (λ y. ServesOn given moments links tells limits link (slice_index_or ws link before.0) y) (get_or_from_slice_get later link after.0 before.0 after.1)
-        (served link before.0 (slice_get_within ws link before.0 before.1))) in
+    subst (λ x. ServesOn given moments links tells limits link x after.0) (get_or_from_slice_get ws link before.0 before.0 before.1)
+    (subst (λ y. ServesOn given moments links tells limits link (slice_index_or ws link before.0) y) (get_or_from_slice_get later link after.0 before.0 after.1)
+    (served link before.0 (slice_get_within ws link before.0 before.1))) in
     subst (λ x. ServesOn given moments links told_trace limits link x is) before.2
     (subst (λ y. ServesOn given moments links told_trace limits link (told_by tells before.0) y) after.2
     (serves_told given moments links tells limits link before.0 after.0 there))
@@ -95,11 +95,11 @@ pub all_new : {L C U : Type 0} (tells : TraceTells U) (s : Setup) (seats : List 
 all_new {L} {C} {U} tells s seats ws same are unended =
     All-map (IsNewWorker s) (told_by tells) ws
     (λ place d less.
-        let seat : IsSeat tells.list tells.limit s.session s.keep (seat_of (slice_index_or ws place d)) =
-            subst (IsSeat tells.list tells.limit s.session s.keep) (get_or-map seat_of ws place d (seat_of d) less)
-            (subst (λ l. IsSeat tells.list tells.limit s.session s.keep (slice_index_or l place (seat_of d))) (sym same)
-            (are place (seat_of d) (subst (λ l. place < length l) same (subst (λ n. place < n) (sym (length-map ws seat_of)) less)))) in
-        record { session = seat.session_is; list = seat.list_is; limit = seat.limit_is; unended = unended place d less })
+    let seat : IsSeat tells.list tells.limit s.session s.keep (seat_of (slice_index_or ws place d)) =
+    subst (IsSeat tells.list tells.limit s.session s.keep) (get_or-map seat_of ws place d (seat_of d) less)
+    (subst (λ l. IsSeat tells.list tells.limit s.session s.keep (slice_index_or l place (seat_of d))) (sym same)
+    (are place (seat_of d) (subst (λ l. place < length l) same (subst (λ n. place < n) (sym (length-map ws seat_of)) less)))) in
+    record { session = seat.session_is; list = seat.list_is; limit = seat.limit_is; unended = unended place d less })
 
 -- the counts of a receiver that came to its end
 pub counted : (given : Given) (desk : DeskState) (counts : Counts) (before : Option (List Step)) → desk.kept ≡ option_map (λ steps. steps ++ the_end ∷ []) before

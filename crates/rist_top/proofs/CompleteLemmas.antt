@@ -36,6 +36,8 @@ is_memory (statuses.BadCapture kind at) = inr (λ e. cc)
 is_memory statuses.EntropyFault = inr (λ e. cc)
 is_memory statuses.TooLong = inr (λ e. cc)
 is_memory statuses.LinksDown = inr (λ e. cc)
+is_memory statuses.TraceFull = inr (λ e. cc)
+is_memory (statuses.Torn tear) = inr (λ e. cc)
 is_memory statuses.Spent = inr (λ e. cc)
 is_memory statuses.TurnsSpent = inr (λ e. cc)
 

@@ -1,17 +1,17 @@
 -- What is left where the words are no line of a command that waits for nobody, and where memory is refused before a line is known.
-use Rattle.std.proofs.Common.{◌≡◌, ◌∙◌, ℕ, List, Bool, refl, sym, ap, map}
+use Rattle.std.proofs.Common.{◌≡◌, ℕ, List, Bool, refl, ap}
 use mathlib.Core.Logic.{inl, inr}
-use Rattle.std.specs.Prelude.{Option, None, Some, string_bytes}
+use Rattle.std.specs.Prelude.{Option, None, Some}
 use Rattle.std.specs.declared.string.String.{String}
 use Rattle.outside_host.specs.Shelf.{Shelf}
-use Rattle.rist_words.specs.CommandLine.{CommandLine, Replay, Show, Pack, Send, Recv, Gate, SendCommand, RecvCommand, line_of}
+use Rattle.rist_words.specs.CommandLine.{CommandLine, Replay, Show, Pack, Send, Recv, Gate, SendCommand, RecvCommand}
 use Rattle.rist_top.specs.Causes.{CanRefuse}
 use Rattle.rist_top.specs.Does.{Does}
 use Rattle.rist_top.specs.Frame.{KeepsOthers, KeepsAround, KeepsAroundSink}
 use Rattle.rist_top.specs.Lines.{IsLine, IsNoPlainLine, IsOverFiles, plain_line, done_line}
 use Rattle.rist_top.specs.Objects.{Tells}
 use Rattle.rist_top.specs.Received.{Unreceived}
-use Rattle.rist_top.specs.Sent.{TellsLive, Unsent}
+use Rattle.rist_top.specs.Sent.{TellsLive}
 use Rattle.rist_top.specs.Untouched.{Untouched, LeavesAtMemory}
 use Rattle.rist_top.specs.declared.status.Status.{Status}
 use Rattle.rist_top.specs.declared.status.Status.TheVariants as statuses
@@ -57,7 +57,7 @@ keeps_others old c = record {
   sink = inl refl;
   first = inl refl;
   undrawn = λ none. refl;
-  live = record { links = refl; opened = refl; clocks = refl; next = refl };
+  live = record { links = refl; opened = refl; clocks = refl; next = refl; report = refl };
 }
 
 keeps_around : {I O E L C : Type 0} (old : Shelf I O E L C) (c : SendCommand) → KeepsAround old old c

@@ -1,25 +1,24 @@
 -- A receiving in which nothing fails but links, of which one doesn't, comes to its end.
-use Rattle.std.proofs.Common.{◌≡◌, ◌∙◌, ◌⊎◌, ◌<◌, ℕ, List, [], ◌∷◌, length, map, Bool, true, false, Option, None, Some, refl, sym, ap, subst, slice_get, get_or, arith}
+use Rattle.std.proofs.Common.{◌≡◌, ◌∙◌, ◌⊎◌, ◌<◌, ℕ, List, [], ◌∷◌, length, map, Bool, true, Some, refl, sym, ap, subst, slice_get, get_or, arith}
 use Rattle.std.proofs.lemmas.List.{length-map, get_or-map}
-use Rattle.std.proofs.lemmas.List.Folds.{All-from_list_all}
+use Rattle.std.proofs.lemmas.List.Sums.{AllPass-from_list_all}
 use Rattle.std.proofs.lemmas.Option.{get_or_from_slice_get, slice_get-get_or}
 use mathlib.Core.Logic.{inl, inr}
 use Rattle.outside_io.specs.Causes.{Rose, RoseWhere}
 use Rattle.outside_host.specs.Shelf.{Shelf}
-use Rattle.outside_host.specs.declared.host.Place.{Place}
 use Rattle.outside_host.specs.declared.host.Place.TheVariants.{Here, Back}
 use Rattle.rist_desk.specs.declared.ended.Ended.{Ended}
 use Rattle.rist_desk.specs.declared.ended.Ended.TheVariants as ends
-use Rattle.rist_desk.specs.declared.step.Step.{Step}
 use Rattle.rist_desk.specs.declared.worker.Worker.{Worker}
-use Rattle.rist_desk.specs.Serving.{Serves}
+use Rattle.rist_desk.specs.Serving.{ServesOn}
 use Rattle.rist_desk.specs.Inside.Going.{is_link_failure}
 use Rattle.rist_recv.specs.declared.ending.Ending.{Ending}
+use Rattle.rist_sender.specs.Links.{Line}
 use Rattle.rist_recv.specs.declared.ending.Ending.TheVariants as endings
 use Rattle.rist_recv.specs.Endings.{all_workers, is_link_failed, is_write_fault}
-use Rattle.rist_recv.specs.Run.{EndsAs, Receives}
+use Rattle.rist_recv.specs.Run.{EndsAs}
 use Rattle.rist_recv.specs.Setup.{given_to}
-use Rattle.rist_recv.specs.Workers.{link_of}
+use Rattle.rist_recv.specs.Workers.{ToldTrace, link_of, told_trace}
 use Rattle.rist_words.specs.CommandLine.{RecvCommand}
 use Rattle.rist_top.specs.Causes.{CanRefuse}
 use Rattle.rist_top.specs.Complete.{CompletesReceiving, IsHeard, NoWriteFailed, StaysUp}
@@ -51,7 +50,7 @@ rose_by : (b : Bool) (before now : ℕ) → b ≡ true → RoseWhere b before no
 rose_by b before now is rose = subst (λ x. RoseWhere x before now) is rose
 
 -- the link of a worker
-link_at : {L C : Type 0} (ws : List (Worker L C (Option (List Step)))) (links : List L) (i : ℕ) (w : Worker L C (Option (List Step))) → map link_of ws ≡ links → i < length ws → slice_get ws i ≡ Some w
+link_at : {L C : Type 0} (ws : List (Worker L C ToldTrace)) (links : List L) (i : ℕ) (w : Worker L C ToldTrace) → map link_of ws ≡ links → i < length ws → slice_get ws i ≡ Some w
     → get_or links i w.link ≡ w.link
 link_at ws links i w are less here =
     ap (λ l. get_or l i w.link) (sym are) ∙ (get_or-map link_of ws i w w.link less ∙ ap link_of (get_or_from_slice_get ws i w w here))
@@ -67,12 +66,12 @@ each_failed {L = L} {C = C} tells live old new c status r failed stays =
     let later : stays.place < length run.are = subst (λ n. stays.place < n) (sym run.as_many) less in
     let was = at_place run.were stays.place less in
     let is = at_place run.are stays.place later in
-    let s : Serves live.moments (link_tells live.line) (λ list. list) (limits_received c) stays.place was.0 is.0 = run.served stays.place was.0 is.0 was.1 is.1 in
-    let end : is_link_failed (Some s.end) ≡ true =
-        ap is_link_failed (sym s.ended) ∙ (ap (λ (w : Worker L C (Option (List Step))). is_link_failed w.end) (sym (get_or_from_slice_get run.are stays.place is.0 is.0 is.1))
-        ∙ All-from_list_all (λ (w : Worker L C (Option (List Step))). is_link_failed w.end) run.are failed stays.place is.0 later) in
+    let s : ServesOn (given_to (setup_received c r.received.received.sealer) (tells.contents r.sink) (tells.write_faults r.sink)) live.moments (link_tells live.line) told_trace (limits_received c) stays.place was.0 is.0 = run.served stays.place was.0 is.0 was.1 is.1 in
+    let end : is_link_failed (Some s.made.end) ≡ true =
+    ap is_link_failed (sym s.made.ended) ∙ (ap (λ (w : Worker L C ToldTrace). is_link_failed w.end) (sym (get_or_from_slice_get run.are stays.place is.0 is.0 is.1))
+    ∙ AllPass-from_list_all (λ (w : Worker L C ToldTrace). is_link_failed w.end) run.are failed stays.place is.0 later) in
     let rose : Rose (live.line.faults was.0.link) (live.line.faults is.0.link) =
-        rose_by (is_link_failure (Some s.end)) (live.line.faults was.0.link) (live.line.faults is.0.link) (sym (same_failure s.end) ∙ end) s.failed_cause in
+    rose_by (is_link_failure (Some s.made.end)) (live.line.faults was.0.link) (live.line.faults is.0.link) (sym (same_failure s.made.end) ∙ end) s.made.failed_cause in
     let among : stays.place < length o.links_were = subst (λ n. stays.place < n) (sym o.count) stays.among in
     stays.up was.0.link is.0.link
     (o.links.took stays.place was.0.link among ∙ ap Here (link_at run.were o.links_were stays.place was.0 run.links_had less was.1))
@@ -109,3 +108,12 @@ received_completes tells live old new c status opened words received none stays 
     by_refusal (inr ran) =
         let r = received ran in
         ended_by tells live old new c status r r.received.received.receives.ending refl r.received.received.receives.answer none stays
+
+-- the same line, under two names
+pub received_same : {I O E L C : Type 0} (tells : Tells I O E) (live : TellsLive L C) (old new : Shelf I O E L C) (c d : RecvCommand) (status : Status) → c ≡ d
+    → Received tells live old new c status → Received tells live old new d status
+received_same tells live old new c d status same received = subst (λ x. Received tells live old new x status) same received
+
+pub completes_same : {I O E L C : Type 0} (tells : Tells I O E) (line : Line L) (old new : Shelf I O E L C) (c d : RecvCommand) (status : Status) → c ≡ d
+    → CompletesReceiving tells line old new c status → CompletesReceiving tells line old new d status
+completes_same tells line old new c d status same completes = subst (λ x. CompletesReceiving tells line old new x status) same completes

@@ -1,37 +1,43 @@
 -- What a receiving leaves, part by part.
-use Rattle.std.proofs.Common.{◌≡◌, ◌∙◌, ◌<◌, ℕ, List, [], length, map, Bool, true, false, Option, None, Some, IfSome, is_some, refl, sym, ap, subst, get_or}
+use Rattle.std.proofs.Common.{◌≡◌, ◌∙◌, ◌<◌, ℕ, List, length, map, Bool, true, false, Option, None, Some, IfSome, is_some, refl, sym, ap, subst}
 use Rattle.std.specs.Prelude.{if◌then◌else◌}
-use mathlib.Core.Logic.{inl, inr}
+use mathlib.Core.Logic.{inr}
 use Rattle.outside_io.specs.declared.profile.Profile.{Profile}
 use Rattle.outside_net.specs.declared.link_spec.LinkSpec.{LinkSpec}
 use Rattle.outside_net.specs.declared.link_spec.Role.TheVariants.{Receives as Bound}
 use Rattle.outside_host.specs.declared.host.Opened.{Opened}
 use Rattle.outside_host.specs.declared.host.Place.{Place}
-use Rattle.outside_host.specs.declared.host.Place.TheVariants.{Here, Out, Back}
 use Rattle.outside_host.specs.Shelf.{Shelf, HandsOut, TakesBack, ChangesSinks}
 use Rattle.host_links.specs.Opening.{AreOut, AreBack}
 use Rattle.psk_seal.specs.Sealer.{SealerState}
 use Rattle.rist_ends.specs.declared.counts.Counts.{Counts}
-use Rattle.rist_recv.specs.declared.ending.Ending.{Ending}
-use Rattle.rist_recv.specs.Run.{Receives}
-use Rattle.rist_recv.specs.Setup.{Setup}
+use Rattle.rist_recv.specs.Setup.{setup_made}
+use Rattle.rist_ends.specs.declared.settings.Settings.{Settings as ReceiverSettings}
+use Rattle.rist_wire.specs.declared.session.Session.{Session}
 use Rattle.rist_words.specs.CommandLine.{RecvCommand}
 use Rattle.rist_top.specs.Frame.{KeepsLinksBut, KeepsWords, KeepsAroundSink}
 use Rattle.rist_top.specs.Inside.Answers.{KeepsFiles}
 use Rattle.rist_top.specs.Objects.{Tells}
 use Rattle.rist_top.specs.Places.{CameBack}
-use Rattle.rist_top.specs.Received.{FromTheFirst, ReceivedByClocks, ReceivedOnLinks, ReceivesAs, link_tells, receive_status}
+use Rattle.rist_top.specs.Received.{FromTheFirst, ReceivedByClocks, ReceivedOnLinks, ReceivesAs}
 use Rattle.rist_top.specs.Sealing.{DrawnFirst}
-use Rattle.rist_top.specs.Sent.{TellsLive}
-use Rattle.rist_top.specs.Sessions.{setup_received, limits_received}
+use Rattle.rist_top.specs.Sent.{IsUnused, TellsLive}
+use Rattle.rist_top.specs.Sessions.{kept_steps, session_read, settings_received, setup_received}
 use Rattle.rist_top.specs.declared.status.Status.{Status}
 
 -- a kind of trace that keeps steps where a line says so keeps as many as it says
-pub kept_as : (b t : Bool) (n : ℕ) → b ≡ is_some {ℕ} (if t then None else Some n) → (if b then Some n else None) ≡ (if t then None else Some n)
+pub kept_as : (b t : Bool) (n : ℕ) → b ≡ is_some (if t then None else Some n) → (if b then Some n else None) ≡ (if t then None else Some n)
 kept_as true true n is = absurd (cc (is))
 kept_as true false n is = refl
 kept_as false true n is = refl
 kept_as false false n is = absurd (cc (is))
+
+-- a run is set to what a line says
+pub same_setup : (c : RecvCommand) (settings : ReceiverSettings) (session : Session) (sealer : Option SealerState) (keep : Option ℕ) → settings ≡ settings_received c → session ≡ session_read c.session
+    → keep ≡ kept_steps c → setup_made settings session sealer keep ≡ setup_received c sealer
+same_setup c settings session sealer keep a b d =
+    ap (λ x. setup_made x session sealer keep) a
+    ∙ (ap (λ x. setup_made (settings_received c) x sealer keep) b ∙ ap (λ x. setup_made (settings_received c) (session_read c.session) sealer x) d)
 
 -- objects that were handed out from the first places, and came back there
 pub from_first : {X : Type 0} (old mid later new : ℕ → Place X) (were are : List X) → AreOut old mid were → later ≡ mid → AreBack later new are → length are ≡ length were
@@ -95,3 +101,19 @@ around_sink old mid later new c sink filled out e files links clocks words back 
 -- links that are bound
 abbrev pub links_bound : Profile → List LinkSpec → List Opened
 links_bound profile specs = map (λ spec. record { spec = spec; role = Bound; profile = profile }) specs
+
+-- a host that hands out a sink is as unused as before
+pub still_unused_behind : {I O E L C : Type 0} (tells : Bool) (old mid : Shelf I O E L C) → ChangesSinks old mid → IsUnused tells old → IsUnused tells mid
+still_unused_behind tells old mid e unused = record {
+  told = unused.told;
+  entropy = ap (λ x. x.next_entropy) e ∙ unused.entropy;
+  links = ap (λ x. x.opened_links) e ∙ unused.links;
+  clock = ap (λ x. x.next_clock) e ∙ unused.clock;
+}
+
+-- what a run left, under the names of its caller
+pub receives_same : {O L C : Type 0} (contents : O → Option (List ℕ)) (faults : O → ℕ) (live : TellsLive L C) (c : RecvCommand) (sealer : Option SealerState) (links_were links links' : List L)
+    (clocks_were clocks clocks' : List C) (sink : O) (r r' : O × Status) (counts : Counts) → links' ≡ links → clocks' ≡ clocks → r' ≡ r
+    → ReceivesAs live c sealer links_were links clocks_were clocks (contents sink) (contents r.0) (faults sink) (faults r.0) counts r.1
+    → ReceivesAs live c sealer links_were links' clocks_were clocks' (contents sink) (contents r'.0) (faults sink) (faults r'.0) counts r'.1
+receives_same contents faults live c sealer links_were links links' clocks_were clocks clocks' sink r r' counts a b d receives = rw (a, b, d) receives

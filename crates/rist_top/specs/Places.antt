@@ -12,9 +12,10 @@ CameBack {X} old new = (new ≡ old) ⊎ ((x : X) × (y : X) × (old ≡ Here x)
 abbrev pub IsAsItWas : {X : Type 0} → Place X → Place X → Type 0
 IsAsItWas {X} old new = (new ≡ old) ⊎ ((object : X) × (old ≡ Here object) × (new ≡ Back object))
 
--- no link and no clock was handed out or came back
+-- no link and no clock was handed out or came back, and no receiver's counts came
 pub record KeepsLive {I O E L C : Type 0} (old new : Shelf I O E L C) : Type 0 where
   pub links : new.links ≡ old.links
   pub opened : new.opened_links ≡ old.opened_links
   pub clocks : new.clocks ≡ old.clocks
   pub next : new.next_clock ≡ old.next_clock
+  pub report : new.report ≡ old.report

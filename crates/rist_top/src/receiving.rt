@@ -248,9 +248,7 @@ fn receive_by_clocks<R: Threads + Wait + Sync, H: Host>(
         Err(bad) => return (sink, Status::of_host(bad)),
     };
     let (sink, status) = match sealer_for(host, &line.session) {
-        Ok(sealer) => {
-            receive_sealed(rt, alloc, host, line, sealer, links, &mut clocks, sink)
-        }
+        Ok(sealer) => { receive_sealed(rt, alloc, host, line, sealer, links, &mut clocks, sink) }
         Err(status) => (sink, status),
     };
     back_clocks(host, clocks);

@@ -1,5 +1,5 @@
 //! The top call, and a line from its objects to its status.
-ghost use Rattle.std.specs.Prelude.{◌≡◌, ◌≢◌, ◌⊎◌, Ok, Err, None, IfOk, IfSome, IsTrue};
+ghost use Rattle.std.specs.Prelude.{◌≡◌, ◌≢◌, ◌⊎◌, Err, IfOk, IsTrue};
 ghost use Rattle.outside_io.specs.Causes.{HasOpenCause, Rose};
 ghost use Rattle.rist_words.specs.CommandLine.{Recv, RecvCommand, Send, SendCommand};
 ghost use Rattle.rist_words.specs.Shown.{shown, shown_recv};
@@ -22,7 +22,6 @@ use crate::status::Status;
 use crate::telling::Telling;
 use crate::working::{Worked, work};
 use outside_host::Host;
-use outside_io::NoMemory;
 use rist_words::{Line, RecvLine, Refused, line};
 use std::alloc::Global;
 use std::sync::Wait;
@@ -77,21 +76,30 @@ pub fn run<R: Threads + Wait + Sync, H: Host>(
         (H.shelf host.old) (H.shelf host.new) c result) }
 {
     match receiving(alloc, words) {
-        Ok(Some(line)) => receive_line(rt, alloc, host, &line),
-        Ok(None) => plain(alloc, words, host),
-        Err(NoMemory) => Status::Memory,
+        Ok(line) => receive_line(rt, alloc, host, &line),
+        Err(Otherwise::Plain) => plain(alloc, words, host),
+        Err(Otherwise::Memory) => Status::Memory,
     }
 }
 
+/// Why words are no receiving.
+#[derive(Clone, Copy, PartialEq, Eq)]
+enum Otherwise {
+    /// They are another line, or none.
+    Plain,
+    /// Memory was refused.
+    Memory,
+}
+
 /// The receiving that the words are, if they are one.
-fn receiving<'a>(alloc: Global, words: &'a [String]) -> Result<Option<RecvLine<'a>>, NoMemory>
-    ensures some { IfOk result (λ found. IfSome found (λ l. IsLine words.entry.now (Recv (shown_recv l)))) }
-    ensures none { (c : RecvCommand) → result ≡ Ok None → IsLine words.entry.now (Recv c) → ⊥ }
+fn receiving<'a>(alloc: Global, words: &'a [String]) -> Result<RecvLine<'a>, Otherwise>
+    ensures ok { IfOk result (λ l. IsLine words.entry.now (Recv (shown_recv l))) }
+    ensures other { (c : RecvCommand) → result ≡ Err Otherwise.Plain → IsLine words.entry.now (Recv c) → ⊥ }
 {
     match line(alloc, words) {
-        Ok(Line::Recv(line)) => Ok(Some(line)),
-        Ok(_) | Err(Refused::Usage) => Ok(None),
-        Err(Refused::Memory) => Err(NoMemory),
+        Ok(Line::Recv(line)) => Ok(line),
+        Ok(_) | Err(Refused::Usage) => Err(Otherwise::Plain),
+        Err(Refused::Memory) => Err(Otherwise::Memory),
     }
 }
 

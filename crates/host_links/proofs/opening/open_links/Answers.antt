@@ -4,7 +4,6 @@ use Rattle.host_links.specs.Opening.{AreBack}
 use Rattle.host_links.proofs.OpeningLemmas.{one_out, all_as_they_were, one_more}
 use Rattle.host_links.proofs.opening.open_links.Goals as goal
 
-
 pub returns-in-Err-open_next-clause-err : goal.returns-in-Err-open_next-clause-err
 returns-in-Err-open_next-clause-err g c =
     λ fresh.

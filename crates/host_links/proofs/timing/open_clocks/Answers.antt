@@ -10,4 +10,3 @@ returns-in-Err-start_next-clause-err g c =
     let err = c.in-Err-start_next.ensures.err fresh.0 (c.loop-host.invariant.1 fresh) in
     all_as_they_were _ _ _ _ _ (c.loop-host.invariant.2 fresh) err.0 err.1
     (subst (AreBack (g.H.Host.shelf c.start_next.new.host).clocks (g.H.Host.shelf c.back_clocks.new.host).clocks) c.in-Err-start_next.ensures.kept (c.back_clocks.ensures.state fresh.0))
-

@@ -15,8 +15,7 @@ loop-link-preserved g c =
     let links = one_less _ _ _ c.in-Some.ensures.items in
     let clocks = one_less _ _ _ c.in-Some-Some.ensures.items in
     let seats = one_less _ _ _ c.in-Some-Some.ensures'.items in
-    let more = pushed c.push.result (c.loop-link.workers.items ++ w ∷ []) c.loop-link.workers.items c.push.new.self.items (c.push.ensures.succeeds (omega (arith, i.2, links))) c.push.ensures.items in
-    (
+    let more = pushed c.push.result (c.loop-link.workers.items ++ w ∷ []) c.loop-link.workers.items c.push.new.self.items (c.push.ensures.succeeds (omega (arith, i.2, links))) c.push.ensures.items in (
       omega (arith, i.0, links, clocks),
       omega (arith, i.1, links, seats),
       omega (arith, i.2, links, one_less _ _ _ more, c.push.ensures.capacity),

@@ -1,6 +1,6 @@
 -- The values of a line lie in their ranges, what a replay leaves is the exact release set, and a packing that wants memory touches
 -- nothing.
-use Rattle.std.proofs.Common.{◌≡◌, ◌∙◌, refl, sym, subst}
+use Rattle.std.proofs.Common.{◌≡◌, ◌∙◌, rules, sym, subst}
 use Rattle.rist_words.proofs.RangeLemmas.{line_range}
 use Rattle.rist_words.specs.CommandLine.{Replay, Send}
 use Rattle.outside_io.specs.Causes.{HasOpenCause}
@@ -24,8 +24,8 @@ not_open e = cc
 not_memory : statuses.Done ≡ statuses.Memory → ⊥
 not_memory e = cc
 
-pub run_line-requires : goal.run_line-requires
-run_line-requires g c = record { range = line_range _ _ c.in-Ok.ensures.ok; plain = c.in-Ok.ensures.plain }
+pub run_line-requires-clause-range : goal.run_line-requires-clause-range
+run_line-requires-clause-range g c = λ κs within. line_range _ _ c.in-Ok.ensures.ok
 
 pub returns-in-Ok-clause-does : goal.returns-in-Ok-clause-does
 returns-in-Ok-clause-does g c =
@@ -74,8 +74,8 @@ returns-in-Ok-clause-does g c =
           (λ failed. c.run_line.ensures.random k same unused failed) (λ ran. c.run_line.ensures.sent k same unused ran);
     }
 
-pub returns-in-Err-in-Usage-clause-does : goal.returns-in-Err-in-Usage-clause-does
-returns-in-Err-in-Usage-clause-does g c = does_no_line _ _ _ _ _ _ _ _ _ (c.in-Err-in-Usage.ensures.usage refl)
+pub returns-in-Err-Usage-clause-does : goal.returns-in-Err-Usage-clause-does
+returns-in-Err-Usage-clause-does g c = does_no_line _ _ _ _ _ _ _ _ _ (c.in-Err-Usage.ensures.usage (search rules))
 
-pub returns-in-Err-in-Memory-clause-does : goal.returns-in-Err-in-Memory-clause-does
-returns-in-Err-in-Memory-clause-does g c = does_nothing _ _ _ _ _ _
+pub returns-in-Err-Memory-clause-does : goal.returns-in-Err-Memory-clause-does
+returns-in-Err-Memory-clause-does g c = does_nothing _ _ _ _ _ _
