@@ -24,14 +24,6 @@ fn words_of(rt: &HostRuntime) -> Result<Vec<String>, Status> {
     Ok(words)
 }
 
-/// How the words of the command line end with the real host.
-fn status_of(rt: &HostRuntime) -> Status {
-    match words_of(rt) {
-        Ok(words) => run(rt, rt.alloc(), &words, &mut RealHost::new(rt)),
-        Err(status) => status,
-    }
-}
-
 /// Says on the error output how the program ended, and gives its exit status.
 fn ended(rt: &HostRuntime, status: Status) -> ExitCode
     ensures exit { exit_status result ≡ exit_code_of status }
@@ -47,6 +39,9 @@ fn ended(rt: &HostRuntime, status: Status) -> ExitCode
 }
 
 fn main(rt: HostRuntime) -> ExitCode {
-    let status = status_of(&rt);
+    let status = match words_of(&rt) {
+        Ok(words) => run(&rt, rt.alloc(), &words, &mut RealHost::new(&rt)),
+        Err(status) => status,
+    };
     ended(&rt, status)
 }
