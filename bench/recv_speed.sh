@@ -1,8 +1,8 @@
 #!/bin/sh
 # The processor time a GB of `rist recv` at 400 Mbit/s (a datagram each 26 us) over loopback, beside that of a C program that
 # receives datagrams and writes them without their first 12 octets: each three times, in turn, and the least of each. Then the
-# highest rate that comes out whole: on one link in clear, on one link enciphered with a key of 128 bits, and on two links that
-# each carry every datagram. A C program sends the datagrams of a capture, each at its time; it answers no request, so that a
+# highest rate that comes out whole: of that program; on one link in clear, on one link enciphered with a key of 128 bits, and on
+# two links that each carry every datagram. A C program sends the datagrams of a capture, each at its time; it answers no request, so that a
 # datagram that was lost is missing. What came is compared with the source, octet for octet.
 # Words: how many seconds of the stream are sent at each rate (default 3). It takes about four minutes and 2 GB, needs cc and
 # python3, uses 127.0.0.1 alone and writes only below a new folder in /tmp. Where a tool isn't there it ends with status 3, without
@@ -26,6 +26,7 @@ rist, work, seconds = sys.argv[1], sys.argv[2], float(sys.argv[3])
 LENGTH = 1316
 GAPS = (26, 20, 13, 10, 9, 8, 7, 6)
 SOURCE, CAPTURE, CAME = (os.path.join(work, name) for name in ('source', 'capture', 'came'))
+PLAIN = os.path.join(work, 'plain')
 MOST = 20 + 4 * seconds
 
 
@@ -45,7 +46,7 @@ def make(gap, session):
 
 
 def run(words, ports, out):
-    """What a receiver takes of the capture: its processor time, how long the sending took, and whether all came."""
+    """Of a receiver of the capture: its processor time, how long the sending took, whether all came, how much, and what it said."""
     with open(out, 'wb') as octets:
         receiver = subprocess.Popen(words, stdout=octets, stderr=subprocess.PIPE)
     time.sleep(0.5)
@@ -63,7 +64,7 @@ def run(words, ports, out):
     if status:
         sys.exit(f'{words[:2]} ended with {os.waitstatus_to_exitcode(status)}: {said}')
     whole = subprocess.run(['cmp', '-s', SOURCE, out]).returncode == 0
-    return used.ru_utime + used.ru_stime, int(fed.stdout) / 1e6, whole, os.path.getsize(out)
+    return used.ru_utime + used.ru_stime, int(fed.stdout) / 1e6, whole, os.path.getsize(out), said
 
 
 def recv(ports, gap, session):
@@ -77,8 +78,8 @@ def at_400():
     size = os.path.getsize(SOURCE) / 1e9
     best = {}
     for _ in range(3):
-        for name, words in (('rist recv', recv([5000], 26, [])), ('receive and write', [os.path.join(work, 'plain'), '5000'])):
-            used, _, whole, came = run(words, [5000], CAME)
+        for name, words in (('rist recv', recv([5000], 26, [])), ('receive and write', [PLAIN, '5000'])):
+            used, _, whole, came, _ = run(words, [5000], CAME)
             if not whole:
                 print(f'{name}: {came} of {os.path.getsize(SOURCE)} octets came, or others')
             best[name] = min(best.get(name, 1e9), used / size)
@@ -87,26 +88,28 @@ def at_400():
           flush=True)
 
 
-def highest(name, ports, session):
+def highest(name, ports, session, words=None):
     """The highest rate at which all came, at the first or the second try, and at which the sending kept its time."""
     best, why = 0, ''
     for gap in GAPS:
         make(gap, session)
         good = False
         for _ in range(2):
-            used, took, whole, came = run(recv(ports, gap, session), ports, CAME)
+            _, took, whole, came, said = run(words or recv(ports, gap, session), ports, CAME)
             on_time = took < 1.02 * seconds
             if whole and on_time:
                 good = True
                 break
         if not good:
             why = f'at {rate(gap):.0f} ' + (f'{came} of {os.path.getsize(SOURCE)} octets came' if not whole else 'the sender was late')
+            why += f' ({said})' if said else ''
             break
         best = rate(gap)
     print(f'{name}: whole up to {best:.0f} Mbit/s' + (f'; {why}' if why else ', the highest that was tried'), flush=True)
 
 
 at_400()
+highest('receive and write', [5000], [], [PLAIN, '5000'])
 highest('one link in clear', [5000], [])
 highest('one link, 128 bits', [5000], ['--profile', 'main', '--pass', 'secret'])
 highest('two links, each datagram on both', [5000, 5002], [])
