@@ -7,9 +7,7 @@
 # builds the program. It takes a minute at most once that is built, and writes only below a new folder in /tmp.
 set -eu
 here=$(cd "$(dirname "$0")" && pwd)
-for tool in cc python3; do
-    command -v "$tool" > /dev/null || { echo "no $tool here"; exit 3; }
-done
+for tool in cc python3; do command -v "$tool" > /dev/null || { echo "no $tool here"; exit 3; }; done
 work=$(mktemp -d /tmp/send_rate.XXXXXX)
 trap 'rm -rf "$work"' EXIT
 cat > "$work/sink.c" <<'C'

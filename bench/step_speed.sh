@@ -6,6 +6,7 @@
 # of requests were made. It takes some minutes, most of them for the proofs, needs rt and bash, and writes only below a new
 # folder in /tmp.
 set -e
+for tool in rt bash; do command -v "$tool" > /dev/null || { echo "no $tool here"; exit 3; }; done
 top=$(cd "$(dirname "$0")/.." && pwd)
 work=$(mktemp -d /tmp/step_speed.XXXXXX)
 trap 'rm -rf "$work"' EXIT
