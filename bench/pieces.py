@@ -1,0 +1,77 @@
+#!/usr/bin/env python3
+"""Makes a stream of numbered pieces, gives it out as datagrams, and counts which pieces came.
+
+    pieces.py make FILE COUNT                  writes COUNT pieces of 1,316 octets; piece k begins with 47 and k
+    pieces.py feed FILE PORT GAP               sends them to a port of 127.0.0.1, GAP microseconds apart
+    pieces.py take FILE PORT                   writes what comes to a port of 127.0.0.1, until it is stopped
+    pieces.py compare FILE CAME FRONT END      compares octets. At most FRONT pieces may be missing before the first that
+                                               came and END after the last, none between, and none may come twice or out of
+                                               its place; its status is 1 where that doesn't hold
+"""
+import random
+import socket
+import sys
+import time
+
+LENGTH = 1316
+
+
+def make(name, count):
+    draws = random.Random(1)
+    with open(name, 'wb') as out:
+        for k in range(int(count)):
+            out.write(bytes([0x47]) + k.to_bytes(4, 'big') + draws.randbytes(LENGTH - 5))
+
+
+def pieces_of(name):
+    with open(name, 'rb') as octets:
+        while piece := octets.read(LENGTH):
+            yield piece
+
+
+def feed(name, port, gap):
+    end = socket.socket(socket.AF_INET, socket.SOCK_DGRAM)
+    start = time.monotonic()
+    for k, piece in enumerate(pieces_of(name)):
+        rest = start + k * int(gap) / 1e6 - time.monotonic()
+        if rest > 0:
+            time.sleep(rest)
+        end.sendto(piece, ('127.0.0.1', int(port)))
+
+
+def take(name, port):
+    end = socket.socket(socket.AF_INET, socket.SOCK_DGRAM)
+    end.setsockopt(socket.SOL_SOCKET, socket.SO_RCVBUF, 8 << 20)
+    end.bind(('127.0.0.1', int(port)))
+    with open(name, 'wb', buffering=0) as out:
+        while True:
+            out.write(end.recv(65536))
+
+
+def compare(name, came, front, end):
+    sent = list(pieces_of(name))
+    seen = set()
+    last, strange, twice, misplaced = -1, 0, 0, 0
+    for piece in pieces_of(came):
+        k = int.from_bytes(piece[1:5], 'big')
+        if k >= len(sent) or piece != sent[k]:
+            strange += 1
+            continue
+        twice += k in seen
+        misplaced += k < last
+        seen.add(k)
+        last = max(last, k)
+    first = min(seen, default=len(sent))
+    missing = [k for k in range(first, last + 1) if k not in seen]
+    after = len(sent) - 1 - last if seen else 0
+    is_good = (seen and not strange and not twice and not misplaced and not missing
+               and first <= int(front) and after <= int(end))
+    print(f'{len(seen)} of {len(sent)} pieces came; missing: {first} before the first, {len(missing)} between, '
+          f'{after} after the last; {twice} twice, {misplaced} out of order, {strange} that were not sent: '
+          + ('good' if is_good else 'NOT GOOD'))
+    if missing:
+        print('missing between:', missing[:20])
+    return 0 if is_good else 1
+
+
+sys.exit({'make': make, 'feed': feed, 'take': take, 'compare': compare}[sys.argv[1]](*sys.argv[2:]))
