@@ -99,8 +99,8 @@ fn is_as_told(alloc: Global, row: &Row<'_>) -> Result<bool, Fail> {
         return Err(Fail::new("out of memory"));
     }
     match host.returned_link(row.link) {
-        Some(link) => Ok(status == *row.status && has_taken(link, row.taken)),
-        None => Ok(status == *row.status && row.taken.is_empty()),
+        Some(link) => Ok(status.exit_code() == row.exit && has_taken(link, row.taken)),
+        None => Ok(status.exit_code() == row.exit && row.taken.is_empty()),
     }
 }
 
@@ -112,7 +112,5 @@ fn sendings_end_and_give_as_told(rt: HostRuntime) -> Result<(), Fail> {
             assert!(rt; is_as_told(alloc, row)?, "{}", row.line);
         }
     }
-    assert_eq!(rt; Status::LinksDown.exit_code(), 6);
-    assert_eq!(rt; Status::TurnsSpent.exit_code(), 13);
     Ok(())
 }
