@@ -101,8 +101,8 @@ fn serve_part<
     }
 }
 
-/// Serves all parts, each in a thread of its own where one can be made: receives on the links of the first ones, whose places are 0, 1
-/// and so on, at most sixteen, and looks at the links of the others, on which the desk's sink sends.
+/// Serves all parts, each in a thread of its own where one can be made: receives on the links of the first ones, whose
+/// places are 0, 1 and so on, at most sixteen, and looks at the links of the others, on which the desk's sink sends.
 pub fn gate<
     N: Name + Send + Sync,
     T: StepTrace + Drop + Send,

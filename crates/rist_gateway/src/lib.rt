@@ -1,5 +1,5 @@
-//! The gateway: what a receiver plays out goes on over other links, payload by payload, as it is released. A contract sees what the
-//! sending end did, deed by deed, and what each of its links was given.
+//! The gateway: what a receiver plays out goes on over other links, payload by payload, as it is released. A contract sees
+//! what the sending end did, deed by deed, and what each of its links was given.
 #![tactic(auto)]
 
 mod found;
@@ -10,6 +10,8 @@ mod origin;
 mod part;
 mod parts;
 mod side_worker;
+#[cfg(test)]
+mod tests;
 
 pub use gating::gate;
 pub use onward::Onward;

@@ -163,7 +163,8 @@ fn look_on<L: Link>(
     }
 }
 
-/// Looks at a link: reads it once, answers a compound that came, and lets the sender tick. One that isn't there is at its end.
+/// Looks at a link: reads it once, answers a compound that came, and lets the sender tick. One that isn't there is at its
+/// end.
 pub(crate) fn look<L: Link>(
     sender: &mut Sender,
     opener: &mut Opener,

@@ -15,8 +15,8 @@ use rist_sender::{SendBad, Sender};
 use rist_wire::Opener;
 use std::marker::{Model, PhantomData};
 
-/// A sender with its links, its clock, and an opener for what comes back. Each piece that is put to it is one payload, sent at its
-/// clock's moment. A contract sees what the sender keeps, and what the links tell.
+/// A sender with its links, its clock, and an opener for what comes back. Each piece that is put to it is one payload, sent
+/// at its clock's moment. A contract sees what the sender keeps, and what the links tell.
 #[derive(Drop)]
 pub struct Onward<G: Origin, L: Link + Drop, C: Clock + Drop> {
     sender: Sender,
@@ -82,8 +82,8 @@ impl<G: Origin, L: Link + Drop, C: Clock + Drop> Onward<G, L, C> {
         }
     }
 
-    /// Why the last put that was refused was; where none was, why the last refused aside was; and none where neither was. What it
-    /// did since it was made stands in what holds of its type.
+    /// Why the last put that was refused was; where none was, why the last refused aside was; and none where neither was.
+    /// What it did since it was made stands in what holds of its type.
     pub fn why(&self) -> Option<SendBad>
         ensures value { result ≡ why_of self.now.put_bad self.now.aside_bad }
         ensures since { IsOnward G.first (shows (line_of L.taken L.knows L.faults L.reads L.ends) C.moments self.now) }
@@ -123,7 +123,7 @@ impl<G: Origin, L: Link + Drop, C: Clock + Drop> Sink for Onward<G, L, C> {
         ensures ok { OnOk result (Appends None None piece.now) }
         ensures err { OnErr result (AppendsPart None None piece.now) }
         ensures cause { HasCause self.old.faults self.new.faults result }
-        // The piece is sent on at the clock's moment, as one payload where it has at most 1,500 octets, and else in parts.
+        // The piece is sent on at the clock's moment, as one payload of at most 1,500 octets, and a longer one in parts.
         ensures work { Puts (shows (line_of L.taken L.knows L.faults L.reads L.ends) C.moments self.old)
             (shows (line_of L.taken L.knows L.faults L.reads L.ends) C.moments self.new) piece.now result }
         ensures puts { self.new.puts ≡ min (self.old.puts + 1) (2 ^ 64 - 1) }
