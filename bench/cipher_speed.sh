@@ -4,6 +4,7 @@
 # Figures are of processor time. It takes a minute where the crates were proved in place, and some ten from a
 # fresh clone. It needs rt, bash and openssl, and writes only below a new folder in /tmp.
 set -e
+for tool in rt bash openssl; do command -v "$tool" > /dev/null || { echo "no $tool here"; exit 3; }; done
 top=$(cd "$(dirname "$0")/.." && pwd)
 work=$(mktemp -d /tmp/cipher_speed.XXXXXX)
 trap 'rm -rf "$work"' EXIT

@@ -4,6 +4,7 @@
 # Nothing is kept. It prints the processor time and the wall time for each packet, its opening and its step. It takes some minutes,
 # most of them for the proofs, needs rt and bash, and writes only below a new folder in /tmp.
 set -e
+for tool in rt bash; do command -v "$tool" > /dev/null || { echo "no $tool here"; exit 3; }; done
 top=$(cd "$(dirname "$0")/.." && pwd)
 work=$(mktemp -d /tmp/desk_speed.XXXXXX)
 trap 'rm -rf "$work"' EXIT

@@ -5,6 +5,7 @@
 # second that were written and read, and processor time for each million of them. It takes some minutes, most of them for
 # the proofs, needs rt, bash and cc, and writes only below a new folder in /tmp.
 set -e
+for tool in rt bash cc; do command -v "$tool" > /dev/null || { echo "no $tool here"; exit 3; }; done
 top=$(cd "$(dirname "$0")/.." && pwd)
 work=$(mktemp -d /tmp/link_speed.XXXXXX)
 trap 'rm -rf "$work"' EXIT

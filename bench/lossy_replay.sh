@@ -4,6 +4,7 @@
 # that wrap twice, with numbers of 32 bits that wrap, and with timestamps that wrap. It takes about half a minute, needs
 # python3, and writes only below a new folder in /tmp.
 set -eu
+command -v python3 > /dev/null || { echo "no python3 here"; exit 3; }
 top=$(cd "$(dirname "$0")/.." && pwd)
 work=$(mktemp -d /tmp/lossy_replay.XXXXXX)
 trap 'rm -rf "$work"' EXIT

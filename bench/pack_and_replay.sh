@@ -3,6 +3,7 @@
 # comes back with the source; then replays and shows captures of 200 MB, in clear and enciphered. It says the times, the
 # rates, and the ratio of the enciphered run to the clear one. It takes about half a minute, needs python3, and writes only below a new folder in /tmp.
 set -eu
+command -v python3 > /dev/null || { echo "no python3 here"; exit 3; }
 top=$(cd "$(dirname "$0")/.." && pwd)
 work=$(mktemp -d /tmp/pack_and_replay.XXXXXX)
 trap 'rm -rf "$work"' EXIT

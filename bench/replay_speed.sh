@@ -5,10 +5,11 @@
 # Words: how many packets (default 380,000: about 500 MB), octets of a payload (1,316).
 # Needs cc and python3; bin/rist builds the program. The captures lie in a folder that is removed at the end.
 set -eu
+for tool in cc python3; do command -v "$tool" > /dev/null || { echo "no $tool here"; exit 3; }; done
 count=${1:-380000}
 size=${2:-1316}
 here=$(cd "$(dirname "$0")" && pwd)
-work=$(mktemp -d)
+work=$(mktemp -d /tmp/replay_speed.XXXXXX)
 trap 'rm -rf "$work"' EXIT
 
 # make NAME GAP SHAPE: a packet each GAP us. In the falling shape each 8,192 packets have timestamps that fall.

@@ -3,6 +3,7 @@
 # for one tick of the clock (`due` and, apart, `would`), beside the same ticks without a timer; and for a tick with nothing
 # missing. It takes some minutes, most of them for the proofs, needs rt and bash, and writes only below a new folder in /tmp.
 set -e
+for tool in rt bash; do command -v "$tool" > /dev/null || { echo "no $tool here"; exit 3; }; done
 top=$(cd "$(dirname "$0")/.." && pwd)
 work=$(mktemp -d /tmp/request_timer.XXXXXX)
 trap 'rm -rf "$work"' EXIT

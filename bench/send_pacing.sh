@@ -4,6 +4,7 @@
 # that isn't so, or where some didn't come. Needs python3; bin/rist builds the program. It takes a quarter of a minute, and
 # writes only below a new folder in /tmp.
 set -eu
+command -v python3 > /dev/null || { echo "no python3 here"; exit 3; }
 here=$(cd "$(dirname "$0")" && pwd)
 work=$(mktemp -d /tmp/send_pacing.XXXXXX)
 trap 'rm -rf "$work"' EXIT

@@ -4,6 +4,7 @@
 # Words: how many MB are sent (default 500). Needs cc and python3; bin/rist builds the program. It writes only below a new
 # folder in /tmp.
 set -eu
+for tool in cc python3; do command -v "$tool" > /dev/null || { echo "no $tool here"; exit 3; }; done
 size=${1:-500}
 here=$(cd "$(dirname "$0")" && pwd)
 work=$(mktemp -d /tmp/send_run_speed.XXXXXX)

@@ -4,6 +4,7 @@
 # the crates were proved in place, and half an hour from a fresh clone. It needs rt and bash, and writes only below a new
 # folder in /tmp.
 set -e
+for tool in rt bash; do command -v "$tool" > /dev/null || { echo "no $tool here"; exit 3; }; done
 top=$(cd "$(dirname "$0")/.." && pwd)
 work=$(mktemp -d /tmp/send_speed.XXXXXX)
 trap 'rm -rf "$work"' EXIT

@@ -1,24 +1,30 @@
 #!/bin/bash
-# Measures the steps of a receiver without a socket: a stream of 400 Mbit/s in packets of 1,316 octets, of which each twentieth
-# comes 30 ms late, as if it was sent again, and a tick of the clock each 5 ms, in clear, with the widest span at a delay of
-# 200 ms. It prints the processor time a step, of a receiver that sends reports and requests back and of a muted one, and how
-# many datagrams and words of requests were made. It takes some minutes, most of them for the proofs, needs rt and bash, and
-# writes only below a new folder in /tmp.
+# Measures the steps of a receiver without a socket, as a link's worker makes them: what a step makes is put into the caller's
+# memory (`Receiver::step_into`). A stream of 400 Mbit/s in packets of 1,316 octets, of which each twentieth comes 30 ms late,
+# as if it was sent again, and a tick of the clock each 5 ms, in clear, with the widest span at a delay of 200 ms. It prints the
+# processor time a step, of a receiver that sends reports and requests back and of a muted one, and how many datagrams and words
+# of requests were made. It takes some minutes, most of them for the proofs, needs rt and bash, and writes only below a new
+# folder in /tmp.
 set -e
+for tool in rt bash; do command -v "$tool" > /dev/null || { echo "no $tool here"; exit 3; }; done
 top=$(cd "$(dirname "$0")/.." && pwd)
 work=$(mktemp -d /tmp/step_speed.XXXXXX)
 trap 'rm -rf "$work"' EXIT
 count=${1:-40000}
 mkdir -p "$work/crates/speed/src"
 cp "$top/HANDLES" "$work/"
-grep -v -e '^rist_replay' -e '^rist_show' -e '^rist_pack' -e '^rist_words' -e '^rist_top' -e '^rist:' "$top/crates.txt" > "$work/crates.txt"
-for crate in $(sed -n -e 's/:.*//' -e '/^[a-z]/p' "$work/crates.txt"); do
-    mkdir "$work/crates/$crate"
-    for part in src specs proofs; do
-        if [ -d "$top/crates/$crate/$part" ]; then
-            cp -r "$top/crates/$crate/$part" "$work/crates/$crate/"
-        fi
-    done
+# The crate that is measured, and those of the repository that it stands on, as crates.txt has them.
+needed=
+add() {
+    case " $needed " in *" $1 "*) return ;; esac
+    line=$(grep "^$1:" "$top/crates.txt") || return 0
+    needed="$needed $1"
+    for below in ${line#*:}; do add "$below"; done
+}
+add rist_ends
+for crate in $needed; do
+    cp -r "$top/crates/$crate" "$work/crates/"
+    grep "^$crate:" "$top/crates.txt" >> "$work/crates.txt"
 done
 echo 'speed: outside_io seq_unwrap receiver_rules request_rules rist_wire rist_ends' >> "$work/crates.txt"
 cat > "$work/crates/speed/src/main.rt" <<'RATTLE'
@@ -31,7 +37,7 @@ ghost use Rattle.rist_ends.specs.Told.{IsFit};
 use outside_io::{Profile, Store8};
 use receiver_rules::Arrival;
 use request_rules::NackKind;
-use rist_ends::{Outcome, Receiver, Settings, Told, What};
+use rist_ends::{Answer, Outs, Receiver, Settings, Told, What};
 use rist_wire::Session;
 use seq_unwrap::Width;
 use std::{env, io};
@@ -115,20 +121,21 @@ fn main(rt: HostRuntime) -> io::Result<()> {
         return println!(rt; "out of memory");
     };
     let payload = [0x47; 1_316];
+    let mut outs = Outs::none();
     let mut steps = 0u64;
     let mut made = 0u64;
     let mut asked = 0usize;
     for now in 0..count {
         if now % 20 != 7 {
-            let _ = receiver.step(&packet(now, now, &payload), &mut sink);
+            let _ = receiver.step_into(&packet(now, now, &payload), &mut outs, &mut sink);
             steps = steps.saturating_add(1);
         }
         if now >= LATE && (now - LATE) % 20 == 7 {
-            let _ = receiver.step(&packet(now, now - LATE, &payload), &mut sink);
+            let _ = receiver.step_into(&packet(now, now - LATE, &payload), &mut outs, &mut sink);
             steps = steps.saturating_add(1);
         }
         if now % 190 == 0 {
-            if let Outcome::Made(outs) = receiver.step(&tick(now), &mut sink) {
+            if let Answer::Made = receiver.step_into(&tick(now), &mut outs, &mut sink) {
                 made = made.saturating_add(1);
                 asked = asked.saturating_add(outs.asked.words().len());
             }

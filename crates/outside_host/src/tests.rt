@@ -1,5 +1,5 @@
 //! What no clause says: that calls succeed, and that files, streams, links and clocks do what they say.
-use crate::{Host, HostBad, MemHost, MemParts, Opened, Place, RealHost, Slot};
+use crate::{Host, HostBad, MemHost, MemParts, Opened, Place, RealHost, Reception, Slot};
 use outside_io::{
     Bytes, Channel, Entropy, Failed, MemSource, NoMemory, Profile, Sink, Source, Store8, Words,
 };
@@ -257,5 +257,24 @@ fn the_system_opens_links_and_its_clocks_have_one_start(rt: HostRuntime) -> Resu
     let before = clock.now();
     let between = other.now();
     assert!(rt; before <= between && between <= clock.now());
+    Ok(())
+}
+
+#[test]
+fn the_counts_of_a_receiver_are_kept(rt: HostRuntime) -> Result<(), Fail> {
+    let alloc = rt.alloc();
+    let mut host = MemHost::with(alloc, parts_with(alloc, &[])?)?;
+    assert!(rt; host.reported().is_none());
+    let reception = Reception {
+        kept: 3,
+        twice: 1,
+        ..Reception::default()
+    };
+    host.report(&reception);
+    assert_eq!(rt; host.reported(), Some(reception));
+    let line = format!(in alloc; "{reception}")?;
+    let text =
+        "kept 3, late 0, behind 0, early 0, twice 1, span 0, stranger 0, exhausted 0, refused 0";
+    assert_eq!(rt; line.as_str(), text);
     Ok(())
 }

@@ -9,6 +9,8 @@ use outside_host::RealHost;
 use rist_top::{Status, USAGE, run};
 use std::env;
 use std::process::ExitCode;
+use std::sync::Wait;
+use std::thread::Threads;
 
 /// The words of the command line, or the status where they can't be had: a word that isn't UTF-8 is no line.
 fn words_of(rt: &HostRuntime) -> Result<Vec<String>, Status> {
@@ -22,6 +24,14 @@ fn words_of(rt: &HostRuntime) -> Result<Vec<String>, Status> {
         }
     }
     Ok(words)
+}
+
+/// How the words of the command line end with the real host, and with threads of this runtime.
+fn status_of<R: Threads + Wait + Sync>(rt: &HostRuntime, threads: &R) -> Status {
+    match words_of(rt) {
+        Ok(words) => run(threads, rt.alloc(), &words, &mut RealHost::new(rt)),
+        Err(status) => status,
+    }
 }
 
 /// Says on the error output how the program ended, and gives its exit status.
@@ -39,9 +49,6 @@ fn ended(rt: &HostRuntime, status: Status) -> ExitCode
 }
 
 fn main(rt: HostRuntime) -> ExitCode {
-    let status = match words_of(&rt) {
-        Ok(words) => run(&rt, rt.alloc(), &words, &mut RealHost::new(&rt)),
-        Err(status) => status,
-    };
+    let status = status_of(&rt, &rt);
     ended(&rt, status)
 }

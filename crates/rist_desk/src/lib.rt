@@ -26,7 +26,7 @@ pub use desk::Desk;
 pub use ended::Ended;
 pub use name::Name;
 pub use payload::Payload;
-pub use serving::serve;
+pub use serving::{serve, serve_one};
 pub use step::{Echoes, Event, Mark, Packet, Step};
 pub use trace::StepTrace;
 pub use words::Words;

@@ -71,8 +71,8 @@ fn all_turns<
     }
 }
 
-/// Makes all turns of the worker at a place.
-fn serve_one<
+/// Makes all turns of the worker at a place, in the thread that calls.
+pub fn serve_one<
     N: Name,
     T: StepTrace + Drop,
     K: Sink + Drop,

@@ -1,29 +1,11 @@
 //! What each link was given, and how a sending ended.
+use crate::rows::{BREAKS, LENGTHS, REFUSALS, Row, SHARES, TUNNELS};
 use outside_host::{MemHost, MemParts, Place, Slot};
 use outside_io::{Channel, MemSource, Pieces, Words};
 use outside_net::{ScriptClock, ScriptLink};
 use rist_top::{Status, plain};
 use std::alloc::Global;
 use std::test::Fail;
-
-/// A command line, how many octets its source has, the moments of its clock, and which writes of each link fail; how it
-/// ends; and of a link the number, modulo 256, and the length of each media datagram that it took.
-#[derive(Clone, Copy)]
-struct Row<'a> {
-    line: &'a str,
-    octets: usize,
-    moments: &'a [u64],
-    failing: &'a [u64],
-    status: &'a Status,
-    link: u8,
-    taken: &'a [(u8, usize)],
-}
-
-/// A millisecond passes from turn to turn.
-const PASSING: &[u64] = &[7, 1007, 2007, 3007, 4007, 5007, 6007, 7007];
-
-/// No time passes.
-const STANDING: &[u64] = &[7];
 
 /// A transport stream of so many octets whose first packet is a null packet.
 fn stream(alloc: Global, count: usize) -> Result<Vec<u8>, Fail> {
@@ -117,130 +99,18 @@ fn is_as_told(alloc: Global, row: &Row<'_>) -> Result<bool, Fail> {
         return Err(Fail::new("out of memory"));
     }
     match host.returned_link(row.link) {
-        Some(link) => Ok(status == *row.status && has_taken(link, row.taken)),
-        None => Ok(status == *row.status && row.taken.is_empty()),
+        Some(link) => Ok(status.exit_code() == row.exit && has_taken(link, row.taken)),
+        None => Ok(status.exit_code() == row.exit && row.taken.is_empty()),
     }
 }
 
 #[test]
 fn sendings_end_and_give_as_told(rt: HostRuntime) -> Result<(), Fail> {
     let alloc = rt.alloc();
-    let plain = Row {
-        line: "rist send - 127.0.0.1:5000 --linger 0",
-        octets: 2632,
-        moments: PASSING,
-        failing: &[],
-        status: &Status::Done,
-        link: 0,
-        taken: &[(0, 1328), (1, 1328)],
-    };
-    let shared = Row {
-        line: "rist send - 127.0.0.1:5000 127.0.0.1:5002 --linger 0 --share 3:1",
-        octets: 6580,
-        ..plain
-    };
-    let tunnelled = Row {
-        octets: 376,
-        ..plain
-    };
-    for row in [
-        // A source of no piece, of one, and of one and an octet.
-        Row {
-            octets: 0,
-            taken: &[],
-            ..plain
-        },
-        Row {
-            octets: 1316,
-            taken: &[(0, 1328)],
-            ..plain
-        },
-        Row {
-            octets: 1317,
-            taken: &[(0, 1328), (1, 13)],
-            ..plain
-        },
-        Row {
-            line: "rist send --first 65535 - 127.0.0.1:5000 --linger 0",
-            octets: 2633,
-            taken: &[(255, 1328), (0, 1328), (1, 13)],
-            ..plain
-        },
-        // A clock that stands still, and turns that end before the second piece's time.
-        Row {
-            line: "rist send - 127.0.0.1:5000 --turns 5",
-            moments: STANDING,
-            status: &Status::TurnsSpent,
-            taken: &[(0, 1328)],
-            ..plain
-        },
-        Row {
-            line: "rist send - 127.0.0.1:5000 --turns 2 --gap 2000",
-            status: &Status::TurnsSpent,
-            taken: &[(0, 1328)],
-            ..plain
-        },
-        // The first write fails.
-        Row {
-            failing: &[0],
-            status: &Status::LinksDown,
-            taken: &[],
-            ..plain
-        },
-        // What can't be opened, and what is no line.
-        Row {
-            line: "rist send other 127.0.0.1:5000",
-            status: &Status::OpenFault,
-            taken: &[],
-            ..plain
-        },
-        Row {
-            line: "rist send - 127.0.0.1:5000 127.0.0.1:5002 127.0.0.1:5004",
-            status: &Status::OpenFault,
-            taken: &[],
-            ..plain
-        },
-        Row {
-            line: "rist send - 127.0.0.1:5001",
-            status: &Status::Usage,
-            taken: &[],
-            ..plain
-        },
-        // Of four pieces three go on the first link and one on the second.
-        Row {
-            taken: &[(0, 1328), (1, 1328), (2, 1328), (4, 1328)],
-            ..shared
-        },
-        Row {
-            link: 1,
-            taken: &[(3, 1328)],
-            ..shared
-        },
-        // In a tunnel: in clear, with numbers of 32 bits, without the null packet, and enciphered.
-        Row {
-            line: "rist send - 127.0.0.1:5000 --linger 0 --profile main",
-            taken: &[(0, 396)],
-            ..tunnelled
-        },
-        Row {
-            line: "rist send - 127.0.0.1:5000 --linger 0 --profile main --wide",
-            taken: &[(0, 404)],
-            ..tunnelled
-        },
-        Row {
-            line: "rist send - 127.0.0.1:5000 --linger 0 --profile main --nulls",
-            taken: &[(0, 216)],
-            ..tunnelled
-        },
-        Row {
-            line: "rist send - 127.0.0.1:5000 --linger 0 --profile main --pass secret",
-            taken: &[(0, 404)],
-            ..tunnelled
-        },
-    ] {
-        assert!(rt; is_as_told(alloc, &row)?);
+    for rows in [LENGTHS, BREAKS, REFUSALS, SHARES, TUNNELS] {
+        for row in rows {
+            assert!(rt; is_as_told(alloc, row)?, "{}", row.line);
+        }
     }
-    assert_eq!(rt; Status::LinksDown.exit_code(), 6);
-    assert_eq!(rt; Status::TurnsSpent.exit_code(), 13);
     Ok(())
 }

@@ -1,0 +1,29 @@
+-- A part of a call on the sending end: what it leaves of sender, clock and links.
+use Rattle.std.specs.Prelude.{◌≡◌, ◌≢◌, ◌≤◌, ℕ, List, length, map, slice_index_or, Option, Result}
+use Rattle.outside_net.specs.Links.{Answer}
+use Rattle.rist_sender.specs.Links.{Line}
+use Rattle.rist_sender.specs.Sender.{SenderState, IsSenderAfter, rules_of}
+use Rattle.rist_sender.specs.declared.send_bad.SendBad.{SendBad}
+use Rattle.rist_send.specs.Served.{AreServed}
+use Rattle.rist_gateway.specs.Course.{Setup, Course, SendsOn}
+
+-- what a sender over so many links is set to
+abbrev pub setup_with : SenderState → ℕ → Setup
+setup_with s links = record { rules = rules_of s; session = s.session; links = links }
+
+-- sender, clock and links are as far as this
+pub record IsFar {L : Type 0} (line : Line L) (s : SenderState) (moments : Option (ℕ → ℕ)) (links : List L) (course : Course) : Type 0 where
+  pub sender : IsSenderAfter s course.work
+  pub moments_are : course.moments ≡ moments
+  pub answers : course.answers ≡ map line.reads links
+
+-- from as far as that they have come to something of which this holds
+pub record Goes {L : Type 0} (line : Line L) (old new : SenderState) (moments : Option (ℕ → ℕ)) (was is : List L) (from : Course) (P : Course → Type 0) : Type 0 where
+  pub to : Course
+  pub fact : P to
+  pub stands : IsFar line new moments is to
+  pub given : AreServed line old.flow old.session from.work.history to.work.history was is
+
+-- the parts before these octets were sent: whatever the sending of the rest leaves, the sending of the piece leaves
+abbrev pub SendsBefore : Setup → List ℕ → List ℕ → Course → Course → Type 0
+SendsBefore setup piece rest from to = (result : Result Unit SendBad) (last : Course) → SendsOn setup rest result to last → SendsOn setup piece result from last

@@ -1,0 +1,5 @@
+pub mod Course
+pub mod Onward
+pub mod Sides
+pub mod Parts
+pub mod Inside

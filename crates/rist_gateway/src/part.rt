@@ -1,0 +1,11 @@
+use crate::side_worker::SideWorker;
+use rist_desk::Worker;
+
+/// What one thread of a gateway serves.
+#[derive(Drop)]
+pub enum Part<L, C, U, D> {
+    /// A link that is received on.
+    Receiving(Worker<L, C, U>),
+    /// A link that is sent on.
+    Sending(SideWorker<D>),
+}

@@ -1,0 +1,67 @@
+//! A piece, sent on in parts.
+ghost use Rattle.std.specs.Prelude.{◌≡◌, ◌≤◌, length};
+ghost use Rattle.sender_rules.specs.Bonding.{link_count};
+ghost use Rattle.rist_sender.specs.Sender.{StaysSet};
+ghost use Rattle.rist_send.specs.Served.{line_of};
+ghost use Rattle.rist_gateway.specs.Course.{Course, SendsPart, SendsOn};
+ghost use Rattle.rist_gateway.specs.Inside.Moves.{IsFar, Goes, setup_with};
+
+use outside_net::{Clock, Link};
+use rist_sender::{SendBad, Sender};
+
+/// How many octets a payload has at most.
+const MAX_PART: usize = 1500;
+
+/// Sends a part as one payload, at the clock's moment.
+fn send_part<L: Link, C: Clock>(
+    sender: &mut Sender,
+    links: &mut [L],
+    clock: &mut C,
+    part: &[u8],
+) -> Result<(), SendBad>
+    requires part { length part.now ≤ 1500 }
+    requires links { length links.old ≡ link_count sender.old.bonding }
+    requires few { length links.old ≤ 16 }
+    ensures work { (from : Course)
+        → IsFar (line_of L.taken L.knows L.faults L.reads L.ends) sender.old (C.moments clock.old) links.old from
+        → Goes (line_of L.taken L.knows L.faults L.reads L.ends) sender.old sender.new (C.moments clock.new)
+        links.old links.new from
+        (SendsPart (setup_with sender.old (length links.old)) part.now result from) }
+    ensures set { StaysSet sender.old sender.new }
+{
+    let us = clock.now();
+    sender.send(us, part, links)
+}
+
+/// Sends a piece in parts, up to one that is refused.
+pub(crate) fn send_parts<L: Link, C: Clock>(
+    sender: &mut Sender,
+    links: &mut [L],
+    clock: &mut C,
+    piece: &[u8],
+) -> Result<(), SendBad>
+    requires links { length links.old ≡ link_count sender.old.bonding }
+    requires few { length links.old ≤ 16 }
+    ensures work { (from : Course)
+        → IsFar (line_of L.taken L.knows L.faults L.reads L.ends) sender.old (C.moments clock.old) links.old from
+        → Goes (line_of L.taken L.knows L.faults L.reads L.ends) sender.old sender.new (C.moments clock.new)
+        links.old links.new from
+        (SendsOn (setup_with sender.old (length links.old)) piece.now result from) }
+    ensures set { StaysSet sender.old sender.new }
+{
+    let mut rest = piece;
+    while rest.len() > MAX_PART {
+        let (part, more) = rest.split_at(MAX_PART);
+        match send_part(sender, links, clock, part) {
+            Ok(()) => {}
+            Err(bad) => return Err(bad),
+        }
+        rest = more;
+    }
+    let left = rest.len();
+    if left > 0 {
+        send_part(sender, links, clock, rest)
+    } else {
+        Ok(())
+    }
+}

@@ -1,0 +1,26 @@
+use rist_sender::SendBad;
+
+/// Why a side worker ended.
+#[derive(Clone, Copy, Debug, PartialEq, Eq)]
+pub enum SideEnded {
+    /// Its link has nothing more to give, or isn't there.
+    End,
+    /// Its turns are made.
+    Turns,
+    /// For the stated time the sink was put to no more.
+    Quiet,
+    /// A read of its link failed.
+    Failed,
+    /// What was to be sent is refused.
+    Bad(SendBad),
+}
+
+/// What looks at one link of the sending end, turn by turn.
+#[derive(Drop)]
+pub struct SideWorker<C> {
+    /// The place of its link.
+    pub link: u8,
+    pub clock: C,
+    /// Why it ended, once it has.
+    pub end: Option<SideEnded>,
+}
