@@ -36,6 +36,10 @@ pub record TellsLive (L C : Type 0) : Type 0 where
   pub line : Line L
   pub moments : C → Option (ℕ → ℕ)
 
+-- of links and clocks that tell this
+abbrev pub live_of : {L C : Type 0} → Line L → (C → Option (ℕ → ℕ)) → TellsLive L C
+live_of line moments = record { line = line; moments = moments }
+
 -- a host tells what stands on its shelf, and has handed out no random words, no link and no clock yet
 pub record IsUnused {I O E L C : Type 0} (tells : Bool) (shelf : Shelf I O E L C) : Type 0 where
   pub told : IsTrue tells

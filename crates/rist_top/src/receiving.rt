@@ -10,8 +10,9 @@ ghost use Rattle.rist_top.specs.Causes.{CanRefuse, fault_of};
 ghost use Rattle.rist_top.specs.Sealing.{FailedAt};
 ghost use Rattle.rist_top.specs.Sessions.{kept_steps, limits_received, settings_received, setup_received};
 ghost use Rattle.rist_top.specs.Works.{IsFreshFor};
-ghost use Rattle.rist_top.specs.Sent.{IsUnused};
-ghost use Rattle.rist_top.specs.Received.{ReceivedByClocks, ReceivedOnLinks, Received, ReceivesAs, Unreceived, reception_of};
+ghost use Rattle.rist_top.specs.Sent.{IsUnused, live_of};
+ghost use Rattle.rist_top.specs.Received.{ReceivedByClocks, ReceivedOnLinks, Received};
+ghost use Rattle.rist_top.specs.Received.{ReceivesAs, Unreceived, reception_of};
 ghost use Rattle.rist_top.specs.Frame.{KeepsAroundSink, KeepsLinksBut, KeepsWords, OpensLinksAfterSink, links_received};
 ghost use Rattle.rist_top.specs.Inside.Answers.{KeepsButTiming, KeepsFiles};
 ghost use Rattle.rist_top.specs.Inside.Heard.{Hears};
@@ -95,7 +96,7 @@ fn receive_with<
     requires clocks { length clocks.old.items ≡ length line.now.links.items }
     requires empty { IsEmpty (K.contents sink) }
     ensures work { IfOk result.end (λ ended. ReceivesAs
-        (record { line = record { taken = L.taken; knows = L.knows; faults = L.faults; reads = L.reads; ends = L.ends }; moments = C.moments })
+        (live_of (record { taken = L.taken; knows = L.knows; faults = L.faults; reads = L.reads; ends = L.ends }) C.moments)
         (shown_recv line.now) sealer links.old.items links.new.items clocks.old.items clocks.new.items
         (K.contents sink) (K.contents result.sink) (K.faults sink) (K.faults result.sink) ended.1 ended.0) }
     ensures memory { OnErr result.end
@@ -158,7 +159,7 @@ fn receive_kept<
     requires clocks { length clocks.old.items ≡ length line.now.links.items }
     requires empty { IsEmpty (K.contents sink) }
     ensures work { IfOk result.end (λ ended. ReceivesAs
-        (record { line = record { taken = L.taken; knows = L.knows; faults = L.faults; reads = L.reads; ends = L.ends }; moments = C.moments })
+        (live_of (record { taken = L.taken; knows = L.knows; faults = L.faults; reads = L.reads; ends = L.ends }) C.moments)
         (shown_recv line.now) sealer links.old.items links.new.items clocks.old.items clocks.new.items
         (K.contents sink) (K.contents result.sink) (K.faults sink) (K.faults result.sink) ended.1 ended.0) }
     ensures memory { OnErr result.end

@@ -27,8 +27,8 @@ use std::alloc::Global;
 use std::sync::Wait;
 use std::thread::Threads;
 
-/// Does what the words of a command line say, the program's name first, with the objects of a host. A receiving waits for its links,
-/// each in a thread of its own; every other command returns as [`plain`] does. A gateway isn't done yet.
+/// Does what the words of a command line say, the program's name first, with the objects of a host. A receiving waits for
+/// its links, each in a thread of its own; every other command returns as [`plain`] does. A gateway isn't done yet.
 pub fn run<R: Threads + Wait + Sync, H: Host>(
     rt: &R,
     alloc: Global,
@@ -49,8 +49,8 @@ pub fn run<R: Threads + Wait + Sync, H: Host>(
     ensures does { Does H.tells ⟦<H as Telling>⟧.objects ⟦<H as Telling>⟧.live words.now
         (H.faults host.old) (H.faults host.new) (H.shelf host.old) (H.shelf host.new) result }
 
-    // What comes on the links of a receiving is played out to its sink, links and clocks come back, and the receiver's counts reach
-    // the host; or nothing was read and nothing written.
+    // What comes on the links of a receiving is played out to its sink, links and clocks come back, and the receiver's
+    // counts reach the host; or nothing was read and nothing written.
     ensures received { IsUnused H.tells (H.shelf host.old) → (CanRefuse result → ⊥)
         → IfReceiving words.now (λ c.
         Received ⟦<H as Telling>⟧.objects ⟦<H as Telling>⟧.live (H.shelf host.old) (H.shelf host.new) c result) }
@@ -69,8 +69,8 @@ pub fn run<R: Threads + Wait + Sync, H: Host>(
         → IfReceiving words.now (λ c.
         FailedAt ⟦<H as Telling>⟧.objects (H.shelf host.old) (H.shelf host.new)) }
 
-    // Where no call fails and one link doesn't, a receiving is done, unless pairs are spent or its kept steps have no room or
-    // differ.
+    // Where no call fails and one link doesn't, a receiving is done, unless pairs are spent or its kept steps have no
+    // room or differ.
     ensures heard { IsUnused H.tells (H.shelf host.old) → (Rose (H.faults host.old) (H.faults host.new) → ⊥)
         → IfReceiving words.now (λ c. CompletesReceiving ⟦<H as Telling>⟧.objects ⟦<H as Telling>⟧.live.line
         (H.shelf host.old) (H.shelf host.new) c result) }
@@ -103,7 +103,8 @@ fn receiving<'a>(alloc: Global, words: &'a [String]) -> Result<RecvLine<'a>, Oth
     }
 }
 
-/// Does each command that waits for nobody: all but a receiving and a gateway, whose lines are none here. It always returns.
+/// Does each command that waits for nobody: all but a receiving and a gateway, whose lines are none here. It always
+/// returns.
 pub fn plain<H: Host>(alloc: Global, words: &[String], host: &mut H) -> Status
     // The words are refused exactly where they are no such line, memory aside.
     ensures usage { result ≡ Status.Usage → IsNoPlainLine words.now }
