@@ -7,7 +7,7 @@ use Rattle.std.proofs.lemmas.Nat.{from_be_bytes-to_be_bytes_2, from_be_bytes-to_
 use Rattle.gre_tunnel.specs.declared.gre.Gre.{Gre}
 use Rattle.gre_tunnel.specs.declared.gre.GreBad.{GreBad}
 use Rattle.gre_tunnel.specs.declared.gre.GreBad.TheVariants.{Short, Version, Checksum, Reserved, KeyedNoSequence, Protocol}
-use Rattle.gre_tunnel.specs.Gre.{Header, IsHeader, keepalive_protocol, datagram_protocol, flags_word, optional_word, spelling, Spells}
+use Rattle.gre_tunnel.specs.Gre.{Header, IsHeader, IsProtocol, flags_word, optional_word, spelling, Spells}
 use Rattle.gre_tunnel.specs.Reading.{flags_of, protocol_of, is_set, has_key, has_sequence, has_reserved, header_len, number_at, gre_in, is_known_protocol, reading_of, value_of}
 use Rattle.gre_tunnel.specs.Writing.{header_with, ignored_with}
 use Rattle.octet_fields.proofs.OctetLemmas.{AreOctets}
@@ -59,14 +59,15 @@ reading-passes octets keyed numbered p =
     rw (fixed, p.says.version, p.says.checksum, reserved, paired, long, p.known) (ap Ok (gre_in-value octets keyed numbered p.says.key p.says.sequence))
 
 -- ---- what is spelled is read
-known-protocol : (protocol : ℕ) → (protocol ≡ keepalive_protocol) ⊎ (protocol ≡ datagram_protocol)
+known-protocol : (protocol : ℕ) → IsProtocol protocol
     → (is_known_protocol protocol ≡ true) × (protocol < 2 ^ 16)
 known-protocol protocol (inl e) = (or_left _ _ (eq-eqb _ _ e), omega (arith, e))
-known-protocol protocol (inr e) = (or_right _ _ (eq-eqb _ _ e), omega (arith, e))
+known-protocol protocol (inr (inl e)) = (or_right _ _ (or_left _ _ (eq-eqb _ _ e)), omega (arith, e))
+known-protocol protocol (inr (inr e)) = (or_right _ _ (or_right _ _ (eq-eqb _ _ e)), omega (arith, e))
 
 -- octets with these flags, this protocol, and room for what the flags announce pass the tests
 passes-with : (keyed numbered : Bool) (protocol ignored : ℕ) (octets : List ℕ) → ignored < 128
-    → (protocol ≡ keepalive_protocol) ⊎ (protocol ≡ datagram_protocol) → (keyed && not numbered) ≡ false
+    → IsProtocol protocol → (keyed && not numbered) ≡ false
     → flags_of octets ≡ from_be_bytes w16 (to_be_bytes w16 (2 ^ 13 * from_bool keyed + 2 ^ 12 * from_bool numbered + 8 * ignored))
     → protocol_of octets ≡ protocol → 4 + 4 * from_bool keyed + 4 * from_bool numbered ≤ length octets → Passes octets keyed numbered
 passes-with keyed numbered protocol ignored octets few known paired flags kind long =
@@ -133,8 +134,11 @@ rest-spelled header rest octets spells =
     ap (drop (value_of header).rest) spells.whole ∙ rest-of header.key header.sequence header.protocol spells.ignored rest spells.fits.paired
 
 -- ---- what is read is spelled
-known-back : (protocol : ℕ) → is_known_protocol protocol ≡ true → (protocol ≡ keepalive_protocol) ⊎ (protocol ≡ datagram_protocol)
-known-back protocol known = elim (or_cases _ _ known) [ inl e ↦ inl (eqb-true _ _ e) | inr e ↦ inr (eqb-true _ _ e) ]
+known-back : (protocol : ℕ) → is_known_protocol protocol ≡ true → IsProtocol protocol
+known-back protocol known = elim (or_cases _ _ known) [
+  | inl e ↦ inl (eqb-true _ _ e)
+  | inr more ↦ elim (or_cases _ _ more) [ inl e ↦ inr (inl (eqb-true _ _ e)) | inr e ↦ inr (inr (eqb-true _ _ e)) ]
+]
 
 -- a number that is read where its flag says so, and what follows it
 number-back : (flag : Bool) (at : ℕ) (octets : List ℕ) → AreOctets octets → at + 4 * from_bool flag ≤ length octets
@@ -249,7 +253,7 @@ ignored-few false = omega arith
 
 pub reading-written : (key sequence : Option ℕ) (long : Bool) (protocol : ℕ) (all more : List ℕ)
     → IfSome key (λ n. n < 2 ^ 32) → IfSome sequence (λ n. n < 2 ^ 32) → (IsSome key → IsSome sequence)
-    → (protocol ≡ keepalive_protocol) ⊎ (protocol ≡ datagram_protocol) → all ≡ spelling (header_with key sequence protocol) (ignored_with long)
+    → IsProtocol protocol → all ≡ spelling (header_with key sequence protocol) (ignored_with long)
     → reading_of (all ++ more) ≡ Ok (value_of (header_with key sequence protocol))
 reading-written key sequence long protocol all more keyed numbered paired known whole =
     reading-spelled (header_with key sequence protocol) more (all ++ more) (record {

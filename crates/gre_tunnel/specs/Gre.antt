@@ -3,14 +3,22 @@
 use Rattle.std.specs.Prelude.{◌≡◌, ◌⊎◌, ℕ, ◌+◌, ◌*◌, ◌^◌, ◌<◌, List, [], ◌++◌, Option, Some, None, is_some, IfSome, IsSome}
 use Rattle.std.specs.Int.{w16, w32, to_be_bytes, from_bool}
 
--- the protocols of the tunnel (this profile): IEEE's local experimental EtherTypes, for a keepalive
--- and for a datagram with reduced overhead
+-- the protocols of the tunnel: two of IEEE's local experimental EtherTypes (this profile), for a keepalive
 abbrev pub keepalive_protocol : ℕ
 keepalive_protocol = 0x88B5
 
--- and that of a datagram behind its ports
+-- and for a datagram with reduced overhead, behind its ports
 abbrev pub datagram_protocol : ℕ
 datagram_protocol = 0x88B6
+
+-- and the EtherType of IPv4, for a full datagram
+abbrev pub full_protocol : ℕ
+full_protocol = 0x0800
+
+-- one of the three
+abbrev pub IsProtocol : ℕ → Type 0
+IsProtocol protocol =
+    (protocol ≡ keepalive_protocol) ⊎ ((protocol ≡ datagram_protocol) ⊎ (protocol ≡ full_protocol))
 
 -- a header: the key and the sequence number, where they are there, and the protocol
 pub record Header : Type 0 where
@@ -18,12 +26,12 @@ pub record Header : Type 0 where
   pub sequence : Option ℕ
   pub protocol : ℕ
 
--- A key stands only with a sequence number, and the protocol is one of the two.
+-- A key stands only with a sequence number, and the protocol is one of the three.
 pub record IsHeader (header : Header) : Type 0 where
   pub key : IfSome header.key (λ key. key < 2 ^ 32)
   pub sequence : IfSome header.sequence (λ sequence. sequence < 2 ^ 32)
   pub paired : IsSome header.key → IsSome header.sequence
-  pub protocol : (header.protocol ≡ keepalive_protocol) ⊎ (header.protocol ≡ datagram_protocol)
+  pub protocol : IsProtocol header.protocol
 
 -- the first half of the first word: the flags of key and sequence number, seven bits that are ignored,
 -- and the version 0

@@ -5,7 +5,7 @@ use Rattle.std.specs.Int.{w16, w32, from_be_bytes, bit_at, from_bool}
 use Rattle.gre_tunnel.specs.declared.gre.Gre.{Gre}
 use Rattle.gre_tunnel.specs.declared.gre.GreBad.{GreBad}
 use Rattle.gre_tunnel.specs.declared.gre.GreBad.TheVariants.{Short, Version, Checksum, Reserved, KeyedNoSequence, Protocol}
-use Rattle.gre_tunnel.specs.Gre.{Header, keepalive_protocol, datagram_protocol}
+use Rattle.gre_tunnel.specs.Gre.{Header, keepalive_protocol, datagram_protocol, full_protocol}
 
 -- the flags and the version
 abbrev pub flags_of : List ℕ → ℕ
@@ -48,9 +48,10 @@ gre_in octets = record {
   rest = header_len octets;
 }
 
--- one of the tunnel's two
+-- one of the tunnel's three
 abbrev pub is_known_protocol : ℕ → Bool
-is_known_protocol protocol = (protocol == keepalive_protocol) || (protocol == datagram_protocol)
+is_known_protocol protocol =
+    (protocol == keepalive_protocol) || ((protocol == datagram_protocol) || (protocol == full_protocol))
 
 -- the tests in their order
 unfoldable pub reading_of : List ℕ → Result Gre GreBad

@@ -27,7 +27,7 @@ pub enum GreBad {
     Reserved,
     /// The flag of a key is set, and that of a sequence number isn't.
     KeyedNoSequence,
-    /// The protocol is neither of the tunnel's two.
+    /// The protocol is none of the tunnel's three.
     Protocol,
 }
 

@@ -1,10 +1,10 @@
 //! What the definitions of a header's spelling and of its reading mean.
 ghost use Rattle.std.specs.Prelude.{◌≡◌, ◌<◌, ℕ, List, All, Ok, drop};
 ghost use Rattle.gre_tunnel.specs.declared.gre.Gre.{Gre};
-ghost use Rattle.gre_tunnel.specs.Gre.{Header, Spells, keepalive_protocol, datagram_protocol};
+ghost use Rattle.gre_tunnel.specs.Gre.{Header, Spells, keepalive_protocol, datagram_protocol, full_protocol};
 ghost use Rattle.gre_tunnel.specs.Reading.{reading_of, value_of};
 
-use crate::reading::{DATAGRAM, KEEPALIVE};
+use crate::reading::{DATAGRAM, FULL, KEEPALIVE};
 
 /// Octets begin with one header at most, and with one rest behind it.
 pub fn one_header_is_spelled()
@@ -29,4 +29,5 @@ pub fn what_is_read_is_spelled()
 pub fn protocols_are_named()
     ensures keepalive { KEEPALIVE ≡ keepalive_protocol }
     ensures datagram { DATAGRAM ≡ datagram_protocol }
+    ensures full { FULL ≡ full_protocol }
 {}

@@ -8,7 +8,7 @@ mod reading;
 mod writing;
 
 pub use gre::{Gre, GreBad};
-pub use reading::{DATAGRAM, KEEPALIVE};
+pub use reading::{DATAGRAM, FULL, KEEPALIVE};
 pub use writing::write;
 
 #[cfg(test)]

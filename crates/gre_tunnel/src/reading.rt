@@ -12,6 +12,9 @@ pub const KEEPALIVE: u16 = 0x88b5;
 /// The protocol of a datagram with reduced overhead (this profile).
 pub const DATAGRAM: u16 = 0x88b6;
 
+/// The protocol of a full datagram: the EtherType of IPv4.
+pub const FULL: u16 = 0x0800;
+
 const FIXED_LEN: usize = 4;
 
 // What the first word's first half says.
@@ -55,7 +58,7 @@ fn number_at(flag: bool, at: usize, octets: &[u8]) -> Option<u32>
 fn is_known(protocol: u16) -> bool
     ensures { result ≡ is_known_protocol protocol }
 {
-    protocol == KEEPALIVE || protocol == DATAGRAM
+    protocol == KEEPALIVE || protocol == DATAGRAM || protocol == FULL
 }
 
 #[tactic(auto, using(std::proofs::lemmas::Bool::Decides::nat_tests), unfolding(crate::specs::Reading::reading_of))]

@@ -17,7 +17,7 @@ fn header(
 
 #[test]
 fn a_header_is_read_or_its_first_failing_test_is_named(rt: HostRuntime) {
-    let rows: [(&[u8], Result<Gre, GreBad>); 15] = [
+    let rows: [(&[u8], Result<Gre, GreBad>); 17] = [
         (b"\x00\x00\x88\xb6\x07\xb0", header(None, None, DATAGRAM, 4)),
         (
             b"\x10\x00\x88\xb5\x00\x00\x00\x07",
@@ -27,6 +27,7 @@ fn a_header_is_read_or_its_first_failing_test_is_named(rt: HostRuntime) {
             b"\x30\x40\x88\xb6\x01\x02\x03\x04\x00\x00\x01\x00a",
             header(Some(0x01020304), Some(256), DATAGRAM, 12),
         ),
+        (b"\x00\x00\x08\x00\x45", header(None, None, FULL, 4)),
         // The ignored bits are all set.
         (b"\x03\xf8\x88\xb5", header(None, None, KEEPALIVE, 4)),
         (b"\x00\x00\x88", Err(GreBad::Short)),
@@ -46,6 +47,7 @@ fn a_header_is_read_or_its_first_failing_test_is_named(rt: HostRuntime) {
             Err(GreBad::Short),
         ),
         (b"\x00\x00\x88\xb7", Err(GreBad::Protocol)),
+        (b"\x00\x00\x86\xdd", Err(GreBad::Protocol)),
     ];
     for (octets, answer) in rows {
         assert_eq!(rt; Gre::read(octets), answer);

@@ -1,6 +1,6 @@
-ghost use Rattle.std.specs.Prelude.{◌≡◌, ◌⊎◌, ◌+◌, ◌^◌, ◌<◌, ◌≤◌, ◌++◌, ℕ, List, Ok, IfSome, IsSome, IsTrue, length, take, drop};
+ghost use Rattle.std.specs.Prelude.{◌≡◌, ◌+◌, ◌^◌, ◌<◌, ◌≤◌, ◌++◌, ℕ, List, Ok, IfSome, IsSome, IsTrue, length, take, drop};
 ghost use Rattle.octet_fields.specs.Writing.{KeepsFrom};
-ghost use Rattle.gre_tunnel.specs.Gre.{optional_word, spelling, keepalive_protocol, datagram_protocol};
+ghost use Rattle.gre_tunnel.specs.Gre.{optional_word, spelling, IsProtocol};
 ghost use Rattle.gre_tunnel.specs.Reading.{reading_of, value_of};
 ghost use Rattle.gre_tunnel.specs.Writing.{header_with, ignored_with};
 
@@ -38,7 +38,7 @@ pub fn write(
 ) -> usize
     requires paired { IsSome key → IsSome sequence }
     requires long { IsTrue long → IsSome key }
-    requires protocol { (protocol ≡ keepalive_protocol) ⊎ (protocol ≡ datagram_protocol) }
+    requires protocol { IsProtocol protocol }
     ensures octets { take result out.new ≡ spelling (header_with key sequence protocol) (ignored_with long) }
     ensures rest { drop result out.new ≡ drop result out.old }
     ensures within { result ≤ 12 }

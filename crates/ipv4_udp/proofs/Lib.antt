@@ -3,4 +3,5 @@ pub mod UdpLemmas
 pub mod HeaderLemmas
 pub mod WholeLemmas
 pub mod WritingLemmas
+pub mod PlaceLemmas
 mod Rows

@@ -4,11 +4,13 @@
 
 mod ip;
 pub mod laws;
+mod place;
 mod reading;
 mod sum;
 mod writing;
 
 pub use ip::{Ip, IpBad, Sums};
+pub use place::IpPlace;
 pub use writing::{IpHead, MAX_PAYLOAD, write};
 
 #[cfg(test)]

@@ -2,7 +2,7 @@
 use Rattle.std.proofs.Common.{◌≡◌, ◌⊎◌, ℕ, ◌+◌, ◌^◌, ◌<◌, ◌≤◌, true, false, List, ◌++◌, drop, Option, Some, None, is_some, Ok, IsSome, refl, sym, ap, subst, ◌∙◌, arith, inl, inr}
 use Rattle.std.proofs.lemmas.Bool.Decides.{nat_tests}
 use Rattle.std.proofs.lemmas.Nat.{from_be_bytes-to_be_bytes_2}
-use Rattle.gre_tunnel.specs.Gre.{Spells, keepalive_protocol, datagram_protocol}
+use Rattle.gre_tunnel.specs.Gre.{Spells, IsProtocol}
 use Rattle.gre_tunnel.specs.Reading.{reading_of as gre_reading_of, value_of as gre_value_of}
 use Rattle.gre_tunnel.specs.Writing.{ignored_with}
 use Rattle.gre_tunnel.proofs.HeaderLemmas.{ignored-few, reading-spelled, rest-spelled}
@@ -51,9 +51,9 @@ pairs : (pair : Option Pair) → IsSome (nonce_of pair) → IsSome (sequence_of 
 pairs None some = some
 pairs (Some pair) some = refl
 
-known : (kind : Kind) → (protocol_for kind ≡ keepalive_protocol) ⊎ (protocol_for kind ≡ datagram_protocol)
-known MediaKind = inr refl
-known ControlKind = inr refl
+known : (kind : Kind) → IsProtocol (protocol_for kind)
+known MediaKind = inr (inl refl)
+known ControlKind = inr (inl refl)
 known KeepaliveKind = inl refl
 
 spelled : (bits : ℕ) (pair : Option Pair) (kind : Kind) (rest : List ℕ) → IsPair pair

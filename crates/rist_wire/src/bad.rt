@@ -1,4 +1,5 @@
 use gre_tunnel::GreBad;
+use ipv4_udp::IpBad;
 use keepalive_msg::KeepBad;
 use rist_ext::ExtBad;
 use rtcp_compound::RtcpBad;
@@ -22,6 +23,8 @@ pub enum WireBad {
     Keepalive(KeepBad),
     /// No room for the four octets of the ports.
     Stub,
+    /// No UDP datagram in IPv4, with its checksums.
+    Ip(IpBad),
     /// Neither port of the session.
     Port,
     /// No RTP packet.
@@ -64,6 +67,7 @@ impl Display for WireBad {
             WireBad::Clear => f.write_str("wire clear"),
             WireBad::Keepalive(bad) => bad.fmt(f),
             WireBad::Stub => f.write_str("wire stub"),
+            WireBad::Ip(bad) => bad.fmt(f),
             WireBad::Port => f.write_str("wire port"),
             WireBad::Rtp(bad) => bad.fmt(f),
             WireBad::Rtcp(bad) => bad.why.fmt(f),

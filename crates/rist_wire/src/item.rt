@@ -26,24 +26,28 @@ pub enum Kind {
     Keepalive,
 }
 
-/// Where the message of a datagram lies: behind its headers, up to the end.
+/// Where the message of a datagram lies: behind its headers.
 #[derive(Clone, Copy, Debug, PartialEq, Eq)]
 pub struct Part {
     /// What the message is.
     pub kind: Kind,
     /// The offset of its first octet in the datagram.
     pub from: usize,
+    /// The offset behind its last octet.
+    pub end: usize,
 }
 
 impl Part {
-    ghost use Rattle.std.specs.Prelude.{◌≡◌, ◌≤◌, length, drop};
+    ghost use Rattle.std.specs.Prelude.{◌≡◌, ◌-◌, take, drop};
+    ghost use Rattle.rist_wire.specs.Tunnel.{LiesIn};
     ghost use Rattle.rist_wire.specs.Messages.{item_by};
 
     /// The item that the message of this datagram says, or the first test that fails.
     pub fn item<'a>(&self, octets: &'a [u8]) -> Result<Item<'a>, WireBad>
-        requires within { self.now.from ≤ length octets.now }
-        ensures value { result ≡ item_by self.now.kind (drop self.now.from octets.now) }
+        requires within { LiesIn self.now octets.now }
+        ensures value { result
+            ≡ item_by self.now.kind (take (self.now.end - self.now.from) (drop self.now.from octets.now)) }
     {
-        item_in(self.kind, &octets[self.from..])
+        item_in(self.kind, &octets[self.from..self.end])
     }
 }

@@ -1,7 +1,7 @@
 ghost use Rattle.std.specs.Prelude.{◌≡◌, ◌≤◌, length, IfOk, OnErr, IsSome};
 ghost use Rattle.rist_wire.specs.Session.{IsSession};
 ghost use Rattle.rist_wire.specs.Cipher.{secret_of, secret_with};
-ghost use Rattle.rist_wire.specs.Tunnel.{message_at};
+ghost use Rattle.rist_wire.specs.Tunnel.{message_at, LiesIn};
 ghost use Rattle.rist_wire.specs.Item.{message_of, plain_of, item_of};
 
 use crate::bad::WireBad;
@@ -46,17 +46,19 @@ fn message_part(
     requires keys { secret_of keys.old ≡ secret_with session.now.pass session.now.bits }
     ensures keys { secret_of keys.new ≡ secret_of keys.old }
     ensures message { message_at octets.new result ≡ message_of session.now channel octets.old }
-    ensures within { IfOk result (λ part. part.from ≤ length octets.new) }
+    ensures within { IfOk result (λ part. LiesIn part octets.new) }
     ensures octets { octets.new ≡ plain_of session.now channel octets.old }
 {
     match (session.profile, channel) {
         (Profile::Simple, Channel::Media) => Ok(Part {
             kind: Kind::Media,
             from: 0,
+            end: octets.len(),
         }),
         (Profile::Simple, Channel::Control) => Ok(Part {
             kind: Kind::Control,
             from: 0,
+            end: octets.len(),
         }),
         (Profile::Main, Channel::Tunnel) => tunnel_part(session, keys, octets),
         (Profile::Simple, Channel::Tunnel) => Err(WireBad::Channel),
@@ -96,7 +98,7 @@ impl Opener {
     /// passphrase, also if a later test fails; and says where its message lies, of which `Part::item` gives the item.
     pub fn open(&mut self, channel: Channel, octets: &mut [u8]) -> Result<Part, WireBad>
         ensures message { message_at octets.new result ≡ message_of self.old channel octets.old }
-        ensures within { IfOk result (λ part. part.from ≤ length octets.new) }
+        ensures within { IfOk result (λ part. LiesIn part octets.new) }
         ensures octets { octets.new ≡ plain_of self.old channel octets.old }
         ensures same { self.new ≡ self.old }
     {
