@@ -49,6 +49,7 @@ fn session(pass: Option<Phrase>, width: Width) -> Session
         bits: 128,
         nulls: true,
         width,
+        full: false,
     }
 }
 

@@ -14,8 +14,8 @@ use Rattle.ipv4_udp.specs.Inside.Total.{folded_total}
 use Rattle.ipv4_udp.proofs.SumLemmas.{AreOctets-both, ones-folded, total-append, filled, filled_or_full}
 
 -- each is an octet, part by part
-record Octets (octets : List ℕ) : Type 0 where
-  at : (i : ℕ) → get_or octets i 0 < 256
+pub record Octets (octets : List ℕ) : Type 0 where
+  pub at : (i : ℕ) → get_or octets i 0 < 256
 
 none : Octets []
 none = record { at = λ i. omega arith }
@@ -24,13 +24,13 @@ at-cons : (n : ℕ) (rest : List ℕ) → n < 256 → ((i : ℕ) → get_or rest
 at-cons n rest lt more zero = lt
 at-cons n rest lt more (suc i) = more i
 
-octet : (n : ℕ) (rest : List ℕ) → n < 256 → Octets rest → Octets (n ∷ rest)
+pub octet : (n : ℕ) (rest : List ℕ) → n < 256 → Octets rest → Octets (n ∷ rest)
 octet n rest lt more = record { at = at-cons n rest lt more.at }
 
-half : (n : ℕ) (rest : List ℕ) → n < 2 ^ 16 → Octets rest → Octets (to_be_bytes w16 n ++ rest)
+pub half : (n : ℕ) (rest : List ℕ) → n < 2 ^ 16 → Octets rest → Octets (to_be_bytes w16 n ++ rest)
 half n rest lt more = octet _ _ (omega arith) (octet _ _ (omega arith) more)
 
-whole : (n : ℕ) (rest : List ℕ) → n < 2 ^ 32 → Octets rest → Octets (to_be_bytes w32 n ++ rest)
+pub whole : (n : ℕ) (rest : List ℕ) → n < 2 ^ 32 → Octets rest → Octets (to_be_bytes w32 n ++ rest)
 whole n rest lt more = octet _ _ (omega arith) (octet _ _ (omega arith) (octet _ _ (omega arith) (octet _ _ (omega arith) more)))
 
 -- ---- the header

@@ -152,7 +152,7 @@ nothing_given =
         has_keepalives = false;
         is_muted = true;
       };
-      shutter = record { session = record { profile = Simple; port = 0; pass = None; bits = 0; nulls = false; width = W16 }; sealer = None };
+      shutter = record { session = record { profile = Simple; port = 0; pass = None; bits = 0; nulls = false; width = W16; full = false }; sealer = None };
       limit = None;
       tells_steps = false;
       tells_octets = false;

@@ -28,6 +28,7 @@ pub fn simple() -> Session
         bits: 128,
         nulls: false,
         width: Width::W16,
+        full: false,
     }
 }
 

@@ -37,6 +37,7 @@ fn simple() -> Session
         bits: 128,
         nulls: false,
         width: Width::W16,
+        full: false,
     }
 }
 
@@ -361,6 +362,7 @@ fn keepalives_come_each_second_in_the_main_profile(rt: HostRuntime) -> Result<()
         bits: 128,
         nulls: false,
         width: Width::W16,
+        full: false,
     };
     let both = [
         0, 0, 0x88, 0xB6, 0x07, 0xB1, 0x07, 0xB1, 0x80, 0xC9, 0, 1, 0, 0, 0, 7, 0x81, 0xCA, 0, 3,
@@ -459,6 +461,7 @@ fn a_request_is_answered_on_its_link_under_a_passphrase(rt: HostRuntime) -> Resu
         bits: 128,
         nulls: false,
         width: Width::W16,
+        full: false,
     };
     let mut words = Words::with(
         alloc,

@@ -164,7 +164,7 @@ nothing_first =
         first = 0;
         hold = 0;
         bonding = Duplicate 0;
-        session = record { profile = Simple; port = 0; pass = None; bits = 0; nulls = false; width = W16 };
+        session = record { profile = Simple; port = 0; pass = None; bits = 0; nulls = false; width = W16; full = false };
         sealer = None;
         store = record { size = 0; packets = [] };
         time = 0;
@@ -174,7 +174,7 @@ nothing_first =
         reports = [];
         keepalives = [];
       };
-      opener = record { profile = Simple; port = 0; pass = None; bits = 0; nulls = false; width = W16 };
+      opener = record { profile = Simple; port = 0; pass = None; bits = 0; nulls = false; width = W16; full = false };
       links = [];
       moments = None;
       puts = 0;

@@ -22,7 +22,7 @@ sent-within true piece = with-within piece (stripping_of piece) refl
 sent-within false piece = omega arith
 
 pub piece-len : (session : Session) (pair : Option Pair) (settings : PackSettings) (k : ℕ) (piece : List ℕ)
-    → length (piece_octets session pair settings k piece) ≤ length piece + 36
+    → length (piece_octets session pair settings k piece) ≤ length piece + 60
 unfolding piece_octets
 piece-len session pair settings k piece =
     omega (arith, length-datagram session pair (media_of session.nulls settings k piece), sent-within session.nulls piece)

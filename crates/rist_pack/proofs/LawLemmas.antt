@@ -23,6 +23,7 @@ use Rattle.rist_wire.specs.Item.{item_of}
 use Rattle.rist_wire.specs.Writing.{IsPair}
 use Rattle.rist_wire.specs.Sent.{IsMediaOut, media_channel, media_datagram}
 use Rattle.rist_wire.proofs.MediaLemmas.{media-taken}
+use Rattle.rist_wire.proofs.StripLemmas.{stripped-are}
 use Rattle.stream_pieces.specs.Pieces.{pieces_of}
 use Rattle.stream_pieces.proofs.PieceLemmas.{length-pieces_of, piece_sized}
 use Rattle.rist_pack.specs.Capture.{sent_with, sent_of, stamp_of, media_of, taken_of, content_for, pair_of, piece_octets, packed_record, records_of, capture_of}
@@ -47,6 +48,16 @@ with-sent piece (Some (shape, kept)) is =
 piece-sent : (nulls : Bool) (piece : List ℕ) → IsSent (sent_of nulls piece).strip (sent_of nulls piece).payload (content_for nulls piece)
 piece-sent true piece = with-sent piece (stripping_of piece) refl
 piece-sent false piece = record { shape = tt; restored = refl; content = refl }
+
+-- what is sent of a piece of octets is octets
+with-are : (piece : List ℕ) (told : Option (Shape × List ℕ)) → stripping_of piece ≡ told → All (λ octet. octet < 256) piece
+    → All (λ octet. octet < 256) (sent_with piece told).payload
+with-are piece None is are = are
+with-are piece (Some (shape, kept)) is are = stripped-are piece kept shape is are
+
+piece-are : (nulls : Bool) (piece : List ℕ) → All (λ octet. octet < 256) piece → All (λ octet. octet < 256) (sent_of nulls piece).payload
+piece-are true piece are = with-are piece (stripping_of piece) refl are
+piece-are false piece are = are
 
 pub piece-content : (session : Session) (settings : PackSettings) (k : ℕ) (piece : List ℕ)
     → content_of (taken_of session settings k piece) ≡ content_for session.nulls piece
@@ -77,12 +88,14 @@ pair-some (Some nonces) k = refl
 pub piece-taken : (session : Session) (nonces : Option (List ℕ)) (settings : PackSettings) (k : ℕ) (piece : List ℕ)
     → IsSession session → IfSome nonces AreNonces → is_some nonces ≡ is_some session.pass
     → settings.flow % 2 ≡ 0 → settings.flow < 2 ^ 32 → k < 2 ^ 36 → length piece ≤ 1316
+    → (session.full ≡ true → All (λ octet. octet < 256) piece)
     → item_of session (packed_record session nonces settings k piece).channel (packed_record session nonces settings k piece).octets
     ≡ Ok (items.Media (taken_of session settings k piece))
 unfolding piece_octets
-piece-taken session nonces settings k piece legal are paired even flow place few =
+piece-taken session nonces settings k piece legal are paired even flow place few octets =
     media-taken session (pair_of nonces k) (media_of session.nulls settings k piece) legal (λ main. pair-is nonces k are place)
     (pair-some nonces k ∙ paired) (media-is session.nulls settings k piece even flow few)
+    (λ full. piece-are session.nulls piece (octets full))
 
 -- ---- sessions without a passphrase
 

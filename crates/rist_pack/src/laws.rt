@@ -1,5 +1,5 @@
 //! What the definitions of a capture that was packed mean.
-ghost use Rattle.std.specs.Prelude.{◌≡◌, ◌+◌, ◌*◌, ◌%◌, ◌^◌, ◌<◌, ◌≤◌, ℕ, List, All, Option, None, Ok, IfSome, is_some, length, flat_map};
+ghost use Rattle.std.specs.Prelude.{◌≡◌, ◌+◌, ◌*◌, ◌%◌, ◌^◌, ◌<◌, ◌≤◌, ℕ, List, All, Option, None, Ok, true, IfSome, is_some, length, flat_map};
 ghost use Rattle.outside_io.specs.declared.channel.Channel.TheVariants as channels;
 ghost use Rattle.capture_file.specs.Capture.{IsCapture};
 ghost use Rattle.rtp_packet.specs.Rtp as rtp;
@@ -16,12 +16,13 @@ ghost use Rattle.rist_pack.specs.Capture.{stamp_of, taken_of, content_for, packe
 ghost use Rattle.rist_pack.specs.declared.settings.PackSettings.{PackSettings};
 
 /// Each datagram is taken in its session as media of the flow, with its own number and time, and its content is its
-/// piece.
+/// piece. The checksum of a full datagram counts octets, so there the piece has to be octets.
 pub fn each_datagram_is_its_piece()
     ensures taken { (session : Session) (nonces : Option (List ℕ)) (settings : PackSettings) (k : ℕ)
         (piece : List ℕ)
         → IsSession session → IfSome nonces AreNonces → is_some nonces ≡ is_some session.pass
         → settings.flow % 2 ≡ 0 → settings.flow < 2 ^ 32 → k < 2 ^ 36 → length piece ≤ 1316
+        → (session.full ≡ true → All (λ octet. octet < 256) piece)
         → item_of session (packed_record session nonces settings k piece).channel
         (packed_record session nonces settings k piece).octets
         ≡ Ok (items.Media (taken_of session settings k piece)) }

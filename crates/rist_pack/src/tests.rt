@@ -52,6 +52,7 @@ fn simple_session() -> Session
         bits: 128,
         nulls: false,
         width: Width::W16,
+        full: false,
     }
 }
 
@@ -67,6 +68,7 @@ fn main_session(pass: Option<Phrase>, bits: u16, nulls: bool, width: Width) -> S
         bits,
         nulls,
         width,
+        full: false,
     }
 }
 

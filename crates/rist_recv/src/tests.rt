@@ -29,6 +29,7 @@ fn simple() -> Session
         bits: 128,
         nulls: false,
         width: Width::W16,
+        full: false,
     }
 }
 

@@ -35,6 +35,7 @@ fn simple_session() -> Session
         bits: 128,
         nulls: false,
         width: Width::W16,
+        full: false,
     }
 }
 
@@ -52,6 +53,7 @@ fn main_session() -> Session
         bits: 128,
         nulls: true,
         width: Width::W32,
+        full: false,
     }
 }
 

@@ -29,6 +29,7 @@ fn session() -> Session
         bits: 128,
         nulls: false,
         width: Width::W16,
+        full: false,
     }
 }
 
@@ -44,6 +45,7 @@ fn tunnel(pass: Option<Phrase>, nulls: bool, width: Width) -> Session
         bits: 128,
         nulls,
         width,
+        full: false,
     }
 }
 

@@ -1,11 +1,12 @@
 -- The datagram of a payload at the other end.
 use Rattle.std.proofs.Common.{◌≡◌, ℕ, ◌%◌, ◌^◌, ◌<◌, ◌≤◌, Bool, true, false, List, length, Option, Some, None, IfSome, is_ok, refl, sym, ap, arith}
-use Rattle.std.specs.Prelude.{if◌then◌else◌}
+use Rattle.std.specs.Prelude.{All, if◌then◌else◌}
 use Rattle.ts_nulls.specs.Shape.{Shape, IsShape}
 use Rattle.ts_nulls.specs.Nulls.{stripping_of, blanking_of}
 use Rattle.ts_nulls.proofs.LawLemmas.{restoring-stripped, told-stripped, stays-unstripped}
 use Rattle.rist_wire.specs.Media.{can_restore, octets_in, restored_payload}
 use Rattle.rist_wire.specs.Sent.{IsMediaOut}
+use Rattle.rist_wire.proofs.StripLemmas.{stripped-are}
 use Rattle.rist_sender.specs.Messages.{media_of}
 use Rattle.rist_sender.specs.Calls.{packet_with, packet_for}
 
@@ -28,6 +29,17 @@ packet-of : (nulls : Bool) (number tick : ℕ) (payload : List ℕ)
     → IsPacketOf (packet_for nulls number tick payload).strip (packet_for nulls number tick payload).payload (if nulls then blanking_of payload else payload) payload
 packet-of true number tick payload = with-packet number (tick % 2 ^ 32) payload (stripping_of payload) refl
 packet-of false number tick payload = record { shape = tt; restored = refl; content = refl; few = omega arith }
+
+-- what is sent of a payload of octets is octets
+with-are : (number timestamp : ℕ) (payload : List ℕ) (told : Option (Shape × List ℕ)) → stripping_of payload ≡ told
+    → All (λ octet. octet < 256) payload → All (λ octet. octet < 256) (packet_with number timestamp payload told).payload
+with-are number timestamp payload None is are = are
+with-are number timestamp payload (Some (shape, kept)) is are = stripped-are payload kept shape is are
+
+pub octets-are : (nulls : Bool) (number tick : ℕ) (payload : List ℕ) → All (λ octet. octet < 256) payload
+    → All (λ octet. octet < 256) (packet_for nulls number tick payload).payload
+octets-are true number tick payload are = with-are number (tick % 2 ^ 32) payload (stripping_of payload) refl are
+octets-are false number tick payload are = are
 
 pub content-is : (nulls : Bool) (number tick : ℕ) (payload : List ℕ)
     → restored_payload (packet_for nulls number tick payload).strip (packet_for nulls number tick payload).payload ≡ (if nulls then blanking_of payload else payload)

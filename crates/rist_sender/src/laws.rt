@@ -1,5 +1,5 @@
 //! What the definitions of a sender's datagrams mean at the other end.
-ghost use Rattle.std.specs.Prelude.{◌≡◌, ◌%◌, ◌^◌, ◌<◌, ◌≤◌, ℕ, Bool, true, false, List, Option, Ok, is_some, length, if◌then◌else◌};
+ghost use Rattle.std.specs.Prelude.{◌≡◌, ◌%◌, ◌^◌, ◌<◌, ◌≤◌, ℕ, Bool, true, false, List, All, Option, Ok, is_some, length, if◌then◌else◌};
 ghost use Rattle.ts_nulls.specs.Nulls.{blanking_of};
 ghost use Rattle.seq_unwrap.specs.declared.width.Width.{Width};
 ghost use Rattle.psk_seal.specs.declared.sealer.Pair.{Pair};
@@ -16,11 +16,12 @@ ghost use Rattle.rist_sender.specs.Calls.{packet_for};
 
 /// In its session the datagram of a payload is taken as media of the flow with its packet's number and timestamp, as an
 /// original or as a retransmission; and its content is the payload, each null packet that was deleted put back as the
-/// one that stands for it.
+/// one that stands for it. The checksum of a full datagram counts octets, so there the payload has to be octets.
 pub fn each_payload_is_taken()
     ensures original { (session : Session) (pair : Option Pair) (flow number tick : ℕ) (payload : List ℕ)
         → IsSession session → (session.profile ≡ Main → IsPair pair) → is_some pair ≡ is_some session.pass
         → flow % 2 ≡ 0 → flow < 2 ^ 32 → length payload ≤ 1500
+        → (session.full ≡ true → All (λ octet. octet < 256) payload)
         → item_of session (message_channel session (Original (packet_for session.nulls number tick payload)))
         (message_datagram flow session pair (Original (packet_for session.nulls number tick payload)))
         ≡ Ok (items.Media (media_value session.width
@@ -28,6 +29,7 @@ pub fn each_payload_is_taken()
     ensures again { (session : Session) (pair : Option Pair) (flow number tick : ℕ) (payload : List ℕ)
         → IsSession session → (session.profile ≡ Main → IsPair pair) → is_some pair ≡ is_some session.pass
         → flow % 2 ≡ 0 → flow < 2 ^ 32 → length payload ≤ 1500
+        → (session.full ≡ true → All (λ octet. octet < 256) payload)
         → item_of session (message_channel session (Retransmission (packet_for session.nulls number tick payload)))
         (message_datagram flow session pair (Retransmission (packet_for session.nulls number tick payload)))
         ≡ Ok (items.Media (media_value session.width

@@ -61,6 +61,7 @@ fn session(profile: Profile) -> Session
         bits: 128,
         nulls: false,
         width: Width::W16,
+        full: false,
     }
 }
 

@@ -22,6 +22,7 @@ fn simple_session() -> Session
         bits: 128,
         nulls: false,
         width: Width::W16,
+        full: false,
     }
 }
 
@@ -35,6 +36,7 @@ fn main_session(pass: Option<Phrase>) -> Session
         bits: 128,
         nulls: false,
         width: Width::W16,
+        full: false,
     }
 }
 

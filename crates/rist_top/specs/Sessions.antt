@@ -19,7 +19,15 @@ use Rattle.rist_send.specs.Run.{Setup}
 -- a session whose datagrams are written with null packets deleted, or with numbers of 32 bits
 abbrev pub session_with : lines.Session → Bool → Bool → Session
 session_with s nulls wide =
-    record { profile = s.profile; port = s.port; pass = s.pass; bits = s.bits; nulls = nulls; width = if wide then W32 else W16 }
+    record {
+      profile = s.profile;
+      port = s.port;
+      pass = s.pass;
+      bits = s.bits;
+      nulls = nulls;
+      width = if wide then W32 else W16;
+      full = s.full;
+    }
 
 -- one whose datagrams are read alone
 abbrev pub session_read : lines.Session → Session

@@ -29,5 +29,6 @@ pub fn session_of(words: &SessionWords<'_>, nulls: bool, wide: bool) -> Session
         bits: words.bits,
         nulls,
         width: if wide { Width::W32 } else { Width::W16 },
+        full: words.full,
     }
 }

@@ -3,3 +3,4 @@ pub mod SealLemmas
 pub mod CipherLemmas
 pub mod BackLemmas
 pub mod MediaLemmas
+pub mod StripLemmas

@@ -1,6 +1,6 @@
 -- The datagrams of media: what is read of them, and how long they are.
-use Rattle.std.proofs.Common.{◌≡◌, ℕ, ◌+◌, ◌-◌, ◌%◌, ◌^◌, ◌<◌, ◌≤◌, Bool, true, false, cond, List, [], ◌++◌, length, Option, Some, None, is_some, Result, Ok, Err, IfSome, refl, sym, ap, ◌∙◌, arith, length-append, append-nil, bit_xor}
-use Rattle.std.specs.Prelude.{◌||◌, if◌then◌else◌, nat_lt, unwrap_or}
+use Rattle.std.proofs.Common.{◌≡◌, ℕ, ◌+◌, ◌-◌, ◌*◌, ◌%◌, ◌^◌, ◌<◌, ◌≤◌, Bool, true, false, cond, List, [], ◌++◌, length, Option, Some, None, is_some, Result, Ok, Err, IfSome, refl, sym, ap, subst, ◌∙◌, arith, length-append, append-nil, bit_xor}
+use Rattle.std.specs.Prelude.{All, ◌||◌, if◌then◌else◌, nat_lt, unwrap_or}
 use Rattle.std.specs.Int.{from_bool}
 use Rattle.std.proofs.lemmas.Bool.{eq-eqb, ne_eqb}
 use Rattle.std.proofs.lemmas.Bool.Decides.{nat_tests}
@@ -21,6 +21,9 @@ use Rattle.rtp_packet.specs.declared.writing.RtpHead.{RtpHead}
 use Rattle.rtp_packet.specs.Writing.{packet_with}
 use Rattle.rtp_packet.specs.Reading.{RtpValue, value_of, reading_of as rtp_reading_of}
 use Rattle.rtp_packet.proofs.WholeLemmas.{reading-spelled as packet-spelled}
+use Rattle.octet_fields.proofs.OctetLemmas.{AreOctets, AreOctets-from_all}
+use Rattle.ipv4_udp.specs.Ip.{header_octets as ip_header_octets, udp_octets}
+use Rattle.ipv4_udp.proofs.WritingLemmas.{Octets, octet, half, whole}
 use Rattle.aes_ctr.specs.Ctr.{keystream_octet}
 use Rattle.psk_seal.specs.declared.sealer.Pair.{Pair}
 use Rattle.outside_io.specs.declared.profile.Profile.{Profile}
@@ -40,9 +43,9 @@ use Rattle.rist_wire.specs.Item.{item_of}
 use Rattle.rist_wire.specs.Session.{IsSession}
 use Rattle.rist_wire.specs.Writing.{MediaOut, IsPair, nonce_of, sequence_of}
 use Rattle.rist_wire.specs.Packets.{upper_for, word_for, extension_for, head_for, packet_for, media_octets, media_value}
-use Rattle.rist_wire.specs.Datagrams.{header_octets, text_for, sealed_text, datagram_on}
+use Rattle.rist_wire.specs.Datagrams.{header_octets, full_octets, carried, text_for, sealed_text, datagram_on}
 use Rattle.rist_wire.specs.Sent.{IsMediaOut, media_channel, media_datagram}
-use Rattle.rist_wire.proofs.BackLemmas.{item-back}
+use Rattle.rist_wire.proofs.BackLemmas.{IsCarried, item-back}
 
 -- ---- the extension
 abbrev extension-if : Bool → ExtWord → Option (ℕ × List ℕ)
@@ -141,14 +144,6 @@ media-item width media legal =
     ap rtp_item read ∙ ap (media_by (value_of packet)) (word-back word (word-fits width media.number media.strip legal.strip))
     ∙ ap tested_media same ∙ tested (media_value width media) legal.whole
 
-pub media-taken : (session : Session) (pair : Option Pair) (media : MediaOut) → IsSession session → (session.profile ≡ Main → IsPair pair)
-    → is_some pair ≡ is_some session.pass → IsMediaOut media
-    → item_of session (media_channel session) (media_datagram session pair media) ≡ Ok (MediaItem (media_value session.width media))
-media-taken session pair media legal fits paired is =
-    let kept : MediaKind ≡ KeepaliveKind → session.profile ≡ Main = λ e. cc in
-    item-back session pair MediaKind (media_octets session.width media) legal fits (λ main. paired) kept
-    ∙ media-item session.width media is
-
 -- ---- its length
 word-len : (extension : Option (ℕ × List ℕ)) → IfSome extension (λ e. length e.1 ≡ 4) → length (extension_octets extension) ≤ 8
 word-len None four = omega arith
@@ -172,6 +167,58 @@ media-len width media =
     let word = word_for width media.number media.strip in
     packet-len (head_for media) (extension_for word) media.payload (four-octets word)
 
+-- ---- its octets
+first-octet : (b : Bool) (word : ExtWord) → 128 + 32 * 0 + 16 * from_bool (is_some (extension-if b word)) + 0 < 256
+first-octet true word = omega arith
+first-octet false word = omega arith
+
+long-octet : (long : Bool) (nulls : ℕ) → nulls < 128 → 128 * from_bool long + nulls + 0 < 256
+long-octet true nulls below = omega arith
+long-octet false nulls below = omega arith
+
+word-are : (strip : Option Shape) (upper : Option ℕ) (rest : List ℕ) → IfSome strip (λ shape. IsShape shape.units shape.nulls)
+    → IfSome upper (λ upper. upper < 2 ^ 16) → Octets rest → Octets (extension_spelling (record { strip = strip; upper = upper }) nothing_unread ++ rest)
+word-are None None rest strip-fits upper-fits more = octet _ _ (omega arith) (octet _ _ (omega arith) (half 0 _ (omega arith) more))
+word-are None (Some upper) rest strip-fits upper-fits more = octet _ _ (omega arith) (octet _ _ (omega arith) (half upper _ upper-fits more))
+word-are (Some shape) None rest strip-fits upper-fits more =
+    octet _ _ (omega (arith, strip-fits.few)) (octet _ _ (long-octet shape.long shape.nulls strip-fits.below) (half 0 _ (omega arith) more))
+word-are (Some shape) (Some upper) rest strip-fits upper-fits more =
+    octet _ _ (omega (arith, strip-fits.few)) (octet _ _ (long-octet shape.long shape.nulls strip-fits.below) (half upper _ upper-fits more))
+
+extension-octets-are : (word : ExtWord) → IsWord word → (rest : List ℕ) → Octets rest
+    → Octets (extension_octets (Some (0x5249, extension_spelling word nothing_unread)) ++ rest)
+extension-octets-are word fits rest more =
+    half 0x5249 _ (omega arith) (half 1 _ (omega arith) (word-are word.strip word.upper rest fits.strip fits.upper more))
+
+extension-are : (word : ExtWord) (b : Bool) → IsWord word → (rest : List ℕ) → Octets rest → Octets (extension_octets (extension-if b word) ++ rest)
+extension-are word true fits rest more = extension-octets-are word fits rest more
+extension-are word false fits rest more = more
+
+media-octets-are : (width : Width) (media : MediaOut) → IsMediaOut media → AreOctets media.payload → AreOctets (media_octets width media)
+unfolding rtp_spelling
+media-octets-are width media legal are =
+    let word = word_for width media.number media.strip in
+    let told = is_some word.strip || is_some word.upper in
+    let payload : Octets (media.payload ++ []) = record { at = subst AreOctets (sym (append-nil media.payload)) are } in
+    (octet _ _ (first-octet told word) (octet 33 _ (omega arith) (half (media.number % 2 ^ 16) _ (omega arith) (whole media.stamp _ legal.stamp
+    (whole _ _ (source-fits media.flow media.again legal.even legal.flow)
+    (extension-are word told (word-fits width media.number media.strip legal.strip) (media.payload ++ []) payload)))))).at
+
+media-carried : (width : Width) (media : MediaOut) → IsMediaOut media → All (λ octet. octet < 256) media.payload → IsCarried (media_octets width media)
+media-carried width media legal are = record {
+  are = media-octets-are width media legal (AreOctets-from_all media.payload are);
+  few = omega (arith, media-len width media, legal.payload);
+}
+
+pub media-taken : (session : Session) (pair : Option Pair) (media : MediaOut) → IsSession session → (session.profile ≡ Main → IsPair pair)
+    → is_some pair ≡ is_some session.pass → IsMediaOut media → (session.full ≡ true → All (λ octet. octet < 256) media.payload)
+    → item_of session (media_channel session) (media_datagram session pair media) ≡ Ok (MediaItem (media_value session.width media))
+media-taken session pair media legal fits paired is are =
+    let kept : MediaKind ≡ KeepaliveKind → session.profile ≡ Main = λ e. cc in
+    item-back session pair MediaKind (media_octets session.width media) legal fits (λ main. paired) kept
+    (λ full. media-carried session.width media is (are full))
+    ∙ media-item session.width media is
+
 ciphered-len : (key : List ℕ) (sequence : ℕ) (text : List ℕ) → length (ciphered key sequence text) ≡ length text
 unfolding ciphered
 ciphered-len key sequence text =
@@ -181,18 +228,46 @@ under-len : (key : Option (List ℕ)) (sequence : Option ℕ) (text : List ℕ) 
 under-len None sequence text = refl
 under-len (Some key) sequence text = ciphered-len key (unwrap_or sequence 0) text
 
-header-len : (bits : ℕ) (pair : Option Pair) (kind : Kind) → length (header_octets bits pair kind) ≤ 12
-header-len bits None kind = omega arith
-header-len bits (Some pair) kind = omega arith
+header-len : (bits : ℕ) (full : Bool) (pair : Option Pair) (kind : Kind) → length (header_octets bits full pair kind) ≤ 12
+header-len bits full None kind = omega arith
+header-len bits full (Some pair) kind = omega arith
+
+-- how many octets stand before a message that goes to a port
+abbrev before : Bool → ℕ
+before true = 28
+before false = 4
+
+full-len : (port : ℕ) (octets : List ℕ) → length (full_octets port octets) ≡ 28 + length octets
+unfolding full_octets ip_header_octets udp_octets
+full-len port octets = omega (arith, ap length (append-nil octets))
+
+carried-len : (full : Bool) (port : ℕ) (octets : List ℕ) → length (carried full port octets) ≡ before full + length octets
+carried-len true port octets = full-len port octets
+carried-len false port octets = omega arith
 
 datagram-len : (profile : Profile) (session : Session) (pair : Option Pair) (octets : List ℕ)
-    → length (datagram_on profile session pair MediaKind octets) ≤ length octets + 16
+    → length (datagram_on profile session pair MediaKind octets) ≤ length octets + (12 + before session.full)
 datagram-len Simple session pair octets = omega arith
 datagram-len Main session pair octets =
-    let text = text_for session.port MediaKind octets in
+    let text = text_for session.full session.port MediaKind octets in
     let sealed = under-len (key_by session.pass session.bits (nonce_of pair)) (sequence_of pair) text in
-    omega (arith, length-append (header_octets session.bits pair MediaKind) (sealed_text session pair text), sealed, header-len session.bits pair MediaKind)
+    omega (
+      arith,
+      length-append (header_octets session.bits session.full pair MediaKind) (sealed_text session pair text),
+      sealed,
+      header-len session.bits session.full pair MediaKind,
+      carried-len session.full session.port octets,
+    )
 
-pub length-datagram : (session : Session) (pair : Option Pair) (media : MediaOut) → length (media_datagram session pair media) ≤ length media.payload + 36
+before-most : (full : Bool) → before full ≤ 28
+before-most true = omega arith
+before-most false = omega arith
+
+pub length-datagram : (session : Session) (pair : Option Pair) (media : MediaOut) → length (media_datagram session pair media) ≤ length media.payload + 60
 length-datagram session pair media =
-    omega (arith, datagram-len session.profile session pair (media_octets session.width media), media-len session.width media)
+    omega (arith, datagram-len session.profile session pair (media_octets session.width media), media-len session.width media, before-most session.full)
+
+pub length-reduced : (session : Session) (pair : Option Pair) (media : MediaOut) → session.full ≡ false
+    → length (media_datagram session pair media) ≤ length media.payload + 36
+length-reduced session pair media reduced =
+    omega (arith, datagram-len session.profile session pair (media_octets session.width media), media-len session.width media, ap before reduced)

@@ -1,10 +1,13 @@
 -- The datagrams of messages, in the tunnel or without it.
-use Rattle.std.specs.Prelude.{◌≡◌, ℕ, ◌+◌, Bool, ◌&&◌, List, ◌++◌, ◌==◌, Option, Some, is_some}
+use Rattle.std.specs.Prelude.{◌≡◌, ℕ, ◌+◌, Bool, true, false, ◌&&◌, List, ◌++◌, ◌==◌, Option, Some, is_some}
 use Rattle.std.specs.Int.{w16, to_be_bytes}
 use Rattle.outside_io.specs.declared.channel.Channel.{Channel}
 use Rattle.outside_io.specs.declared.channel.Channel.TheVariants.{Media as OnMedia, Control as OnControl, Tunnel as OnTunnel}
-use Rattle.gre_tunnel.specs.Gre.{Header, keepalive_protocol, datagram_protocol, spelling as gre_spelling}
+use Rattle.gre_tunnel.specs.Gre.{Header, keepalive_protocol, datagram_protocol, full_protocol, spelling as gre_spelling}
 use Rattle.gre_tunnel.specs.Writing.{header_with, ignored_with}
+use Rattle.ipv4_udp.specs.declared.writing.IpHead.{IpHead}
+use Rattle.ipv4_udp.specs.Ip.{spelling as ip_spelling}
+use Rattle.ipv4_udp.specs.Writing.{datagram_with, written_fields}
 use Rattle.psk_seal.specs.declared.sealer.Pair.{Pair}
 use Rattle.outside_io.specs.declared.profile.Profile.{Profile}
 use Rattle.outside_io.specs.declared.profile.Profile.TheVariants.{Simple, Main}
@@ -19,33 +22,52 @@ use Rattle.rist_wire.specs.Item.{item_of}
 
 -- ---- the tunnel
 
+-- the protocol of RTP and RTCP, by whether they are written as full datagrams
+abbrev pub carried_protocol : Bool → ℕ
+carried_protocol true = full_protocol
+carried_protocol false = datagram_protocol
+
 -- the protocol that the header names
-abbrev pub protocol_for : Kind → ℕ
-protocol_for MediaKind = datagram_protocol
-protocol_for ControlKind = datagram_protocol
-protocol_for KeepaliveKind = keepalive_protocol
+abbrev pub protocol_for : Bool → Kind → ℕ
+protocol_for full MediaKind = carried_protocol full
+protocol_for full ControlKind = carried_protocol full
+protocol_for full KeepaliveKind = keepalive_protocol
 
 -- the header: a key and a sequence number where the datagram is enciphered, the key being the nonce
-abbrev pub header_for : Option Pair → Kind → Header
-header_for pair kind = header_with (nonce_of pair) (sequence_of pair) (protocol_for kind)
+abbrev pub header_for : Bool → Option Pair → Kind → Header
+header_for full pair kind = header_with (nonce_of pair) (sequence_of pair) (protocol_for full kind)
 
 -- an ignored bit says that the key has 32 octets
 abbrev pub is_long : ℕ → Option Pair → Bool
 is_long bits pair = is_some pair && (bits == 256)
 
 -- its octets
-abbrev pub header_octets : ℕ → Option Pair → Kind → List ℕ
-header_octets bits pair kind = gre_spelling (header_for pair kind) (ignored_with (is_long bits pair))
+abbrev pub header_octets : ℕ → Bool → Option Pair → Kind → List ℕ
+header_octets bits full pair kind = gre_spelling (header_for full pair kind) (ignored_with (is_long bits pair))
 
 -- before RTP and RTCP stand a source port, written as the destination, and the destination
 abbrev pub ports_octets : ℕ → List ℕ
 ports_octets port = to_be_bytes w16 port ++ to_be_bytes w16 port
 
+-- a full datagram goes from 10.0.0.1 to 10.0.0.2, and both its ports are the destination (this profile)
+abbrev pub full_head : ℕ → IpHead
+full_head port = record { from = 0x0A000001; to = 0x0A000002; from_port = port; to_port = port }
+
+-- the full datagram with these data
+unfoldable pub full_octets : ℕ → List ℕ → List ℕ
+full_octets port octets =
+    ip_spelling (datagram_with (full_head port) octets) (written_fields (datagram_with (full_head port) octets))
+
+-- octets that go to a port, by whether they are written as a full datagram
+abbrev pub carried : Bool → ℕ → List ℕ → List ℕ
+carried true port octets = full_octets port octets
+carried false port octets = ports_octets port ++ octets
+
 -- what stands behind the header, as plain text
-abbrev pub text_for : ℕ → Kind → List ℕ → List ℕ
-text_for port MediaKind octets = ports_octets port ++ octets
-text_for port ControlKind octets = ports_octets (port + 1) ++ octets
-text_for port KeepaliveKind octets = octets
+abbrev pub text_for : Bool → ℕ → Kind → List ℕ → List ℕ
+text_for full port MediaKind octets = carried full port octets
+text_for full port ControlKind octets = carried full (port + 1) octets
+text_for full port KeepaliveKind octets = octets
 
 -- a text as it stands behind its header
 abbrev pub sealed_text : Session → Option Pair → List ℕ → List ℕ
@@ -54,7 +76,8 @@ sealed_text session pair text = ciphered_by session.pass session.bits (nonce_of 
 -- the datagram of a message in the tunnel
 abbrev pub tunnel_octets : Session → Option Pair → Kind → List ℕ → List ℕ
 tunnel_octets session pair kind octets =
-    header_octets session.bits pair kind ++ sealed_text session pair (text_for session.port kind octets)
+    header_octets session.bits session.full pair kind
+    ++ sealed_text session pair (text_for session.full session.port kind octets)
 
 -- ---- the whole
 
@@ -86,4 +109,5 @@ pub record IsDatagram (session : Session) (pair : Option Pair) (kind : Kind) (me
   pub octets : datagram ≡ datagram_of session pair kind message
   pub item : item_of session way datagram ≡ item_by kind message
   pub sealed : (pass : List ℕ) → session.pass ≡ Some pass
-      → IsSealed pass session.bits pair (protocol_for kind) (text_for session.port kind message) datagram
+      → IsSealed pass session.bits pair (protocol_for session.full kind)
+      (text_for session.full session.port kind message) datagram

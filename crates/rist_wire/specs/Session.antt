@@ -4,11 +4,12 @@ use Rattle.seq_unwrap.specs.declared.width.Width.TheVariants.{W16}
 use Rattle.outside_io.specs.declared.profile.Profile.TheVariants.{Simple}
 use Rattle.rist_wire.specs.declared.session.Session.{Session}
 
--- no passphrase, no null packets deleted, and numbers of 16 bits
+-- no passphrase, no null packets deleted, numbers of 16 bits, and no full datagrams
 pub record IsPlain (session : Session) : Type 0 where
   pub pass : session.pass ≡ None
   pub nulls : session.nulls ≡ false
   pub width : session.width ≡ W16
+  pub full : session.full ≡ false
 
 -- An even virtual port, and a key's length; what the tunnel alone has is off in the Simple Profile.
 pub record IsSession (session : Session) : Type 0 where

@@ -1,20 +1,23 @@
 //! What the definitions of items and of datagrams mean.
-ghost use Rattle.std.specs.Prelude.{◌≡◌, ◌≤◌, ◌<◌, ◌+◌, ℕ, List, Option, Some, Ok, true, is_some, length};
+ghost use Rattle.std.specs.Prelude.{◌≡◌, ◌≤◌, ◌<◌, ◌+◌, ℕ, List, All, Option, Some, Ok, true, false, is_some, length};
 ghost use Rattle.aes_ctr.specs.Ctr.{counter_block};
 ghost use Rattle.psk_seal.specs.declared.sealer.Pair.{Pair};
 ghost use Rattle.psk_seal.specs.Nonces.{AreNonces};
 ghost use Rattle.psk_seal.specs.Pairs.{pair_at};
 ghost use Rattle.ts_nulls.specs.Nulls.{stripping_of, blanking_of};
 ghost use Rattle.ts_nulls.specs.Shape.{Shape};
+ghost use Rattle.outside_io.specs.declared.channel.Channel.TheVariants.{Tunnel as OnTunnel};
 ghost use Rattle.outside_io.specs.declared.profile.Profile.TheVariants.{Main};
 ghost use Rattle.rist_wire.specs.declared.session.Session.{Session};
 ghost use Rattle.rist_wire.specs.declared.item.Item.TheVariants.{Media as MediaItem};
+ghost use Rattle.rist_wire.specs.declared.item.Kind.{Kind};
 ghost use Rattle.rist_wire.specs.Session.{IsSession};
 ghost use Rattle.rist_wire.specs.Cipher.{first_counter_block};
 ghost use Rattle.rist_wire.specs.Media.{can_restore, restored_payload};
 ghost use Rattle.rist_wire.specs.Item.{item_of};
 ghost use Rattle.rist_wire.specs.Writing.{IsPair, MediaOut};
 ghost use Rattle.rist_wire.specs.Packets.{media_value};
+ghost use Rattle.rist_wire.specs.Datagrams.{datagram_of};
 ghost use Rattle.rist_wire.specs.Sent.{IsMediaOut, media_channel, media_datagram};
 
 use psk_seal::MAX_PAIRS;
@@ -29,19 +32,32 @@ pub fn what_was_stripped_can_be_restored()
     ts_nulls::laws::what_was_stripped_is_restored();
 }
 
-/// A datagram of media is taken as that media in its session, with a pair exactly where there is a passphrase.
+/// A datagram of media is taken as that media in its session, with a pair exactly where there is a passphrase. The checksum of
+/// a full datagram counts octets, so there the payload has to be octets.
 pub fn media_that_is_written_is_taken()
     ensures { (session : Session) (pair : Option Pair) (media : MediaOut)
         → IsSession session → (session.profile ≡ Main → IsPair pair)
         → is_some pair ≡ is_some session.pass → IsMediaOut media
+        → (session.full ≡ true → All (λ octet. octet < 256) media.payload)
         → item_of session (media_channel session) (media_datagram session pair media)
         ≡ Ok (MediaItem (media_value session.width media)) }
 {}
 
-/// A datagram of media has at most 36 octets more than its payload.
+/// A message in a full datagram is the item that it is behind the four octets of ports.
+pub fn both_forms_say_the_same()
+    ensures { (session : Session) (pair : Option Pair) (kind : Kind) (message : List ℕ)
+        → IsSession session → session.profile ≡ Main → IsPair pair → is_some pair ≡ is_some session.pass
+        → length message ≤ 1560 → All (λ octet. octet < 256) message
+        → item_of session OnTunnel (datagram_of (record session { full = true }) pair kind message)
+        ≡ item_of session OnTunnel (datagram_of (record session { full = false }) pair kind message) }
+{}
+
+/// A datagram of media has at most 36 octets more than its payload, a full one at most 60.
 pub fn media_has_few_octets_of_headers()
-    ensures { (session : Session) (pair : Option Pair) (media : MediaOut)
+    ensures reduced { (session : Session) (pair : Option Pair) (media : MediaOut) → session.full ≡ false
         → length (media_datagram session pair media) ≤ length media.payload + 36 }
+    ensures either { (session : Session) (pair : Option Pair) (media : MediaOut)
+        → length (media_datagram session pair media) ≤ length media.payload + 60 }
 {}
 
 /// No counter block of the cipher is used twice under one nonce, by any two datagrams of one sealer: a datagram's text

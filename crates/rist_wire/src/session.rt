@@ -17,6 +17,9 @@ pub struct Session {
     pub nulls: bool,
     /// How many bits of a number are written.
     pub width: Width,
+    /// Whether RTP and RTCP are written as full datagrams, behind IPv4 and UDP, and not behind four octets of ports. Both
+    /// forms are read.
+    pub full: bool,
 }
 
 impl Session {
@@ -36,6 +39,7 @@ impl Session {
             bits: self.bits,
             nulls: self.nulls,
             width: self.width,
+            full: self.full,
         }
     }
 }

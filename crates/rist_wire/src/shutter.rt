@@ -94,7 +94,7 @@ impl Shutter {
     ) -> Result<(Channel, usize), Spent>
         requires paired { is_some self.old.sealer ≡ is_some self.old.session.pass }
         requires tunnel { kind ≡ KeepaliveKind → self.old.session.profile ≡ Main }
-        requires room { length message.now ≤ 2032 }
+        requires room { length message.now ≤ 1560 }
         ensures datagram { IfOk result (λ sent. IsDatagram self.old.session (next_pair self.old.sealer)
             kind message.now sent.0 (take sent.1 out.new)) }
         ensures within { IfOk result (λ sent. sent.1 ≤ 2048) }

@@ -22,6 +22,7 @@ fn simple_session() -> Session
         bits: 128,
         nulls: false,
         width: Width::W16,
+        full: false,
     }
 }
 
@@ -39,6 +40,7 @@ fn main_session(pass: Option<Phrase>, bits: u16, width: Width) -> Session
         bits,
         nulls: true,
         width,
+        full: false,
     }
 }
 
@@ -200,6 +202,13 @@ fn a_full_datagram_is_taken_or_its_first_failing_test_is_named(
     ] {
         assert!(rt; is_media_a(&mut opener, &octets));
     }
+    // Options in the header of IPv4.
+    assert!(rt;
+        is_media_a(
+            &mut opener,
+            b"\x00\x00\x08\x00\x46\x00\x00\x2d\x00\x00\x40\x00\x40\x11\x23\xbd\x0a\x00\x00\x01\x0a\x00\x00\x02\x01\x01\x01\x00\x07\xb0\x07\xb0\x00\x15\xda\xdf\x80\x21\x00\x00\x00\x00\x00\x00\x10\x20\x30\x40\x41"
+        )
+    );
     // In a session with a passphrase media isn't taken as plain text.
     let session = main_session(Some(Phrase::of(b"secret")), 128, Width::W16);
     let mut opener = Opener::with(rt.alloc(), &session).ok().ok_or("memory")?;
@@ -499,6 +508,64 @@ fn datagrams_are_written_octet_by_octet(rt: HostRuntime) -> Result<(), Fail> {
         simple.control(b"\x80\xc9\x00\x01\x00\x00\x00\x07", &mut out),
         Ok((Channel::Control, 8))
     );
+    Ok(())
+}
+
+fn full_session(pass: Option<Phrase>) -> Session
+    ensures session { IsSession result }
+    ensures profile { result.profile ≡ Main }
+    ensures pass { result.pass ≡ pass }
+{
+    Session {
+        profile: Profile::Main,
+        port: 1968,
+        pass,
+        bits: 128,
+        nulls: false,
+        width: Width::W16,
+        full: true,
+    }
+}
+
+#[test]
+fn full_datagrams_are_written_octet_by_octet(rt: HostRuntime) -> Result<(), Fail> {
+    let mut out = [0xff; 2048];
+    let mut shutter = Shutter::with(&full_session(None), None);
+    // An odd count of data.
+    let sent = shutter.media(0x10203040, false, 0, 0, None, b"A", &mut out);
+    assert_eq!(rt; sent, Ok((Channel::Tunnel, 45)));
+    assert_eq!(rt;
+        out.get(..45).ok_or("media")?,
+        b"\x00\x00\x08\x00\x45\x00\x00\x29\x00\x00\x40\x00\x40\x11\x26\xc2\x0a\x00\x00\x01\x0a\x00\x00\x02\x07\xb0\x07\xb0\x00\x15\xda\xdf\x80\x21\x00\x00\x00\x00\x00\x00\x10\x20\x30\x40\x41".as_slice()
+    );
+    // UDP's checksum is computed as 0, and written as its complement.
+    let sent = shutter.media(0x10203040, false, 0, 0, None, b"\x1b\xde", &mut out);
+    assert_eq!(rt; sent, Ok((Channel::Tunnel, 46)));
+    assert_eq!(rt;
+        out.get(4..46).ok_or("media")?,
+        b"\x45\x00\x00\x2a\x00\x00\x40\x00\x40\x11\x26\xc1\x0a\x00\x00\x01\x0a\x00\x00\x02\x07\xb0\x07\xb0\x00\x16\xff\xff\x80\x21\x00\x00\x00\x00\x00\x00\x10\x20\x30\x40\x1b\xde".as_slice()
+    );
+    let sent = shutter.control(b"\x80\xc9\x00\x01\x00\x00\x00\x07", &mut out);
+    assert_eq!(rt; sent, Ok((Channel::Tunnel, 40)));
+    assert_eq!(rt;
+        out.get(..40).ok_or("control")?,
+        b"\x00\x00\x08\x00\x45\x00\x00\x24\x00\x00\x40\x00\x40\x11\x26\xc7\x0a\x00\x00\x01\x0a\x00\x00\x02\x07\xb1\x07\xb1\x00\x10\x5b\x98\x80\xc9\x00\x01\x00\x00\x00\x07".as_slice()
+    );
+    // A keepalive has no ports, so it is the same in either form.
+    let sent = shutter.keepalive(0x10203040, &mut out);
+    assert_eq!(rt; sent, Ok((Channel::Tunnel, 12)));
+    assert_eq!(rt;
+        out.get(..12).ok_or("keepalive")?,
+        b"\x00\x00\x88\xb5\x02\x00\x10\x20\x30\x40\x00\x00".as_slice()
+    );
+    // A full datagram is enciphered as another one is.
+    let session = full_session(Some(Phrase::of(b"secret")));
+    let mut shutter = Shutter::with(&session, Some(sealer(rt.alloc())?));
+    let sent = shutter.media(0x10203040, false, 0, 0, None, b"A", &mut out);
+    assert_eq!(rt; sent, Ok((Channel::Tunnel, 53)));
+    assert!(rt; out.starts_with(b"\x30\x00\x08\x00\x00\x00\x00\x01\x00\x00\x00\x00"));
+    let mut opener = Opener::with(rt.alloc(), &session).ok().ok_or("memory")?;
+    assert!(rt; is_media_a(&mut opener, out.get(..53).ok_or("sealed")?));
     Ok(())
 }
 

@@ -94,15 +94,17 @@ session_range rows s e =
     let port = reads (number_of ports (first_of (codes "port") rows)) _ s profile.rest in
     let pass = reads (phrase_of profile.value (first_of (codes "pass") rows)) _ s port.rest in
     let bits = reads (number_of key_bits (first_of (codes "bits") rows)) _ s pass.rest in
+    let full = reads (flag_of profile.value (first_of (codes "full") rows)) _ s bits.rest in
     let p = number_range ports (first_of (codes "port") rows) port.value (record { least = omega arith; most = omega arith; multiple = refl }) port.is in
     let b = number_range key_bits (first_of (codes "bits") rows) bits.value (record { least = omega arith; most = omega arith; multiple = refl }) bits.is in
-    subst IsInSession (same_some _ _ bits.rest) (record {
+    subst IsInSession (same_some _ _ full.rest) (record {
       even = p.multiple;
       low = p.least;
       high = p.most;
       bits = two_bits bits.value b;
       pass = phrase_length profile.value (first_of (codes "pass") rows) pass.value pass.is;
       simple = phrase_simple profile.value (first_of (codes "pass") rows) pass.value pass.is;
+      full = flag_simple profile.value (first_of (codes "full") rows) full.value full.is;
     })
 
 pub first_low : (wide : Bool) (n : ℕ) → IsAmong (firsts wide) n → wide ≡ false → n < 65536

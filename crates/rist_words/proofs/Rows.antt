@@ -8,7 +8,7 @@ use Rattle.rist_words.specs.CommandLine.{Gate, Pack, Receiver, Recv, Replay, Sen
 
 -- a session without options
 abbrev plain : Session
-plain = record { profile = Simple; port = 1968; pass = None; bits = 128 }
+plain = record { profile = Simple; port = 1968; pass = None; bits = 128; full = false }
 
 defaults : line_of (codes "rist" ∷ codes "replay" ∷ codes "a" ∷ codes "-" ∷ [])
     ≡ Some (Replay (record { capture = codes "a"; out = codes "-"; session = plain; delay = 1000; span = 2048 }))
@@ -49,7 +49,7 @@ unfolding clap_on_literals faults_of command_in
 help = refl
 
 sealed : line_of (codes "rist" ∷ codes "show" ∷ codes "a" ∷ codes "--pass=-x" ∷ codes "--profile" ∷ codes "main" ∷ codes "--bits" ∷ codes "256" ∷ codes "--port=2" ∷ [])
-    ≡ Some (Show (record { capture = codes "a"; session = record { profile = Main; port = 2; pass = Some (codes "-x"); bits = 256 } }))
+    ≡ Some (Show (record { capture = codes "a"; session = record { profile = Main; port = 2; pass = Some (codes "-x"); bits = 256; full = false } }))
 unfolding clap_on_literals faults_of command_in
 sealed = refl
 

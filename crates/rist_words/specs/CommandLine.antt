@@ -10,12 +10,14 @@ use Rattle.request_rules.specs.declared.policy.NackKind.{NackKind}
 use Rattle.rist_words.specs.Values.{flag_of, nack_of, name_of, number_of, phrase_of, profile_of, ◌>>=◌}
 use Rattle.rist_words.specs.Links.{gate_links_of, links_of, shares_of}
 
--- how the datagrams of a session are made: the UDP port of media, the passphrase if there is one, and the bits of its key
+-- how the datagrams of a session are made: the UDP port of media, the passphrase if there is one, the bits of its key, and
+-- whether RTP and RTCP are written as full datagrams
 pub record Session : Type 0 where
   pub profile : Profile
   pub port : ℕ
   pub pass : Option Text
   pub bits : ℕ
+  pub full : Bool
 
 -- a replay of a capture, with the playout delay in milliseconds and the buffer's capacity in packets
 pub record ReplayCommand : Type 0 where
@@ -178,14 +180,15 @@ idle_times = record { default = 0; least = 0; most = 86400000; multiple_of = 1 }
 abbrev pub kept_counts : Numbers
 kept_counts = record { default = 0; least = 0; most = 65536; multiple_of = 1 }
 
--- the session that a command's values give
+-- The session that a command's values give. Commands that make no datagrams have no flag for full ones.
 abbrev pub session_of : List Row → Option Session
 session_of rows = do
   profile ← profile_of (first_of (codes "profile") rows)
   port ← number_of ports (first_of (codes "port") rows)
   pass ← phrase_of profile (first_of (codes "pass") rows)
   bits ← number_of key_bits (first_of (codes "bits") rows)
-  Some (record { profile = profile; port = port; pass = pass; bits = bits })
+  full ← flag_of profile (first_of (codes "full") rows)
+  Some (record { profile = profile; port = port; pass = pass; bits = bits; full = full })
 
 -- the values of a replay
 abbrev pub replay_of : List Row → Option ReplayCommand

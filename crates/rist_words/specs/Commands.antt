@@ -35,14 +35,14 @@ show_app = with_arguments (session_app (codes "show")) [] [] (codes "capture" �
 
 -- a packing: its options, its flags and its positions
 abbrev pub pack_app : App
-pack_app = with_arguments (session_app (codes "pack")) (codes "flow" ∷ codes "first" ∷ codes "gap" ∷ []) (codes "nulls" ∷ codes "wide" ∷ [])
+pack_app = with_arguments (session_app (codes "pack")) (codes "flow" ∷ codes "first" ∷ codes "gap" ∷ []) (codes "nulls" ∷ codes "wide" ∷ codes "full" ∷ [])
     (codes "source" ∷ codes "capture" ∷ [])
 
 -- a sending: its options, its flags and its positions, of which the last takes one link or more
 abbrev pub send_app : App
 send_app = with_rules Positions (with_arguments (session_app (codes "send"))
     (codes "flow" ∷ codes "first" ∷ codes "gap" ∷ codes "store" ∷ codes "hold" ∷ codes "share" ∷ codes "linger" ∷ codes "turns" ∷ [])
-    (codes "nulls" ∷ codes "wide" ∷ []) (codes "source" ∷ [])) (codes "link" ∷ [])
+    (codes "nulls" ∷ codes "wide" ∷ codes "full" ∷ []) (codes "source" ∷ [])) (codes "link" ∷ [])
 
 -- the options of a receiver and of its run
 abbrev pub receiver_options : List Text
@@ -50,15 +50,15 @@ receiver_options =
     codes "delay" ∷ codes "span" ∷ codes "reorder" ∷ codes "least" ∷ codes "tries" ∷ codes "nack" ∷ codes "own" ∷ codes "turns"
     ∷ codes "idle" ∷ codes "keep" ∷ []
 
--- a receiving: its options and its positions, of which the last takes one link or more
+-- a receiving: its options, its flag and its positions, of which the last takes one link or more
 abbrev pub recv_app : App
-recv_app = with_rules Positions (with_arguments (session_app (codes "recv")) receiver_options [] (codes "out" ∷ [])) (codes "link" ∷ [])
+recv_app = with_rules Positions (with_arguments (session_app (codes "recv")) receiver_options (codes "full" ∷ []) (codes "out" ∷ [])) (codes "link" ∷ [])
 
 -- a gateway: a receiver's options, its own, its flags and its links
 abbrev pub gate_app : App
 gate_app = with_rules Positions (with_arguments (with_rules Valued (session_app (codes "gate")) receiver_options)
     (codes "flow" ∷ codes "first" ∷ codes "store" ∷ codes "hold" ∷ codes "share" ∷ codes "in" ∷ [])
-    (codes "nulls" ∷ codes "wide" ∷ []) []) (codes "link" ∷ [])
+    (codes "nulls" ∷ codes "wide" ∷ codes "full" ∷ []) []) (codes "link" ∷ [])
 
 -- the commands over files
 abbrev pub files_app : App

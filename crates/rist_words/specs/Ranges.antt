@@ -7,7 +7,7 @@ use Rattle.rist_words.specs.CommandLine.{CommandLine, Replay, Show, Pack, Send, 
 use Rattle.rist_words.specs.CommandLine.{ports, delays, spans, gaps, stores, holds, lingers, turn_counts, reorders, retry_times, retry_counts, idle_times, kept_counts}
 use Rattle.rist_words.specs.Links.{link_weights}
 
--- an even port, a key's length, and a passphrase in the Main Profile alone
+-- an even port, a key's length, and a passphrase and full datagrams in the Main Profile alone
 pub record IsInSession (s : Session) : Type 0 where
   pub even : s.port % 2 ≡ 0
   pub low : ports.least ≤ s.port
@@ -15,6 +15,7 @@ pub record IsInSession (s : Session) : Type 0 where
   pub bits : (s.bits ≡ 128) ⊎ (s.bits ≡ 256)
   pub pass : IfSome s.pass (λ p. (1 ≤ length p) × (length p ≤ 128))
   pub simple : s.profile ≡ Simple → s.pass ≡ None
+  pub full : s.profile ≡ Simple → s.full ≡ false
 
 -- a delay and a span that their options take
 pub record IsInReplay (c : ReplayCommand) : Type 0 where

@@ -16,7 +16,7 @@ use Rattle.rist_words.specs.CommandLine.{CommandLine, Replay, Show, Pack, Send, 
 
 -- the session of a line
 abbrev pub shown_session : SessionWords → Session
-shown_session s = record { profile = s.profile; port = s.port; pass = option_map (λ p. p.now) s.pass; bits = s.bits }
+shown_session s = record { profile = s.profile; port = s.port; pass = option_map (λ p. p.now) s.pass; bits = s.bits; full = s.full }
 
 -- the replay that a line says
 abbrev pub shown_replay : ReplayLine → ReplayCommand

@@ -30,9 +30,12 @@ static SEND_OPTIONS: [&str; 8] = [
 ];
 
 /// The flags of each command that makes the datagrams of a stream.
-static STREAM_FLAGS: [&str; 2] = ["nulls", "wide"];
+static STREAM_FLAGS: [&str; 3] = ["nulls", "wide", "full"];
 
 static RECV: [&str; 1] = ["out"];
+
+/// The flags of a receiving, which makes datagrams of control.
+static RECV_FLAGS: [&str; 1] = ["full"];
 
 /// The options of each command that receives.
 static RECEIVER_OPTIONS: [&str; 10] = [
@@ -64,7 +67,7 @@ pub fn program<'a>(alloc: Global) -> Result<Command<'a>, AllocError>
     let send = with_all(alloc, send, Kind::Positions, &LINKS)?;
     let program = below(program, send)?;
     let recv = session(alloc, "recv")?;
-    let recv = with_arguments(alloc, recv, &RECEIVER_OPTIONS, &[], &RECV)?;
+    let recv = with_arguments(alloc, recv, &RECEIVER_OPTIONS, &RECV_FLAGS, &RECV)?;
     let recv = with_all(alloc, recv, Kind::Positions, &LINKS)?;
     let program = below(program, recv)?;
     let gate = session(alloc, "gate")?;

@@ -17,9 +17,10 @@ usage: rist COMMAND [OPTION..] ARGUMENT..
       --gap US                time between two datagrams, 1 to 1000000 (default 1000)
       --nulls                 delete null packets (main profile)
       --wide                  sequence numbers of 32 bits (main profile)
+      --full                  write full datagrams, with IPv4 and UDP in the tunnel (main profile)
 
   rist send SOURCE LINK..     send a stream on links, each a.b.c.d:port, one to sixteen
-      --flow, --first, --gap, --nulls, --wide, as of pack
+      --flow, --first, --gap, --nulls, --wide, --full, as of pack
       --store PACKETS         packets kept for retransmission, 1 to 65536 (default 4096)
       --hold MS               no packet is sent again within this time, 1 to 1000 (default 20)
       --share W:W..           the links' weights, 1 to 100 each, one for each link, by which they
@@ -30,7 +31,7 @@ usage: rist COMMAND [OPTION..] ARGUMENT..
 
   rist recv OUT LINK..        write a stream as it is received on links, each an a.b.c.d:port
                               that is bound, one to sixteen
-      --delay, --span, as of replay; --turns, as of send, for each link
+      --delay, --span, as of replay; --full, as of pack; --turns, as of send, for each link
       --reorder MS            a packet is asked for once it is missing so long, 0 to 1000
                               (default 25)
       --least MS              least time between two requests for a packet, 5 to 1000 (default 50)
@@ -46,7 +47,7 @@ usage: rist COMMAND [OPTION..] ARGUMENT..
       --in LINKS              how many links receive, at least one and not all (default 1)
       --delay, --span, --reorder, --least, --tries, --nack, --own, --turns, --idle, --keep,
                               as of recv
-      --flow, --first, --nulls, --wide, --store, --hold, as of send
+      --flow, --first, --nulls, --wide, --full, --store, --hold, as of send
       --share W:W..           as of send, a weight for each link that sends
 
   each command

@@ -33,6 +33,8 @@ pub struct SessionWords<'a> {
     pub pass: Option<&'a str>,
     /// The key's bits, 128 or 256.
     pub bits: u16,
+    /// RTP and RTCP are written as full datagrams. In the Main Profile only, and by commands that make datagrams.
+    pub full: bool,
 }
 
 /// Write the payloads of a capture as a receiver plays them out.

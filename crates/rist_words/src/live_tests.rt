@@ -93,7 +93,7 @@ static RECEIVED: [(&str, (ReceiverWords, ServingWords)); 3] = [
 
 /// Words that are no line of a receiving: an option one past its least or its greatest, or one of another command; and
 /// links.
-static NOT_RECEIVED: [&str; 30] = [
+static NOT_RECEIVED: [&str; 31] = [
     "rist recv",
     "rist recv -",
     "rist recv  127.0.0.1:2",
@@ -120,6 +120,7 @@ static NOT_RECEIVED: [&str; 30] = [
     "rist recv - 127.0.0.1:2 --pass x",
     "rist recv - 127.0.0.1:2 --in 1",
     "rist recv - 127.0.0.1:2 --nulls",
+    "rist recv - 127.0.0.1:2 --full",
     "rist recv - 127.0.0.1:2 --linger 1",
     "rist recv - 127.0.0.1:2 --store 1",
     "rist recv - 1.1.1.1:2 1.1.1.1:2 1.1.1.1:2 1.1.1.1:2 1.1.1.1:2 1.1.1.1:2 1.1.1.1:2 1.1.1.1:2 1.1.1.1:2 1.1.1.1:2 1.1.1.1:2 1.1.1.1:2 1.1.1.1:2 1.1.1.1:2 1.1.1.1:2 1.1.1.1:2 1.1.1.1:2",
@@ -127,7 +128,7 @@ static NOT_RECEIVED: [&str; 30] = [
 ];
 
 /// Words that are no line of a gateway.
-static NOT_GATES: [&str; 23] = [
+static NOT_GATES: [&str; 24] = [
     "rist gate",
     "rist gate 127.0.0.1:2",
     "rist gate 127.0.0.1:2 --in 1",
@@ -144,6 +145,7 @@ static NOT_GATES: [&str; 23] = [
     "rist gate 127.0.0.1:2 127.0.0.1:4 --pass x",
     "rist gate 127.0.0.1:2 127.0.0.1:4 --nulls",
     "rist gate 127.0.0.1:2 127.0.0.1:4 --wide",
+    "rist gate 127.0.0.1:2 127.0.0.1:4 --full",
     "rist gate 127.0.0.1:2 127.0.0.1:4 --flow 1",
     "rist gate 127.0.0.1:2 127.0.0.1:4 --first 65536",
     "rist gate 127.0.0.1:2 127.0.0.1:4 --store 65537",
@@ -203,6 +205,7 @@ fn all_gates(alloc: Global) -> Result<bool, Fail> {
         session: SessionWords {
             profile: Profile::Main,
             pass: Some("x"),
+            full: true,
             ..PLAIN
         },
         receiver: RECEIVER,
@@ -218,7 +221,7 @@ fn all_gates(alloc: Global) -> Result<bool, Fail> {
         ..gate_line(alloc, &[2, 4], &[65_535])?
     };
     let text =
-        "rist gate 127.0.0.1:2 127.0.0.1:4 127.0.0.1:65535 --in 2 --share 7 --profile main --pass x --nulls --wide \
+        "rist gate 127.0.0.1:2 127.0.0.1:4 127.0.0.1:65535 --in 2 --share 7 --profile main --pass x --nulls --wide --full \
                 --flow 4294967294 --first 65536 --store 1 --hold 1";
     Ok(
         reads(

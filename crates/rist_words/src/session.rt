@@ -33,6 +33,7 @@ pub fn session<'a>(values: &ArgMatches<'a>) -> Option<SessionWords<'a>>
         port: number(values, "port", PORT)? as u16,
         pass: phrase(values, "pass", profile)?,
         bits: number(values, "bits", BITS)? as u16,
+        full: flag(values, "full", profile)?,
     })
 }
 

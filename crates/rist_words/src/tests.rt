@@ -12,6 +12,7 @@ pub const PLAIN: SessionWords<'static> = SessionWords {
     port: 1968,
     pass: None,
     bits: 128,
+    full: false,
 };
 
 pub const STREAM: StreamWords = StreamWords {
@@ -68,7 +69,7 @@ static REPLAYS: [(&str, &str, &str, u64, u64); 14] = [
     (" replay a b", "a", "b", 1000, 2048),
 ];
 
-static REFUSED: [&str; 69] = [
+static REFUSED: [&str; 72] = [
     "",
     "rist",
     "rist play a b",
@@ -106,7 +107,10 @@ static REFUSED: [&str; 69] = [
     "rist pack a b --profile main --wide --wide",
     "rist pack a b --wide",
     "rist pack a b --nulls",
+    "rist pack a b --full",
     "rist show a --nulls",
+    "rist show a --profile main --full",
+    "rist replay a b --profile main --full",
     "rist show a --profile Main",
     "rist show a --port 3",
     "rist show a --port 0",
@@ -175,6 +179,7 @@ fn all_shown(alloc: Global) -> Result<bool, Fail> {
         port: 65_534,
         pass: Some("-x"),
         bits: 256,
+        full: false,
     };
     let text = "rist show --profile main a --port 65534 --pass=-x --bits=256";
     Ok(
@@ -197,6 +202,7 @@ fn all_packed(alloc: Global) -> Result<bool, Fail> {
     let full = PackLine {
         session: SessionWords {
             profile: Profile::Main,
+            full: true,
             ..PLAIN
         },
         stream: StreamWords {
@@ -209,7 +215,7 @@ fn all_packed(alloc: Global) -> Result<bool, Fail> {
         ..plain
     };
     let text =
-        "rist pack a b --first 4294967295 --flow=2 --gap 1000000 --nulls --profile=main --wide";
+        "rist pack a b --first 4294967295 --flow=2 --full --gap 1000000 --nulls --profile=main --wide";
     Ok(
         reads(alloc, "rist pack a b", Ok(Line::Pack(plain)))?
             && reads(alloc, text, Ok(Line::Pack(full)))?,
