@@ -266,6 +266,78 @@ fn a_packed_stream_is_replayed_to_itself(rt: HostRuntime) -> Result<(), Fail> {
     Ok(())
 }
 
+/// A capture of the octet `A` in a full datagram, with these flags, this checksum of IPv4 and this one of UDP.
+fn full_capture(
+    alloc: Global,
+    flags: [u8; 2],
+    header_sum: [u8; 2],
+    udp_sum: [u8; 2],
+) -> Result<Vec<u8>, Fail> {
+    joined(
+        alloc,
+        &[
+            NAME,
+            b"\0\x02\0\x2D\0\0\0\0\0\0\0\0",
+            b"\0\0\x08\0\x45\0\0\x29\0\0",
+            flags.as_slice(),
+            b"\x40\x11",
+            header_sum.as_slice(),
+            b"\x0A\0\0\x01\x0A\0\0\x02\x07\xB0\x07\xB0\0\x15",
+            udp_sum.as_slice(),
+            b"\x80\x21\0\0\0\0\0\0\x10\x20\x30\x40A",
+        ],
+    )
+}
+
+const FULL_A: &str =
+    "{\"again\":false,\"at\":0,\"channel\":\"tunnel\",\"flow\":\"10203040\",\"item\":\"media\",\"length\":1,\"link\":0,\"number\":0,\"stamp\":0,\"width\":16}\n";
+
+/// The flags, the checksums of IPv4 and of UDP, and the line of the datagram.
+static FULL_ROWS: [([u8; 2], [u8; 2], [u8; 2], &str); 5] = [
+    ([0x40, 0], [0x26, 0xC2], [0xDA, 0xDF], FULL_A),
+    (
+        [0x40, 0],
+        [0x26, 0xC3],
+        [0xDA, 0xDF],
+        "{\"at\":0,\"channel\":\"tunnel\",\"item\":\"refused\",\"link\":0,\"place\":0,\"why\":\"ip header sum\"}\n",
+    ),
+    ([0x40, 0], [0x26, 0xC2], [0, 0], FULL_A),
+    (
+        [0x40, 0],
+        [0x26, 0xC2],
+        [0xDA, 0xDE],
+        "{\"at\":0,\"channel\":\"tunnel\",\"item\":\"refused\",\"link\":0,\"place\":0,\"why\":\"udp sum\"}\n",
+    ),
+    (
+        [0x60, 0],
+        [0x06, 0xC2],
+        [0xDA, 0xDF],
+        "{\"at\":0,\"channel\":\"tunnel\",\"item\":\"refused\",\"link\":0,\"place\":0,\"why\":\"ip fragment\"}\n",
+    ),
+];
+
+#[test]
+fn full_datagrams_are_packed_and_shown_and_replayed(rt: HostRuntime) -> Result<(), Fail> {
+    let alloc = rt.alloc();
+    let line = "pack --profile main --full - -";
+    let packed = written(alloc, line, b"A", &NOTHING, Status::Done)?;
+    let whole = full_capture(alloc, [0x40, 0], [0x26, 0xC2], [0xDA, 0xDF])?;
+    assert!(rt; packed.as_slice() == whole.as_slice());
+    for (flags, header_sum, udp_sum, shown) in FULL_ROWS {
+        let capture = full_capture(alloc, flags, header_sum, udp_sum)?;
+        let line = "show --profile main -";
+        let octets = written(alloc, line, capture.as_slice(), &NOTHING, Status::Done)?;
+        assert!(rt; octets.as_slice() == shown.as_bytes());
+    }
+    let source = [0x2F; 1317];
+    let replay = "replay --profile main - -";
+    assert!(rt; returns(alloc, &source, "pack --profile main --full - -", replay)?);
+    let replay = "replay --profile main --pass secret - -";
+    let pack = "pack --profile main --full --pass secret - -";
+    assert!(rt; returns(alloc, &source, pack, replay)?);
+    Ok(())
+}
+
 #[test]
 fn what_is_enciphered_under_another_passphrase_is_refused(rt: HostRuntime) -> Result<(), Fail> {
     let alloc = rt.alloc();

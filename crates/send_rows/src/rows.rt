@@ -126,11 +126,16 @@ pub const SHARES: &[Row<'static>] = &[
     },
 ];
 
-/// In a tunnel: in clear, with numbers of 32 bits, without the null packet, and enciphered.
+/// In a tunnel: in clear, in full datagrams, with numbers of 32 bits, without the null packet, and enciphered.
 pub const TUNNELS: &[Row<'static>] = &[
     Row {
         line: "rist send - 127.0.0.1:5000 --linger 0 --profile main",
         taken: &[(0, 396)],
+        ..TUNNELLED
+    },
+    Row {
+        line: "rist send - 127.0.0.1:5000 --linger 0 --profile main --full",
+        taken: &[(0, 420)],
         ..TUNNELLED
     },
     Row {
