@@ -7,7 +7,7 @@ use Rattle.outside_io.specs.declared.profile.Profile.TheVariants.{Simple, Main}
 use Rattle.outside_net.specs.declared.link.Got.{Got}
 use Rattle.outside_net.specs.declared.link.Got.TheVariants as got
 use Rattle.outside_net.specs.declared.link_spec.Role.{Role}
-use Rattle.outside_net.specs.declared.link_spec.Role.TheVariants.{Receives, Sends}
+use Rattle.outside_net.specs.declared.link_spec.Role.TheVariants.{Receives, Sends, Forwards}
 use Rattle.outside_net.specs.declared.port.Peer.{Peer}
 use Rattle.outside_net.specs.declared.port.Peer.TheVariants.{Unknown, Last, Stated}
 use Rattle.outside_net.specs.declared.port.Port.{Port}
@@ -35,6 +35,7 @@ knows_in_link link channels.Tunnel = knows_at link.tunnel
 abbrev pub is_sending : Role → Bool
 is_sending Receives = false
 is_sending Sends = true
+is_sending Forwards = true
 
 -- a link states the peers of its profile's channels where it sends, and none where it receives
 abbrev pub stated_in : Role → Profile → Channel → Bool

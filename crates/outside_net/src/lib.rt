@@ -1,6 +1,6 @@
-//! The outside of the live ends: links, clocks and traces. A contract sees the answers that a link has still to give, the
-//! moments that a clock has, the datagrams that a link took and the list that a trace keeps, where they tell them; and
-//! counts of a link's faults and ends.
+//! The outside of the live ends: links, clocks and traces. A contract sees the answers that a link has still to give,
+//! the moments that a clock has, the datagrams that a link took and the list that a trace keeps, where they tell them;
+//! and counts of a link's faults and ends.
 #![tactic(auto)]
 
 mod call_list;

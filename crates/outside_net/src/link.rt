@@ -5,7 +5,8 @@ ghost use Rattle.std.specs.declared.option.Option.{Option};
 ghost use Rattle.outside_io.specs.Causes.{RoseWhere, HasCause};
 ghost use Rattle.outside_io.specs.declared.channel.Channel.{Channel};
 ghost use Rattle.outside_net.specs.Streams.{later, IsFirst};
-ghost use Rattle.outside_net.specs.Links.{Answer, Datagram, answer_of, IsWithin, IsOver, KnowsAfter, has_read_failed, has_come_to_end, taken_with};
+ghost use Rattle.outside_net.specs.Links.{Answer, Datagram, answer_of, IsWithin, IsOver, KnowsAfter, has_read_failed};
+ghost use Rattle.outside_net.specs.Links.{has_come_to_end, taken_with};
 
 use outside_io::{Channel, Failed};
 

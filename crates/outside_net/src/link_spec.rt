@@ -14,4 +14,6 @@ pub enum Role {
     Receives,
     /// It sends to the address.
     Sends,
+    /// It sends to the address, and a read of it never waits for a datagram: others wait for who reads it.
+    Forwards,
 }

@@ -41,7 +41,7 @@ impl Port {
         let any = SocketAddr::V4(SocketAddrV4::new(Ipv4Addr::new(0, 0, 0, 0), 0));
         let (own, peer) = match role {
             Role::Receives => (stated, Peer::Unknown),
-            Role::Sends => (any, Peer::Stated(stated)),
+            Role::Sends | Role::Forwards => (any, Peer::Stated(stated)),
         };
         match quick_socket(rt, own) {
             Ok(socket) => Ok(Port { socket, peer }),
@@ -53,8 +53,8 @@ impl Port {
         self.socket.as_raw_fd()
     }
 
-    /// The next datagram, if one is there: its sender is the peer, unless one was stated. One of more than 2,048 octets is
-    /// dropped, which answers Quiet, and its sender isn't.
+    /// The next datagram, if one is there: its sender is the peer, unless one was stated. One of more than 2,048 octets
+    /// is dropped, which answers Quiet, and its sender isn't.
     pub fn look(&mut self, channel: Channel, buf: &mut [u8; 2048]) -> Option<Got>
         ensures within { IfSome result IsWithin }
         ensures going { IfSome result (λ got. has_come_to_end got ≡ false) }
@@ -119,8 +119,8 @@ fn quick_socket<R: Net>(rt: &R, own: SocketAddr) -> io::Result<UdpSocket> {
     Ok(socket)
 }
 
-/// Nothing is there, the system has no room, a call was interrupted, or a peer's machine refuses: none of these is a fault
-/// of the link.
+/// Nothing is there, the system has no room, a call was interrupted, or a peer's machine refuses: none of these is a
+/// fault of the link.
 fn is_no_fault(kind: ErrorKind) -> bool {
     matches!(
         kind,

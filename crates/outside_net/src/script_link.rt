@@ -71,7 +71,8 @@ impl Model for ScriptLink {
       ends = l.ends;
     } };
 
-    ghost invariant = { λ l. (l.at ≤ length l.script.items) × (l.room ≤ vec_capacity l.taken) × (length l.taken.items ≤ l.room) × All FitsDatagram l.script.items };
+    ghost invariant = { λ l. (l.at ≤ length l.script.items) × (l.room ≤ vec_capacity l.taken)
+        × (length l.taken.items ≤ l.room) × All FitsDatagram l.script.items };
 }
 
 impl ScriptLink {
@@ -80,8 +81,8 @@ impl ScriptLink {
     ghost use Rattle.outside_io.specs.declared.channel.Channel.{Channel as ChannelValue};
     ghost use Rattle.outside_net.specs.Scripts.{ScriptState, FitsDatagram, knows_in, IsNewLink};
 
-    /// A link of this script, whose datagrams have at most 2,048 octets each. `peer` says whether every channel's peer is
-    /// known at the start. It has room for so many datagrams, which it takes when it is made. The reads and writes
+    /// A link of this script, whose datagrams have at most 2,048 octets each. `peer` says whether every channel's peer
+    /// is known at the start. It has room for so many datagrams, which it takes when it is made. The reads and writes
     /// that are to fail are listed by their places, from 0.
     pub fn with(
         alloc: Global,

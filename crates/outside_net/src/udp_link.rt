@@ -13,11 +13,12 @@ use std::net::Net;
 /// How long a read waits for a datagram where none is there, in milliseconds.
 const WAIT_MS: i32 = 1;
 
-/// A link over UDP: in the Simple Profile a socket for media and one for control, in the Main Profile one for the tunnel.
+/// A link over UDP: in the Simple Profile a socket for media and one for control, in the Main Profile one for the
+/// tunnel.
 ///
-/// A receiving link is bound to its address, and answers on each channel to the last sender on it. A sending link sends to its
-/// address. A read looks at the socket first that gave a datagram least recently; where no socket has one it waits for 1 ms,
-/// unless a datagram was written since the last read.
+/// A receiving link is bound to its address, and answers on each channel to the last sender on it. A sending link sends
+/// to its address. A read looks at the socket first that gave a datagram least recently; where no socket has one it
+/// waits for 1 ms, unless the link forwards, or a datagram was written since the last read.
 #[derive(Drop)]
 pub struct UdpLink {
     media: Option<Port>,
@@ -25,6 +26,7 @@ pub struct UdpLink {
     tunnel: Option<Port>,
     next: Channel,
     waits: bool,
+    is_patient: bool,
     faults: u64,
     ends: u64,
 }
@@ -46,6 +48,7 @@ impl UdpLink {
         ensures peers { IfOk result (λ link. (c : ChannelValue) → knows_in_link link c ≡ stated_in role profile c) }
         ensures fresh { IfOk result IsUnused }
     {
+        let is_patient = role != Role::Forwards;
         match profile {
             Profile::Simple => {
                 let Some(control) = spec.port.checked_add(1) else {
@@ -58,7 +61,8 @@ impl UdpLink {
                     control: Some(control),
                     tunnel: None,
                     next: Channel::Media,
-                    waits: true,
+                    waits: is_patient,
+                    is_patient,
                     faults: 0,
                     ends: 0,
                 })
@@ -70,7 +74,8 @@ impl UdpLink {
                     control: None,
                     tunnel: Some(tunnel),
                     next: Channel::Tunnel,
-                    waits: true,
+                    waits: is_patient,
+                    is_patient,
                     faults: 0,
                     ends: 0,
                 })
@@ -114,7 +119,8 @@ impl UdpLink {
         self.look_at(second, buf)
     }
 
-    /// Looks at the sockets, and once more after a wait, unless a datagram was written since the last read.
+    /// Looks at the sockets, and once more after a wait, unless the link forwards or a datagram was written since the
+    /// last read.
     fn look_or_wait(&mut self, buf: &mut [u8; 2048]) -> Option<Got>
         ensures within { IfSome result IsWithin }
         ensures going { IfSome result (λ got. has_come_to_end got ≡ false) }
@@ -123,7 +129,7 @@ impl UdpLink {
         ensures ends { self.new.ends ≡ self.old.ends }
     {
         let waits = self.waits;
-        self.waits = true;
+        self.waits = self.is_patient;
         if let Some(got) = self.look_at_all(buf) {
             return Some(got);
         }

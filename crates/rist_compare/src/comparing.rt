@@ -1,5 +1,6 @@
 //! The desk's steps against the workers' own, in one pass a link.
-ghost use Rattle.std.specs.Prelude.{◌≡◌, ◌≤◌, ◌+◌, ◌++◌, ◌∷◌, [], ◌↔◌, ℕ, length, map, take, slice_get, IsTrue, IfNone, IfSome, IfOk, IfErr, Some, None};
+ghost use Rattle.std.specs.Prelude.{◌≡◌, ◌≤◌, ◌+◌, ◌++◌, ◌∷◌, [], ◌↔◌, ℕ, length, map, take, slice_get, IsTrue, IfNone};
+ghost use Rattle.std.specs.Prelude.{IfSome, IfOk, IfErr, Some, None};
 ghost use Rattle.rist_compare.specs.declared.tear.Tear.{Tear};
 ghost use Rattle.rist_compare.specs.Tears.{of, own_of, IsTear, Agree, IsFirstTear};
 ghost use Rattle.rist_compare.specs.Inside.Passing.{DiffersAt};

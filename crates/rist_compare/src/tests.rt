@@ -17,8 +17,8 @@ impl OwnSteps for Own {
     }
 }
 
-/// Keepalives of link 0 are a, b, c; of link 1 p, q. A write failed in B and in P. e is an end, x and y are of links that have
-/// no worker.
+/// Keepalives of link 0 are a, b, c; of link 1 p, q. A write failed in B and in P. e is an end, x and y are of links
+/// that have no worker.
 fn step_of(letter: u8) -> Step {
     let (link, at) = match letter {
         b'a' => (0, 1),

@@ -10,7 +10,8 @@ ghost use Rattle.rist_ends.specs.Receiver.{settings_of};
 ghost use Rattle.rist_desk.specs.declared.step.Step.{Step};
 ghost use Rattle.rist_desk.specs.Aside.{HandsOn};
 ghost use Rattle.rist_desk.specs.Made.{IsNoEnd, end_told, step_after, steps_with};
-ghost use Rattle.rist_desk.specs.Desk.{IsNew, IsDesk, StandsFor, MakesDue, IsDueAfter, is_write_fault, is_cut_off, state_of};
+ghost use Rattle.rist_desk.specs.Desk.{IsNew, IsDesk, StandsFor, MakesDue, IsDueAfter, is_write_fault, is_cut_off};
+ghost use Rattle.rist_desk.specs.Desk.{state_of};
 
 use crate::beside::{Beside, Side};
 use crate::name::Name;
@@ -21,8 +22,8 @@ use outside_net::{Full, Trace};
 use rist_ends::{Answer, Outs, Receiver, Told, What};
 use std::marker::{Model, PhantomData};
 
-/// A receiver, the trace that keeps its steps, and the sink that it writes to. It is shared behind a lock. A contract sees the
-/// receiver, the steps that the trace tells, and what the sink tells.
+/// A receiver, the trace that keeps its steps, and the sink that it writes to. It is shared behind a lock. A contract
+/// sees the receiver, the steps that the trace tells, and what the sink tells.
 #[derive(Drop)]
 pub struct Desk<N: Name, T: StepTrace + Drop, K: Sink + Drop> {
     receiver: Receiver,
@@ -58,8 +59,8 @@ impl<N: Name, T: StepTrace + Drop, K: Sink + Drop> Desk<N, T, K> {
         }
     }
 
-    /// Makes one step, and keeps it with what it came to; the datagrams that it makes stand in `outs`. It is Full, and nothing
-    /// changes, exactly where the trace is at its limit. The end is told by `finish` alone.
+    /// Makes one step, and keeps it with what it came to; the datagrams that it makes stand in `outs`. It is Full, and
+    /// nothing changes, exactly where the trace is at its limit. The end is told by `finish` alone.
     pub fn step(&mut self, told: &Told<'_>, outs: &mut Outs) -> Result<Answer, Full>
         requires fits { IsFit told.now }
         requires going { IsNoEnd told.now.what }
@@ -114,8 +115,8 @@ impl<N: Name, T: StepTrace + Drop, K: Sink + Drop> Desk<N, T, K> {
         (receiver, trace, sink)
     }
 
-    /// Tells the end, which makes no datagrams, and gives its parts back. It is Full, and the end isn't told, exactly where the
-    /// trace is at its limit.
+    /// Tells the end, which makes no datagrams, and gives its parts back. It is Full, and the end isn't told, exactly
+    /// where the trace is at its limit.
     pub fn finish(self, outs: &mut Outs) -> (Result<Answer, Full>, Receiver, T, K)
         ensures full { has_failed result.0 ≡ is_full self.limit self.kept }
         ensures same { OnErr result.0 (self
@@ -153,8 +154,8 @@ impl<N: Name, T: StepTrace + Drop, K: Sink + Drop> Desk<N, T, K> {
 }
 
 impl<N: Name, T: StepTrace + Drop, K: Beside + Drop> Desk<N, T, K> {
-    /// Hands an aside on to the sink: one read of its link at a place, at a moment in microseconds, and what is due there. It is no
-    /// step: the receiver, the steps that the trace tells, and what the sink tells stay as they are.
+    /// Hands an aside on to the sink: one read of its link at a place, at a moment in microseconds, and what is due
+    /// there. It is no step: the receiver, the steps that the trace tells, and what the sink tells stay as they are.
     pub fn aside(&mut self, us: u64, link: u8) -> Side
         ensures same { self.new ≡ self.old }
         ensures looks { HandsOn K.contents K.faults K.looks self.old us link result }

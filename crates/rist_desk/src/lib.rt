@@ -1,5 +1,5 @@
-//! A receiver that several threads share, and the workers that step it, one for each link. A contract sees the list of the
-//! steps that were made on it, where its trace tells them, and each worker's own list.
+//! A receiver that several threads share, and the workers that step it, one for each link. A contract sees the list of
+//! the steps that were made on it, where its trace tells them, and each worker's own list.
 #![tactic(auto)]
 
 mod beside;

@@ -39,7 +39,8 @@ fn all_turns<
     requires turns { (0 < limits.now.turns) × (limits.now.turns ≤ 2 ^ 40) }
     ensures served { (f : Feed) → IsFeed f worker.old.opener place limits.now (C.moments worker.old.clock)
         (L.reads worker.old.link)
-        → IsServed (Some N.given) f (L.knows worker.old.link) result (C.moments worker.new.clock) (L.reads worker.new.link)
+        → IsServed (Some N.given) f (L.knows worker.old.link) result (C.moments worker.new.clock)
+        (L.reads worker.new.link)
         (holds (U.list worker.old.trace) (L.taken worker.old.link))
         (holds (U.list worker.new.trace) (L.taken worker.new.link)) }
     ensures session { worker.new.opener ≡ worker.old.opener }
@@ -134,7 +135,8 @@ pub fn serve<
     ensures served { (i : ℕ) (d : _) → i < length workers.old → Serves C.moments
         (record { reads = L.reads; taken = L.taken; knows = L.knows; ends = L.ends; faults = L.faults })
         U.list limits.now i (slice_index_or workers.old i d) (slice_index_or workers.new i d) }
-    // What it wrote is what its steps made by the rules, where the desk tells its steps; and why a trace was full is told.
+    // What it wrote is what its steps made by the rules, where the desk tells its steps; and why a trace was full is
+    // told.
     ensures on { (i : ℕ) (d : _) → i < length workers.old → ServesOn N.given C.moments
         (record { reads = L.reads; taken = L.taken; knows = L.knows; ends = L.ends; faults = L.faults })
         (record { list = U.list; limit = U.limit }) limits.now i

@@ -55,7 +55,8 @@ pub enum Mark {
     WriteFault,
 }
 
-/// A step of a receiver on one of its links, what it came to, how many datagrams it made, and the request words in them.
+/// A step of a receiver on one of its links, what it came to, how many datagrams it made, and the request words in
+/// them.
 #[derive(Drop, PartialEq, Eq)]
 pub struct Step {
     pub link: u8,

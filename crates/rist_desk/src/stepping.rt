@@ -43,8 +43,8 @@ fn send<L: Link>(link: &mut L, outs: &Outs) -> Result<(), Failed>
     }
 }
 
-/// Makes a step on the desk, keeps it in the worker's own trace, and writes what it made to the link. Where the trace is full it
-/// makes none.
+/// Makes a step on the desk, keeps it in the worker's own trace, and writes what it made to the link. Where the trace
+/// is full it makes none.
 fn make_step<N: Name, T: StepTrace + Drop, K: Sink + Drop, L: Link, U: StepTrace, R: Wait>(
     rt: &R,
     desk: &Mutex<Desk<N, T, K>>,

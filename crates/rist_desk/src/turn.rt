@@ -3,7 +3,8 @@ ghost use Rattle.std.specs.Prelude.{◌≡◌, ◌<◌, ◌+◌, ◌∷◌, [], 
 ghost use Rattle.outside_io.specs.declared.channel.Channel.{Channel};
 ghost use Rattle.outside_io.specs.Causes.{RoseWhere};
 ghost use Rattle.outside_net.specs.Links.{Gave, Quiet, answer_of};
-ghost use Rattle.rist_desk.specs.Turns.{Feed, is_tick_due, tick_steps, turn_steps, ticked_after, quiet_since, is_idle, end_by, IsServed};
+ghost use Rattle.rist_desk.specs.Turns.{Feed, is_tick_due, tick_steps, turn_steps, ticked_after, quiet_since, is_idle};
+ghost use Rattle.rist_desk.specs.Turns.{end_by, IsServed};
 ghost use Rattle.rist_desk.specs.Sending.{Holds, holds, Goes, TurnEnds, LacksRoom};
 ghost use Rattle.rist_desk.specs.Inside.Links.{IsKept};
 ghost use Rattle.rist_desk.specs.Inside.Going.{IsTask, IsGoing, is_link_end, is_link_failure};
@@ -135,18 +136,22 @@ pub fn turn<N: Name, T: StepTrace + Drop, K: Sink + Drop, L: Link, C: Clock, U: 
     requires place { place < 16 }
     ensures going { IfNone result ((f : Feed) (n : ℕ) (knows : Channel → Bool) (first : Holds)
         → IsTask f worker.old.opener place limits.now → last ≡ nat_le f.turns (n + 1)
-        → IsGoing (Some N.given) f n knows (L.knows worker.old.link) (C.moments worker.old.clock) (L.reads worker.old.link)
+        → IsGoing (Some N.given) f n knows (L.knows worker.old.link) (C.moments worker.old.clock)
+        (L.reads worker.old.link)
         first (holds (U.list worker.old.trace) (L.taken worker.old.link)) ticked.old since.old
-        → IsGoing (Some N.given) f (n + 1) knows (L.knows worker.new.link) (C.moments worker.new.clock) (L.reads worker.new.link)
+        → IsGoing (Some N.given) f (n + 1) knows (L.knows worker.new.link) (C.moments worker.new.clock)
+        (L.reads worker.new.link)
         first (holds (U.list worker.new.trace) (L.taken worker.new.link)) ticked.new since.new) }
     ensures ended { IfSome result (λ end. (f : Feed) (n : ℕ) (knows : Channel → Bool) (first : Holds)
         → IsTask f worker.old.opener place limits.now → last ≡ nat_le f.turns (n + 1)
-        → IsGoing (Some N.given) f n knows (L.knows worker.old.link) (C.moments worker.old.clock) (L.reads worker.old.link)
+        → IsGoing (Some N.given) f n knows (L.knows worker.old.link) (C.moments worker.old.clock)
+        (L.reads worker.old.link)
         first (holds (U.list worker.old.trace) (L.taken worker.old.link)) ticked.old since.old
         → IsServed (Some N.given) f knows end (C.moments worker.new.clock) (L.reads worker.new.link)
         first (holds (U.list worker.new.trace) (L.taken worker.new.link))) }
     ensures more { IfNone result (last ≡ false) }
-    ensures full { result ≡ Some Ended.TraceFull → LacksRoom N.given (U.limit worker.new.trace) (U.list worker.new.trace) }
+    ensures full { result ≡ Some Ended.TraceFull
+        → LacksRoom N.given (U.limit worker.new.trace) (U.list worker.new.trace) }
     ensures session { worker.new.opener ≡ worker.old.opener }
     ensures same { worker.new.end ≡ worker.old.end }
     ensures ends { RoseWhere (is_link_end result) (L.ends worker.old.link) (L.ends worker.new.link) }

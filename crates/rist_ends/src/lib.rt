@@ -1,5 +1,5 @@
-//! The receiving end of a flow, as pure steps. A receiver is told the items of datagrams, ticks of its clock and the end,
-//! each on a link and at a moment, and writes what is played out. A contract sees the history of its steps.
+//! The receiving end of a flow, as pure steps. A receiver is told the items of datagrams, ticks of its clock and the
+//! end, each on a link and at a moment, and writes what is played out. A contract sees the history of its steps.
 #![tactic(auto)]
 
 mod counts;

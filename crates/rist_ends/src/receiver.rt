@@ -12,9 +12,9 @@ use rist_wire::Session;
 use std::alloc::Global;
 use std::marker::Model;
 
-/// The receiving end. `step` brings input, and its outcome is the answer; what is played out goes to the sink. `step_into`
-/// does the same where the caller has memory for the datagrams that are made. `counts` tells what came so far. Each step's
-/// moment counts as at least that of the steps before it.
+/// The receiving end. `step` brings input, and its outcome is the answer; what is played out goes to the sink.
+/// `step_into` does the same where the caller has memory for the datagrams that are made. `counts` tells what came so
+/// far. Each step's moment counts as at least that of the steps before it.
 #[derive(Drop)]
 pub struct Receiver {
     buffer: Buffer,

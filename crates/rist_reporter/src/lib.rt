@@ -1,5 +1,6 @@
-//! What a receiver sends back: reports, requests for retransmission, answers to RTT requests and keepalives, each as a datagram
-//! of its session. A contract sees the history of the receiver's steps, and of each step the datagrams that it makes.
+//! What a receiver sends back: reports, requests for retransmission, answers to RTT requests and keepalives, each as a
+//! datagram of its session. A contract sees the history of the receiver's steps, and of each step the datagrams that it
+//! makes.
 #![tactic(auto)]
 
 mod links;

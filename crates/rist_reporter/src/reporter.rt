@@ -23,8 +23,8 @@ fn width_after(is_kept: bool, width: Width, before: Width) -> Width
     if is_kept { width } else { before }
 }
 
-/// What a receiver sends back. `tick` and `answer` make the datagrams of a tick of its clock and of a compound that came, and
-/// `received` tells it of each media packet. Only `with` takes memory.
+/// What a receiver sends back. `tick` and `answer` make the datagrams of a tick of its clock and of a compound that
+/// came, and `received` tells it of each media packet. Only `with` takes memory.
 #[derive(Drop)]
 pub struct Reporter {
     own: u32,
@@ -67,13 +67,15 @@ impl Reporter {
     ghost use Rattle.nack_timer.specs.State.{policy_of, IsInRange};
     ghost use Rattle.rist_control.specs.Control.{answer_datagrams};
     ghost use Rattle.rist_reporter.specs.Reporter.{IsReporterAfter, IsPaired};
-    ghost use Rattle.rist_reporter.specs.OneMore.{AnswersTick, StandsAfterTick, AnswersControl, StandsAfterControl, StandsAfterMedia, IsMade, TakesPairs, answer_count, made_count, is_short};
+    ghost use Rattle.rist_reporter.specs.OneMore.{AnswersTick, StandsAfterTick, AnswersControl, StandsAfterControl};
+    ghost use Rattle.rist_reporter.specs.OneMore.{StandsAfterMedia, IsMade, TakesPairs, answer_count, made_count};
+    ghost use Rattle.rist_reporter.specs.OneMore.{is_short};
     ghost use Rattle.rist_reporter.specs.Inside.Due.{IsNoLowerNumber, LacksAt, HasCompoundAt, due_of};
     ghost use Rattle.rist_reporter.specs.Inside.Changes.{IsSetAs, links_sampled};
     ghost use Rattle.receiver_rules.specs.declared.bounds.TheConstants.{MAX_SPAN};
 
-    /// A reporter for a buffer with this span, 1 to 16,384, to which nothing was told yet. It is silent where it is muted, and
-    /// needs no sealer then.
+    /// A reporter for a buffer with this span, 1 to 16,384, to which nothing was told yet. It is silent where it is
+    /// muted, and needs no sealer then.
     pub fn with(
         alloc: Global,
         span: u64,
@@ -114,7 +116,8 @@ impl Reporter {
         self.shutter.left()
     }
 
-    /// A media packet came at a time, and was kept or not; before it and after it these are the highest numbers that were kept.
+    /// A media packet came at a time, and was kept or not; before it and after it these are the highest numbers that
+    /// were kept.
     pub fn received(
         &mut self,
         at: u64,
@@ -141,8 +144,9 @@ impl Reporter {
         }
     }
 
-    /// A tick of a link's clock at a time, to which the buffer has come, and at a moment in microseconds: what is due then is
-    /// made. `Spent` exactly where fewer pairs are left than that takes; then nothing is made, and nothing has changed.
+    /// A tick of a link's clock at a time, to which the buffer has come, and at a moment in microseconds: what is due
+    /// then is made. `Spent` exactly where fewer pairs are left than that takes; then nothing is made, and nothing has
+    /// changed.
     pub fn tick(
         &mut self,
         at: u64,
@@ -175,8 +179,8 @@ impl Reporter {
         make_tick(&mut self.shutter, &due, asked)
     }
 
-    /// A compound came on a link at a moment in microseconds. The first response that it has gives a sample of the round-trip
-    /// time, and its first RTT request is answered. `Spent` as at a tick.
+    /// A compound came on a link at a moment in microseconds. The first response that it has gives a sample of the
+    /// round-trip time, and its first RTT request is answered. `Spent` as at a tick.
     pub fn answer(
         &mut self,
         link: u8,

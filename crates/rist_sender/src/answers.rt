@@ -14,7 +14,8 @@ use rtcp_compound::Compound;
 use sender_rules::MAX_SENT_AGAIN;
 
 impl Sender {
-    ghost use Rattle.std.specs.Prelude.{◌≡◌, ◌≤◌, ◌<◌, length, map, slice_index_or, is_err, List, ◌∷◌, IsSome, IfSome, Some, false};
+    ghost use Rattle.std.specs.Prelude.{◌≡◌, ◌≤◌, ◌<◌, length, map, slice_index_or, is_err, List, ◌∷◌, IsSome, IfSome};
+    ghost use Rattle.std.specs.Prelude.{Some, false};
     ghost use Rattle.sender_rules.specs.declared.bounds.TheConstants.{MAX_LINKS};
     ghost use Rattle.rist_sender.specs.Sender.{IsSenderAfter, StaysSet, Does, rules_of};
     ghost use Rattle.rist_sender.specs.Calls.{Work, status_at, on_link, rtt_answer, packets_again, FeedsBack};

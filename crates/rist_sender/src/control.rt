@@ -3,7 +3,8 @@
 ghost use Rattle.std.specs.Prelude.{◌≡◌, ◌<◌, ◌%◌, ◌^◌, length, option_map};
 ghost use Rattle.std.specs.List.{find};
 ghost use Rattle.rist_rtt.specs.Echo.{echo_seen};
-ghost use Rattle.rist_sender.specs.Messages.{Status, report_packets, report_octets, answer_packets, answer_octets, first_request, seconds_of, fraction_of, rtp_time_of};
+ghost use Rattle.rist_sender.specs.Messages.{Status, report_packets, report_octets, answer_packets, answer_octets};
+ghost use Rattle.rist_sender.specs.Messages.{first_request, seconds_of, fraction_of, rtp_time_of};
 
 use receiver_rules::tick_of;
 use rist_rtt::{Echo, echoes, put_answer};

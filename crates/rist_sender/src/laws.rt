@@ -1,5 +1,6 @@
 //! What the definitions of a sender's datagrams mean at the other end.
-ghost use Rattle.std.specs.Prelude.{◌≡◌, ◌%◌, ◌^◌, ◌<◌, ◌≤◌, ℕ, Bool, true, false, List, All, Option, Ok, is_some, length, if◌then◌else◌};
+ghost use Rattle.std.specs.Prelude.{◌≡◌, ◌%◌, ◌^◌, ◌<◌, ◌≤◌, ℕ, Bool, true, false, List, All, Option, Ok, is_some};
+ghost use Rattle.std.specs.Prelude.{length, if◌then◌else◌};
 ghost use Rattle.ts_nulls.specs.Nulls.{blanking_of};
 ghost use Rattle.seq_unwrap.specs.declared.width.Width.{Width};
 ghost use Rattle.psk_seal.specs.declared.sealer.Pair.{Pair};

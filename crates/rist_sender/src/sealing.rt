@@ -10,7 +10,8 @@ use psk_seal::Spent;
 use retransmit_store::Sent;
 
 impl Sender {
-    ghost use Rattle.std.specs.Prelude.{◌≡◌, ◌≤◌, ◌<◌, length, is_err, take, IsSome, Some, true, false, IfOk, OnOk, OnErr};
+    ghost use Rattle.std.specs.Prelude.{◌≡◌, ◌≤◌, ◌<◌, length, is_err, take, IsSome, Some, true, false, IfOk, OnOk};
+    ghost use Rattle.std.specs.Prelude.{OnErr};
     ghost use Rattle.rist_wire.specs.Writing.{next_pair, after_pair, is_spent};
     ghost use Rattle.rist_wire.specs.Datagrams.{IsDatagram};
     ghost use Rattle.rist_wire.specs.declared.item.Kind.TheVariants as kinds;
