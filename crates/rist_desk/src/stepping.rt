@@ -58,7 +58,8 @@ fn make_step<N: Name, T: StepTrace + Drop, K: Sink + Drop, L: Link, U: StepTrace
     ensures ok { OnOk result (Goes (Some N.given) (L.knows link.old) (holds (U.list own.old) (L.taken link.old))
         (holds (U.list own.new) (L.taken link.new))
         (told_plan told.now ∷ [])) }
-    ensures err { IfErr result (λ end. CutShort (Some N.given) (L.knows link.old) end (holds (U.list own.old) (L.taken link.old))
+    ensures err { IfErr result (λ end. CutShort (Some N.given) (L.knows link.old) end
+        (holds (U.list own.old) (L.taken link.old))
         (holds (U.list own.new) (L.taken link.new))
         (told_plan told.now ∷ [])) }
     ensures inside { IfErr result IsInside }
@@ -105,7 +106,8 @@ pub fn step_datagram<N: Name, T: StepTrace + Drop, K: Sink + Drop, L: Link, U: S
     requires place { place < 16 }
     ensures ok { OnOk result (Goes (Some N.given) (L.knows link.old) (holds (U.list own.old) (L.taken link.old))
         (holds (U.list own.new) (L.taken link.new)) (datagram_plan opener.old place us channel octets.old ∷ [])) }
-    ensures err { IfErr result (λ end. CutShort (Some N.given) (L.knows link.old) end (holds (U.list own.old) (L.taken link.old))
+    ensures err { IfErr result (λ end. CutShort (Some N.given) (L.knows link.old) end
+        (holds (U.list own.old) (L.taken link.old))
         (holds (U.list own.new) (L.taken link.new)) (datagram_plan opener.old place us channel octets.old ∷ [])) }
     ensures inside { IfErr result IsInside }
     ensures full { result ≡ Err Ended.TraceFull → LacksRoom N.given (U.limit own.new) (U.list own.new) }
@@ -137,7 +139,8 @@ pub fn step_tick<N: Name, T: StepTrace + Drop, K: Sink + Drop, L: Link, U: StepT
     requires place { place < 16 }
     ensures ok { OnOk result (Goes (Some N.given) (L.knows link.old) (holds (U.list own.old) (L.taken link.old))
         (holds (U.list own.new) (L.taken link.new)) (tick_steps place us (is_tick_due ticked.old us))) }
-    ensures err { IfErr result (λ end. CutShort (Some N.given) (L.knows link.old) end (holds (U.list own.old) (L.taken link.old))
+    ensures err { IfErr result (λ end. CutShort (Some N.given) (L.knows link.old) end
+        (holds (U.list own.old) (L.taken link.old))
         (holds (U.list own.new) (L.taken link.new)) (tick_steps place us (is_tick_due ticked.old us))) }
     ensures inside { IfErr result IsInside }
     ensures full { result ≡ Err Ended.TraceFull → LacksRoom N.given (U.limit own.new) (U.list own.new) }
