@@ -1,9 +1,9 @@
 //! What gateways are told to do, and what has to come of them.
 
 /// A command line; the letters of the packets that each link brings which is received on, and the moments of its clock;
-/// which writes fail of each link that is sent on; after how many packets those give a request for number 1, or none with 0; which draws of random words
-/// fail; the exit status; and of a link, by its place, the letters of the packets that it took, numbered from 0, and the
-/// letter of number 1 where it was sent again.
+/// which writes fail of each link that is sent on; after how many packets those give a request for number 1, or none
+/// with 0; which draws of random words fail; the exit status; and of a link, by its place, the letters of the packets
+/// that it took, numbered from 0, and the letter of number 1 where it was sent again.
 #[derive(Clone, Copy)]
 pub struct Row<'a> {
     pub line: &'a str,
@@ -54,7 +54,8 @@ const NO_LINE: Row<'static> = Row {
     ..SINGLE
 };
 
-/// Packets that are played out 2 s later, before their link ends, and a request for the second, which is answered; and two links that share three packets, one of them on both.
+/// Packets that are played out 2 s later, before their link ends, and a request for the second, which is answered; and
+/// two links that share three packets, one of them on both.
 pub const ENDS: &[Row<'static>] = &[
     Row {
         moments: &[0, 0, 0, 2_000_000],

@@ -76,8 +76,8 @@ fn links(alloc: Global, row: &Row<'_>) -> Result<Vec<Place<ScriptLink>>, Fail> {
     Ok(links)
 }
 
-/// A host with the links of the row, a clock for each that is received on, clocks that stand at 0 for the others and for
-/// the sender, and a source of random words.
+/// A host with the links of the row, a clock for each that is received on, clocks that stand at 0 for the others and
+/// for the sender, and a source of random words.
 fn host(alloc: Global, row: &Row<'_>) -> Result<WaitingHost, Fail> {
     let mut clocks = Vec::new(alloc);
     for _ in row.inputs {

@@ -108,7 +108,12 @@ impl Host for WaitingHost {
         self.host.entropy()
     }
 
-    fn link(&mut self, spec: &LinkSpec, role: Role, profile: Profile) -> Result<WaitingLink, HostBad> {
+    fn link(
+        &mut self,
+        spec: &LinkSpec,
+        role: Role,
+        profile: Profile,
+    ) -> Result<WaitingLink, HostBad> {
         let packets = match role {
             Role::Sends => self.packets,
             Role::Receives => 0,

@@ -44,8 +44,8 @@ fn open_next<H: Host>(
     }
 }
 
-// Opens links behind those that are out already, in this order, all of them or none: where one can't be opened, all are given
-// back.
+// Opens links behind those that are out already, in this order, all of them or none: where one can't be opened, all are
+// given back.
 fn open_all<H: Host>(
     host: &mut H,
     specs: &[LinkSpec],

@@ -7,6 +7,7 @@ use Rattle.outside_io.specs.Causes.{Rose}
 use Rattle.outside_host.specs.Shelf.{Shelf, ChangesLinks, ChangesOpening}
 use Rattle.outside_host.specs.declared.host.Place.{Place}
 use Rattle.outside_host.specs.declared.host.Place.TheVariants.{Here, Back}
+use Rattle.host_links.specs.Opening.{AreAsTheyWere}
 use Rattle.psk_seal.specs.Sealer.{SealerState}
 use Rattle.rist_wire.specs.declared.session.Session.{Session}
 use Rattle.rist_sender.specs.Links.{Line}
@@ -28,7 +29,7 @@ use Rattle.rist_words.specs.CommandLine.{GateCommand}
 use Rattle.rist_top.specs.Causes.{CanRefuse}
 use Rattle.rist_top.specs.Complete.{CompletesGating, IsGateWhole, StaysUp, StaysUpBehind}
 use Rattle.rist_top.specs.Frame.{KeepsAroundGate, KeepsLinksBut, KeepsWords}
-use Rattle.rist_top.specs.Gated.{Gated, GatedByClocks, GatesAs, gate_status}
+use Rattle.rist_top.specs.Gated.{Gated, GatedByClocks, GatesAs, Ungated, gate_status}
 use Rattle.rist_top.specs.Inside.Answers.{KeepsButTiming}
 use Rattle.rist_top.specs.Objects.{Tells}
 use Rattle.rist_top.specs.Places.{CameBack}
@@ -44,11 +45,18 @@ use Rattle.rist_top.proofs.WholeLemmas.{is_refused}
 
 -- ---- a run
 
+-- what is made for a receiving end and a sender with these settings
+abbrev pub made_setup : ReceiveSetup → SenderSettings → Session → Option SealerState → GateSetup
+made_setup receiving settings session sealer = record { receiving = receiving; rules = rules_with settings session; session = session; sealer = sealer }
+
 -- a run is set to what a line says
 pub same_gate_setup : (c : GateCommand) (receiving : ReceiveSetup) (settings : SenderSettings) (session : Session) (first second : Option SealerState)
     → receiving ≡ setup_made (settings_with c.receiver) (session_read c.session) first (steps_kept c.serving) → settings ≡ sender_gated c → session ≡ session_gated c
-    → (record { receiving = receiving; rules = rules_with settings session; session = session; sealer = second } : GateSetup) ≡ setup_gated c first second
-same_gate_setup c receiving settings session first second a b d = rw (a, b, d) refl
+    → made_setup receiving settings session second ≡ setup_gated c first second
+same_gate_setup c receiving settings session first second a b d =
+    ap (λ x. made_setup x settings session second) a
+    ∙ (ap (λ x. made_setup (setup_made (settings_with c.receiver) (session_read c.session) first (steps_kept c.serving)) x session second) b
+    ∙ ap (λ x. made_setup (setup_made (settings_with c.receiver) (session_read c.session) first (steps_kept c.serving)) (sender_gated c) x second) d)
 
 -- a receiving end is set to what a line says
 pub same_receiving_end : (settings settings' : ReceiverSettings) (session session' : Session) (sealer : Option SealerState) (keep keep' : Option ℕ) → settings ≡ settings' → session ≡ session' → keep ≡ keep'
@@ -109,6 +117,29 @@ around_unopened old new c e links = record {
   clocks = record { others = λ place least. inl (ap (λ s. s.clocks place) e); first = λ place. inl (ap (λ s. s.clocks place) e) };
   words = record { others = λ place other. ap (λ s. s.entropies place) e; first = inl (ap (λ s. s.entropies 0) e); undrawn = λ none. ap (λ s. s.entropies 0) e };
 }
+
+-- words that failed, over shelves that are the same but for links
+pub failed_between : {I O E L C : Type 0} (tells : Tells I O E) (old mid later new : Shelf I O E L C) → ChangesOpening old mid → ChangesLinks later new → FailedAt tells mid later → FailedAt tells old new
+failed_between tells old mid later new e f s = record {
+  words = s.words;
+  drawn = s.drawn;
+  took = sym (ap (λ x. x.entropies 0) e) ∙ s.took;
+  gave = ap (λ x. x.entropies 0) f ∙ s.gave;
+  rose = s.rose;
+}
+
+-- nothing was begun on links that came back as they were
+pub ungated_between : {I O E L C : Type 0} (old mid later new : Shelf I O E L C) → ChangesOpening old mid → ChangesLinks later new → AreAsTheyWere old.links new.links
+    → AreAsTheyWere mid.clocks later.clocks → later.report ≡ mid.report → Ungated old new
+ungated_between old mid later new e f links clocks report = record {
+  links = links;
+  clocks = subst (λ x. AreAsTheyWere x new.clocks) (ap (λ s. s.clocks) e) (subst (λ x. AreAsTheyWere mid.clocks x) (sym (ap (λ s. s.clocks) f)) clocks);
+  report = ap (λ s. s.report) f ∙ (report ∙ ap (λ s. s.report) e);
+}
+
+-- nor where they could not be opened
+pub ungated_unopened : {I O E L C : Type 0} (old new : Shelf I O E L C) → ChangesOpening old new → AreAsTheyWere old.links new.links → Ungated old new
+ungated_unopened old new e links = record { links = links; clocks = λ place. inl (ap (λ s. s.clocks place) e); report = ap (λ s. s.report) e }
 
 -- ---- the end
 

@@ -121,7 +121,8 @@ fn gate_with<
     requires count { length links.old.items ≡ length line.now.inputs.items + length line.now.outputs.items }
     requires clocks { length clocks.old.items ≡ length line.now.inputs.items + length line.now.outputs.items + 1 }
     ensures work { IfOk result (λ ended. GatesAs
-        (live_of (record { taken = L.taken; knows = L.knows; faults = L.faults; reads = L.reads; ends = L.ends }) C.moments)
+        (live_of (record { taken = L.taken; knows = L.knows; faults = L.faults; reads = L.reads; ends = L.ends })
+        C.moments)
         (shown_gate line.now) sealers.receiving sealers.sending links.old.items links.new.items
         clocks.old.items clocks.new.items ended.1 ended.0) }
     ensures memory { OnErr result ((links.new ≡ links.old) × (clocks.new ≡ clocks.old)) }
@@ -165,7 +166,8 @@ fn gate_kept<L: Link + Drop + Send, C: Clock + Drop + Send, R: Threads + Wait + 
     requires count { length links.old.items ≡ length line.now.inputs.items + length line.now.outputs.items }
     requires clocks { length clocks.old.items ≡ length line.now.inputs.items + length line.now.outputs.items + 1 }
     ensures work { IfOk result (λ ended. GatesAs
-        (live_of (record { taken = L.taken; knows = L.knows; faults = L.faults; reads = L.reads; ends = L.ends }) C.moments)
+        (live_of (record { taken = L.taken; knows = L.knows; faults = L.faults; reads = L.reads; ends = L.ends })
+        C.moments)
         (shown_gate line.now) sealers.receiving sealers.sending links.old.items links.new.items
         clocks.old.items clocks.new.items ended.1 ended.0) }
     ensures memory { OnErr result ((links.new ≡ links.old) × (clocks.new ≡ clocks.old)) }

@@ -63,7 +63,8 @@ pub struct Sealers {
 
 // Two sealers, the nonces of the second drawn behind those of the first.
 fn two_of<E: Entropy>(entropy: &mut E) -> Result<(Sealer, Sealer), EntropyFault>
-    ensures drawn { IfOk result (λ two. AreDrawnApart (E.remaining entropy.old) (E.remaining entropy.new) two.0.nonces two.1.nonces) }
+    ensures drawn { IfOk result (λ two. AreDrawnApart (E.remaining entropy.old) (E.remaining entropy.new)
+        two.0.nonces two.1.nonces) }
     ensures nonces { IfOk result (λ two. AreNonces two.0.nonces × AreNonces two.1.nonces) }
     ensures fresh { IfOk result (λ two. (two.0.given ≡ 0) × (two.1.given ≡ 0)) }
     ensures cause { HasCause (E.faults entropy.old) (E.faults entropy.new) result }
@@ -78,8 +79,8 @@ fn two_of<E: Entropy>(entropy: &mut E) -> Result<(Sealer, Sealer), EntropyFault>
     }
 }
 
-/// The sealers of a gateway whose session has a passphrase: their nonces are drawn from the host's first source of random words, the
-/// receiver's before the sender's.
+/// The sealers of a gateway whose session has a passphrase: their nonces are drawn from the host's first source of
+/// random words, the receiver's before the sender's.
 pub fn sealers_for<H: Host>(host: &mut H, session: &SessionWords<'_>) -> Result<Sealers, Status>
     ensures receiving { IfOk result (λ sealers. IsFreshFor (shown_session session.now) sealers.receiving) }
     ensures sending { IfOk result (λ sealers. IsFreshFor (shown_session session.now) sealers.sending) }
@@ -92,12 +93,12 @@ pub fn sealers_for<H: Host>(host: &mut H, session: &SessionWords<'_>) -> Result<
     ensures random { IsFresh H.tells (H.shelf host.old) → IsErrOf result statuses.EntropyFault
         → FailedAt ⟦<H as Telling>⟧.objects (H.shelf host.old) (H.shelf host.new) }
 {
-    if session.pass.is_none() {
+    let Some(_) = session.pass else {
         return Ok(Sealers {
             receiving: None,
             sending: None,
         });
-    }
+    };
     let mut words = match host.entropy() {
         Ok(words) => words,
         Err(bad) => return Err(Status::of_host(bad)),
