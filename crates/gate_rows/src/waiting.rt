@@ -115,8 +115,8 @@ impl Host for WaitingHost {
         profile: Profile,
     ) -> Result<WaitingLink, HostBad> {
         let packets = match role {
-            Role::Sends => self.packets,
-            Role::Receives => 0,
+            Role::Forwards => self.packets,
+            Role::Receives | Role::Sends => 0,
         };
         match self.host.link(spec, role, profile) {
             Ok(link) => Ok(WaitingLink { link, packets }),

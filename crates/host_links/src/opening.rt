@@ -1,7 +1,7 @@
 //! Links are opened in order, and given back.
 ghost use Rattle.std.specs.Prelude.{◌≡◌, ◌≤◌, ◌<◌, ◌++◌, ◌∷◌, ◌+◌, [], IsTrue, IfOk, OnOk, OnErr, length, map};
 ghost use Rattle.outside_host.specs.Shelf.{ChangesLinks, ChangesOpening, HasHostCause};
-ghost use Rattle.outside_net.specs.declared.link_spec.Role.TheVariants.{Receives, Sends};
+ghost use Rattle.outside_net.specs.declared.link_spec.Role.TheVariants.{Forwards, Receives};
 ghost use Rattle.host_links.specs.Opening.{AreAsTheyWere, AreBack, AreOut, HasOpenedNone};
 ghost use Rattle.host_links.specs.Inside.Steps.{ComeBack, GoOut, IsNextOut, StayFirst};
 
@@ -103,7 +103,8 @@ pub fn open_links<H: Host>(
     open_all(host, specs, role, profile, links)
 }
 
-/// Opens links that are received on, and behind them links that are sent on, in this order, all of them or none.
+/// Opens links that are received on, and behind them links that are sent on by a gateway, in this order, all of them or
+/// none.
 pub fn open_both<H: Host>(
     alloc: Global,
     host: &mut H,
@@ -117,7 +118,7 @@ pub fn open_both<H: Host>(
     ensures count { IfOk result (λ links. length links.items ≡ length inputs.now + length outputs.now) }
     ensures opened { HasOpenedNone H.tells (H.shelf host.old) → OnOk result ((H.shelf host.new).opened_links
         ≡ map (λ spec. record { spec = spec; role = Receives; profile = profile }) inputs.now
-        ++ map (λ spec. record { spec = spec; role = Sends; profile = profile }) outputs.now) }
+        ++ map (λ spec. record { spec = spec; role = Forwards; profile = profile }) outputs.now) }
     ensures err { HasOpenedNone H.tells (H.shelf host.old)
         → OnErr result (AreAsTheyWere (H.shelf host.old).links (H.shelf host.new).links) }
     ensures same { IsTrue H.tells → ChangesOpening (H.shelf host.old) (H.shelf host.new) }
@@ -128,7 +129,7 @@ pub fn open_both<H: Host>(
         Err(_) => return Err(HostBad::NoMemory),
     };
     match open_all(host, inputs, Role::Receives, profile, links) {
-        Ok(links) => open_all(host, outputs, Role::Sends, profile, links),
+        Ok(links) => open_all(host, outputs, Role::Forwards, profile, links),
         Err(bad) => Err(bad),
     }
 }

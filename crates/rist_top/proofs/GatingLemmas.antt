@@ -25,7 +25,10 @@ use Rattle.rist_gateway.specs.declared.ending.GateEnding.TheVariants as gates
 use Rattle.rist_gateway.specs.Onward.{HasRisen, LinkState, shown}
 use Rattle.rist_gateway.specs.Run.{EndsGate}
 use Rattle.rist_gateway.specs.Setup.{GateSetup, rules_with}
+use Rattle.std.specs.List.{All}
+use Rattle.sender_rules.specs.Bonding.{link_count}
 use Rattle.rist_words.specs.CommandLine.{GateCommand}
+use Rattle.rist_words.specs.Ranges.{IsWeight}
 use Rattle.rist_top.specs.Causes.{CanRefuse}
 use Rattle.rist_top.specs.Complete.{CompletesGating, IsGateWhole, StaysUp, StaysUpBehind}
 use Rattle.rist_top.specs.Frame.{KeepsAroundGate, KeepsLinksBut, KeepsWords}
@@ -36,7 +39,7 @@ use Rattle.rist_top.specs.Places.{CameBack}
 use Rattle.rist_top.specs.Received.{FromTheFirst}
 use Rattle.rist_top.specs.Sealing.{AreDrawn, FailedAt}
 use Rattle.rist_top.specs.Sent.{IsUnused, TellsLive}
-use Rattle.rist_top.specs.Sessions.{limits_served, sender_gated, session_gated, session_read, settings_with, setup_gated, steps_kept}
+use Rattle.rist_top.specs.Sessions.{bonding_with, limits_served, sender_gated, session_gated, session_read, settings_with, setup_gated, steps_kept}
 use Rattle.rist_top.specs.declared.status.Status.{Status}
 use Rattle.rist_top.specs.declared.status.Status.TheVariants as statuses
 use Rattle.rist_top.proofs.HeardLemmas.{at_place, failed_at}
@@ -62,6 +65,11 @@ same_gate_setup c receiving settings session first second a b d =
 pub same_receiving_end : (settings settings' : ReceiverSettings) (session session' : Session) (sealer : Option SealerState) (keep keep' : Option ℕ) → settings ≡ settings' → session ≡ session' → keep ≡ keep'
     → setup_made settings session sealer keep ≡ setup_made settings' session' sealer keep'
 same_receiving_end settings settings' session session' sealer keep keep' a b d = rw (a, b, d) refl
+
+-- the links that share are as many as there are
+pub as_many_links : (links : ℕ) (share : Option (List ℕ)) → IfSome share (λ weights. (length weights ≡ links) × All IsWeight weights) → link_count (bonding_with links share) ≡ links
+as_many_links links None range = refl
+as_many_links links (Some weights) range = range.0
 
 -- what a run left, under the names of its caller
 pub gates_same : {L C : Type 0} (live : TellsLive L C) (c : GateCommand) (receiving sending : Option SealerState) (links_were links links' : List L) (clocks_were clocks clocks' : List C) (status status' : Status)
@@ -214,7 +222,7 @@ received_down tells live old new c status r down stays =
     let failed =
     (subst (λ e. EndsAs e (given_to (setup_gated c s.receiving s.sending).receiving (Some []) 0) run.receives.desk run.receives.are s.counts) down run.receives.ends).1 in
     let f = failed_at live.moments live.line (setup_gated c s.receiving s.sending).receiving (limits_served c.serving) (take n r.links_were) (take n r.links_are) (take n s.clocks_were) (take n s.clocks_are)
-    (Some []) (Some run.last.sent) 0 run.last.faults s.counts run.ended run.receives failed stays.place few in
+    (Some []) _ 0 run.last.faults s.counts run.ended run.receives failed stays.place few in
     stays.up f.0 f.1 (r.links.took stays.place f.0 among ∙ ap Here (sym (get_or-take n r.links_were stays.place f.0 stays.among) ∙ f.2))
     (r.links.gave stays.place f.1 among ∙ ap Back (sym (get_or-take n r.links_are stays.place f.1 stays.among) ∙ f.3)) f.4
 

@@ -1,6 +1,6 @@
 -- What a run leaves as it stood.
 use Rattle.std.specs.Prelude.{◌≡◌, ◌≢◌, ◌≤◌, ◌+◌, ◌++◌, ℕ, List, length, map, Bool, false, is_some}
-use Rattle.outside_net.specs.declared.link_spec.Role.TheVariants.{Receives, Sends}
+use Rattle.outside_net.specs.declared.link_spec.Role.TheVariants.{Receives, Sends, Forwards}
 use Rattle.outside_host.specs.Shelf.{Shelf, ChangesSources, ChangesSinks}
 use Rattle.outside_host.specs.declared.host.Opened.{Opened}
 use Rattle.outside_host.specs.declared.host.Place.{Place}
@@ -103,4 +103,4 @@ pub record KeepsAroundGate {I O E L C : Type 0} (old new : Shelf I O E L C) (c :
 abbrev pub links_gated : GateCommand → List Opened
 links_gated c =
     map (λ spec. record { spec = spec; role = Receives; profile = c.session.profile }) c.inputs
-    ++ map (λ spec. record { spec = spec; role = Sends; profile = c.session.profile }) c.outputs
+    ++ map (λ spec. record { spec = spec; role = Forwards; profile = c.session.profile }) c.outputs
