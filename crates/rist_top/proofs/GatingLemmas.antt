@@ -1,5 +1,5 @@
 -- What a gateway leaves, part by part, and how it ends where nothing fails but links.
-use Rattle.std.proofs.Common.{◌≡◌, ◌∙◌, ◌⊎◌, ◌<◌, ◌≤◌, ◌+◌, ◌++◌, ℕ, List, length, map, take, drop, Option, None, Some, [], is_some, true, refl, sym, ap, subst, slice_get, slice_index_or, get_or, get_or-drop, get_or-take, length-drop, length-take-le, arith}
+use Rattle.std.proofs.Common.{◌≡◌, ◌∙◌, ◌⊎◌, ◌<◌, ◌≤◌, ◌+◌, ◌++◌, ℕ, List, length, map, take, drop, Option, None, Some, IfSome, [], is_some, true, refl, sym, ap, subst, slice_get, slice_index_or, get_or, get_or-drop, get_or-take, length-drop, length-take-le, arith}
 use Rattle.std.proofs.lemmas.List.{length-map, get_or-map}
 use Rattle.std.proofs.lemmas.Option.{get_or_from_slice_get}
 use mathlib.Core.Logic.{inl, inr}
@@ -263,3 +263,12 @@ gated_completes tells live old new c status opened words gated none stays behind
     by_refusal (inr ran) =
         let r = gated ran in
         ended_by tells live old new c status r r.gated.gates.ending refl r.gated.gates.answer stays behind
+
+-- the same line, under two names
+pub gated_same : {I O E L C : Type 0} (tells : Tells I O E) (live : TellsLive L C) (old new : Shelf I O E L C) (c d : GateCommand) (status : Status) → c ≡ d
+    → Gated tells live old new c status → Gated tells live old new d status
+gated_same tells live old new c d status same gated = subst (λ x. Gated tells live old new x status) same gated
+
+pub gating_same : {I O E L C : Type 0} (tells : Tells I O E) (line : Line L) (old new : Shelf I O E L C) (c d : GateCommand) (status : Status) → c ≡ d
+    → CompletesGating tells line old new c status → CompletesGating tells line old new d status
+gating_same tells line old new c d status same completes = subst (λ x. CompletesGating tells line old new x status) same completes

@@ -4,11 +4,9 @@ use Rattle.outside_io.specs.Causes.{HasOpenCause}
 use Rattle.rist_words.proofs.RangeLemmas.{line_range}
 use Rattle.rist_words.specs.CommandLine.{Gate, Recv}
 use Rattle.rist_top.specs.Causes.{fault_of}
-use Rattle.rist_top.specs.Complete.{CompletesGating}
 use Rattle.rist_top.specs.Frame.{KeepsAroundGate, links_gated}
-use Rattle.rist_top.specs.Gated.{Gated}
 use Rattle.rist_top.proofs.DoesLemmas.{does_no_gate, does_no_line, gate_is_none, gates_nothing, no_both, receiving_is_none, same_gate, same_receiving}
-use Rattle.rist_top.proofs.GatingLemmas.{gated_completes}
+use Rattle.rist_top.proofs.GatingLemmas.{gated_completes, gated_same, gating_same}
 use Rattle.rist_top.proofs.HeardLemmas.{completes_same, received_completes, received_same}
 use Rattle.rist_top.proofs.top.run.Goals as goal
 
@@ -46,14 +44,14 @@ returns-in-Gate-clause-gates g c =
     let new = g.H.Host.shelf c.gate_line.new.host in
     record {
       gated = λ unused ran k is.
-          subst (λ x. Gated _ _ old new x c.gate_line.result) (same_gate _ _ k (c.waiting_line.ensures.gate _ c.in-Gate.is) is) (c.gate_line.ensures.gated unused ran);
+          gated_same _ _ old new _ k c.gate_line.result (same_gate _ _ k (c.waiting_line.ensures.gate _ c.in-Gate.is) is) (c.gate_line.ensures.gated unused ran);
       ungated = λ unused refused k is. c.gate_line.ensures.ungated unused refused;
       around = λ unused k is. subst (KeepsAroundGate old new) (same_gate _ _ k (c.waiting_line.ensures.gate _ c.in-Gate.is) is) (c.gate_line.ensures.around unused);
       links_opened = λ unused ran k is.
           subst (λ x. new.opened_links ≡ links_gated x) (same_gate _ _ k (c.waiting_line.ensures.gate _ c.in-Gate.is) is) (c.gate_line.ensures.links_opened unused ran);
       random = λ unused failed k is. c.gate_line.ensures.random unused failed;
       complete = λ unused opened k is.
-          subst (λ x. CompletesGating _ _ old new x c.gate_line.result) (same_gate _ _ k (c.waiting_line.ensures.gate _ c.in-Gate.is) is)
+          gating_same _ _ old new _ k c.gate_line.result (same_gate _ _ k (c.waiting_line.ensures.gate _ c.in-Gate.is) is)
           (gated_completes _ _ old new _ c.gate_line.result
           (λ e. opened (subst (λ s. HasOpenCause (fault_of s) (g.H.Host.faults c.args.host.now) (g.H.Host.faults c.gate_line.new.host)) e c.gate_line.ensures.opened))
           (λ failed. c.gate_line.ensures.random unused failed) (λ ran. c.gate_line.ensures.gated unused ran));
