@@ -1,11 +1,12 @@
 -- Links opened one after another.
-use Rattle.std.proofs.Common.{map, take, zero, suc, ◌≡◌, ◌⊎◌, ◌≤◌, ◌<◌, ◌+◌, ◌++◌, ◌∷◌, ℕ, List, [], length, refl, sym, ap, ◌∙◌, subst, arith, slice_index_or, length-append}
+use Rattle.std.proofs.Common.{map, take, zero, suc, ◌≡◌, ◌⊎◌, ◌≤◌, ◌<◌, ◌+◌, ◌++◌, ◌∷◌, ℕ, List, [], length, refl, sym, ap, ◌∙◌, subst, arith, slice_index_or, length-append, append_assoc}
 use mathlib.Core.Logic.{inl, inr}
-use Rattle.std.proofs.lemmas.List.{get_or_at, get_or_append_left, map-append, take_more}
+use Rattle.std.proofs.lemmas.List.{get_or_at, get_or_append_left, length-map, map-append, take_more}
 use Rattle.outside_host.specs.declared.host.Place.{Place}
 use Rattle.outside_host.specs.declared.host.Place.TheVariants.{Here, Out}
 use Rattle.host_links.specs.Opening.{AreOut, AreBack, AreAsTheyWere, IsAsItWas}
-use Rattle.host_links.specs.Inside.Steps.{IsNextOut, StayFirst}
+use Rattle.std.specs.Prelude.{Result, Ok, Err, OnErr}
+use Rattle.host_links.specs.Inside.Steps.{ComeBack, IsNextOut, StayFirst}
 use Rattle.host_links.proofs.GivingLemmas.{same_place}
 
 pub none_out : {L : Type 0} (old : ℕ → Place L) → AreOut old old []
@@ -67,3 +68,25 @@ all_as_they_were old now after new links out same stay back place = by_place (be
 pub one_more : {A B : Type 0} (f : A → B) (xs : List A) (i : ℕ) (d : A) (ys : List B) → ys ≡ map f (take i xs) → i < length xs → ys ++ f (slice_index_or xs i d) ∷ [] ≡ map f (take (i + 1) xs)
 one_more f xs i d ys is less =
     ap (λ l. l ++ f (slice_index_or xs i d) ∷ []) is ∙ (sym (map-append f (take i xs) (slice_index_or xs i d ∷ [])) ∙ ap (map f) (sym (take_more xs i d less)))
+
+-- and behind some that were there
+pub one_more_behind : {A B : Type 0} (f : A → B) (first : List B) (xs : List A) (i : ℕ) (d : A) (ys : List B) → ys ≡ first ++ map f (take i xs) → i < length xs
+    → ys ++ f (slice_index_or xs i d) ∷ [] ≡ first ++ map f (take (i + 1) xs)
+one_more_behind f first xs i d ys is less =
+    ap (λ l. l ++ f (slice_index_or xs i d) ∷ []) is
+    ∙ (append_assoc first (map f (take i xs)) (f (slice_index_or xs i d) ∷ []) ∙ ap (λ l. first ++ l) (one_more f xs i d (map f (take i xs)) refl less))
+
+-- from a host that has handed out none, what could not be opened came back
+pub from_none : {L T E : Type 0} (old new : ℕ → Place L) (had : List L) (result : Result T E) → had ≡ [] → OnErr result (ComeBack old new had) → OnErr result (AreAsTheyWere old new)
+from_none old new had (Ok x) none back = tt
+from_none old new had (Err e) none back = back old (subst (AreOut old old) (sym none) (none_out old))
+
+-- likewise from one that has handed out some
+pub from_some : {L T E : Type 0} (base old new : ℕ → Place L) (had : List L) (result : Result T E) → AreOut base old had → OnErr result (ComeBack old new had) → OnErr result (AreAsTheyWere base new)
+from_some base old new had (Ok x) out back = tt
+from_some base old new had (Err e) out back = back base out
+
+-- as many were handed out as are there
+pub as_many_out : {A B : Type 0} (f : A → B) (first now : List B) (xs : List A) (n links : ℕ) → now ≡ first ++ map f xs → length first ≡ n → links ≡ n + length xs → length now ≡ links
+as_many_out f first now xs n links is before count =
+    omega (arith, ap length is, length-append first (map f xs), length-map xs f, before, count)

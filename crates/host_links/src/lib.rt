@@ -7,5 +7,5 @@ mod opening;
 mod tests;
 mod timing;
 
-pub use opening::{back_links, open_links};
+pub use opening::{back_links, open_both, open_links};
 pub use timing::{back_clocks, open_clocks};

@@ -1,8 +1,9 @@
 //! Links are opened in order, and given back.
 ghost use Rattle.std.specs.Prelude.{◌≡◌, ◌≤◌, ◌<◌, ◌++◌, ◌∷◌, ◌+◌, [], IsTrue, IfOk, OnOk, OnErr, length, map};
 ghost use Rattle.outside_host.specs.Shelf.{ChangesLinks, ChangesOpening, HasHostCause};
+ghost use Rattle.outside_net.specs.declared.link_spec.Role.TheVariants.{Forwards, Receives};
 ghost use Rattle.host_links.specs.Opening.{AreAsTheyWere, AreBack, AreOut, HasOpenedNone};
-ghost use Rattle.host_links.specs.Inside.Steps.{IsNextOut, StayFirst};
+ghost use Rattle.host_links.specs.Inside.Steps.{ComeBack, GoOut, IsNextOut, StayFirst};
 
 use outside_host::{Host, HostBad};
 use outside_io::Profile;
@@ -43,6 +44,39 @@ fn open_next<H: Host>(
     }
 }
 
+// Opens links behind those that are out already, in this order, all of them or none: where one can't be opened, all are
+// given back.
+fn open_all<H: Host>(
+    host: &mut H,
+    specs: &[LinkSpec],
+    role: Role,
+    profile: Profile,
+    mut links: Vec<H::Wire>,
+) -> Result<Vec<H::Wire>, HostBad>
+    requires few { length links.items + length specs.now ≤ 16 }
+    ensures ok { IsTrue H.tells → length (H.shelf host.old).opened_links ≡ length links.items
+        → IfOk result (λ all. GoOut (H.shelf host.old).links (H.shelf host.new).links links.items all.items) }
+    ensures count { IfOk result (λ all. length all.items ≡ length links.items + length specs.now) }
+    ensures opened { IsTrue H.tells → length (H.shelf host.old).opened_links ≡ length links.items
+        → OnOk result ((H.shelf host.new).opened_links ≡ (H.shelf host.old).opened_links
+        ++ map (λ spec. record { spec = spec; role = role; profile = profile }) specs.now) }
+    ensures err { IsTrue H.tells → length (H.shelf host.old).opened_links ≡ length links.items
+        → OnErr result (ComeBack (H.shelf host.old).links (H.shelf host.new).links links.items) }
+    ensures same { IsTrue H.tells → ChangesOpening (H.shelf host.old) (H.shelf host.new) }
+    ensures cause { HasHostCause (H.faults host.old) (H.faults host.new) result }
+{
+    for spec in specs {
+        match open_next(host, spec, role, profile, &mut links) {
+            Ok(()) => {}
+            Err(bad) => {
+                back_links(host, links);
+                return Err(bad);
+            }
+        }
+    }
+    Ok(links)
+}
+
 /// Opens links in this order, all of them or none: where one can't be opened, those before it are given back.
 pub fn open_links<H: Host>(
     alloc: Global,
@@ -62,20 +96,42 @@ pub fn open_links<H: Host>(
     ensures same { IsTrue H.tells → ChangesOpening (H.shelf host.old) (H.shelf host.new) }
     ensures cause { HasHostCause (H.faults host.old) (H.faults host.new) result }
 {
-    let mut links = match Vec::with_capacity(alloc, specs.len()) {
+    let links = match Vec::with_capacity(alloc, specs.len()) {
         Ok(links) => links,
         Err(_) => return Err(HostBad::NoMemory),
     };
-    for spec in specs {
-        match open_next(host, spec, role, profile, &mut links) {
-            Ok(()) => {}
-            Err(bad) => {
-                back_links(host, links);
-                return Err(bad);
-            }
-        }
+    open_all(host, specs, role, profile, links)
+}
+
+/// Opens links that are received on, and behind them links that are sent on by a gateway, in this order, all of them or
+/// none.
+pub fn open_both<H: Host>(
+    alloc: Global,
+    host: &mut H,
+    inputs: &[LinkSpec],
+    outputs: &[LinkSpec],
+    profile: Profile,
+) -> Result<Vec<H::Wire>, HostBad>
+    requires few { length inputs.now + length outputs.now ≤ 16 }
+    ensures ok { HasOpenedNone H.tells (H.shelf host.old)
+        → IfOk result (λ links. AreOut (H.shelf host.old).links (H.shelf host.new).links links.items) }
+    ensures count { IfOk result (λ links. length links.items ≡ length inputs.now + length outputs.now) }
+    ensures opened { HasOpenedNone H.tells (H.shelf host.old) → OnOk result ((H.shelf host.new).opened_links
+        ≡ map (λ spec. record { spec = spec; role = Receives; profile = profile }) inputs.now
+        ++ map (λ spec. record { spec = spec; role = Forwards; profile = profile }) outputs.now) }
+    ensures err { HasOpenedNone H.tells (H.shelf host.old)
+        → OnErr result (AreAsTheyWere (H.shelf host.old).links (H.shelf host.new).links) }
+    ensures same { IsTrue H.tells → ChangesOpening (H.shelf host.old) (H.shelf host.new) }
+    ensures cause { HasHostCause (H.faults host.old) (H.faults host.new) result }
+{
+    let links = match Vec::with_capacity(alloc, inputs.len() + outputs.len()) {
+        Ok(links) => links,
+        Err(_) => return Err(HostBad::NoMemory),
+    };
+    match open_all(host, inputs, Role::Receives, profile, links) {
+        Ok(links) => open_all(host, outputs, Role::Forwards, profile, links),
+        Err(bad) => Err(bad),
     }
-    Ok(links)
 }
 
 /// Gives links back to the first places of a host, in this order.

@@ -9,7 +9,7 @@ use std::alloc::Global;
 
 // Has the next clock. One for which there is no room is given back.
 fn start_next<H: Host>(host: &mut H, clocks: &mut Vec<H::Time>) -> Result<(), HostBad>
-    requires few { length clocks.old.items < 16 }
+    requires few { length clocks.old.items < 17 }
     ensures ok { IsTrue H.tells → (H.shelf host.old).next_clock ≡ length clocks.old.items → OnOk result
         (IsNextOut (H.shelf host.old).clocks (H.shelf host.new).clocks clocks.old.items clocks.new.items
         × ((H.shelf host.new).next_clock ≡ length clocks.old.items + 1)) }
@@ -40,7 +40,7 @@ pub fn open_clocks<H: Host>(
     host: &mut H,
     count: usize,
 ) -> Result<Vec<H::Time>, HostBad>
-    requires few { count ≤ 16 }
+    requires few { count ≤ 17 }
     ensures ok { HasStartedNone H.tells (H.shelf host.old)
         → IfOk result (λ clocks. AreOut (H.shelf host.old).clocks (H.shelf host.new).clocks clocks.items) }
     ensures count { IfOk result (λ clocks. length clocks.items ≡ count) }
@@ -67,7 +67,7 @@ pub fn open_clocks<H: Host>(
 
 /// Gives clocks back to the first places of a host, in this order.
 pub fn back_clocks<H: Host>(host: &mut H, mut clocks: Vec<H::Time>)
-    requires few { length clocks.items ≤ 16 }
+    requires few { length clocks.items ≤ 17 }
     ensures state { IsTrue H.tells → AreBack (H.shelf host.old).clocks (H.shelf host.new).clocks clocks.items }
     ensures same { IsTrue H.tells → ChangesClocks (H.shelf host.old) (H.shelf host.new) }
     ensures cause { H.faults host.new ≡ H.faults host.old }

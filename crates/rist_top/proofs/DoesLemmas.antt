@@ -4,11 +4,12 @@ use mathlib.Core.Logic.{inl, inr}
 use Rattle.std.specs.Prelude.{Option, None, Some}
 use Rattle.std.specs.declared.string.String.{String}
 use Rattle.outside_host.specs.Shelf.{Shelf}
-use Rattle.rist_words.specs.CommandLine.{CommandLine, Replay, Show, Pack, Send, Recv, Gate, SendCommand, RecvCommand}
+use Rattle.rist_words.specs.CommandLine.{CommandLine, Replay, Show, Pack, Send, Recv, Gate, SendCommand, RecvCommand, GateCommand}
 use Rattle.rist_top.specs.Causes.{CanRefuse}
 use Rattle.rist_top.specs.Does.{Does}
+use Rattle.rist_top.specs.DoesGate.{DoesGate}
 use Rattle.rist_top.specs.Frame.{KeepsOthers, KeepsAround, KeepsAroundSink}
-use Rattle.rist_top.specs.Lines.{IsLine, IsNoPlainLine, IsOverFiles, plain_line, done_line}
+use Rattle.rist_top.specs.Lines.{IsLine, IsNoPlainLine, IsOverFiles, plain_line}
 use Rattle.rist_top.specs.Objects.{Tells}
 use Rattle.rist_top.specs.Received.{Unreceived}
 use Rattle.rist_top.specs.Sent.{TellsLive}
@@ -109,28 +110,22 @@ does_nothing told tells live words faults old = record {
 pub receiving_is_none : {A : Type 0} (words : List (String A)) (c : RecvCommand) → IsLine words (Recv c) → IsNoPlainLine words
 receiving_is_none words c is = ap plain_line is
 
--- words that are no such line and no receiving are no line
-pub no_line : (o : Option CommandLine) → ((c : RecvCommand) → o ≡ Some (Recv c) → ⊥) → plain_line o ≡ None → done_line o ≡ None
-no_line None other none = refl
-no_line (Some (Replay c)) other none = none
-no_line (Some (Show c)) other none = none
-no_line (Some (Pack c)) other none = none
-no_line (Some (Send c)) other none = none
-no_line (Some (Recv c)) other none = absurd (other c refl)
-no_line (Some (Gate c)) other none = refl
+-- words that are no such line, no receiving and no gateway are no line
+pub no_line : (o : Option CommandLine) → ((c : RecvCommand) → o ≡ Some (Recv c) → ⊥) → ((c : GateCommand) → o ≡ Some (Gate c) → ⊥) → plain_line o ≡ None → o ≡ None
+no_line None recv gate none = refl
+no_line (Some (Replay c)) recv gate none = absurd (cc (none))
+no_line (Some (Show c)) recv gate none = absurd (cc (none))
+no_line (Some (Pack c)) recv gate none = absurd (cc (none))
+no_line (Some (Send c)) recv gate none = absurd (cc (none))
+no_line (Some (Recv c)) recv gate none = absurd (recv c refl)
+no_line (Some (Gate c)) recv gate none = absurd (gate c refl)
 
 -- and what is no line is no such line
-pub no_plain_line : (o : Option CommandLine) → done_line o ≡ None → plain_line o ≡ None
-no_plain_line None none = refl
-no_plain_line (Some (Replay c)) none = none
-no_plain_line (Some (Show c)) none = none
-no_plain_line (Some (Pack c)) none = none
-no_plain_line (Some (Send c)) none = none
-no_plain_line (Some (Recv c)) none = refl
-no_plain_line (Some (Gate c)) none = refl
+pub no_plain_line : (o : Option CommandLine) → o ≡ None → plain_line o ≡ None
+no_plain_line o none = ap plain_line none
 
--- a receiving is a line
-pub is_line : (o : Option CommandLine) (c : RecvCommand) → o ≡ Some (Recv c) → done_line o ≡ None → ⊥
+-- what is a line is none of no line
+pub is_line : (o : Option CommandLine) (c : CommandLine) → o ≡ Some c → o ≡ None → ⊥
 is_line o c is none = absurd (cc (is, none))
 
 pub same_receiving : (o : Option CommandLine) (c d : RecvCommand) → o ≡ Some (Recv c) → o ≡ Some (Recv d) → c ≡ d
@@ -148,3 +143,46 @@ around_nothing old c = record {
 
 pub unreceived_at_first : {I O E L C : Type 0} (old : Shelf I O E L C) (c : RecvCommand) → Unreceived old old c
 unreceived_at_first old c = record { sink = inl refl; links = λ place. inl refl; clocks = λ place. inl refl; report = refl }
+
+-- ---- a gateway
+
+-- the words of a gateway are no line of a command that waits for nobody
+pub gate_is_none : {A : Type 0} (words : List (String A)) (c : GateCommand) → IsLine words (Gate c) → IsNoPlainLine words
+gate_is_none words c is = ap plain_line is
+
+-- a receiving is no gateway
+pub no_both : (o : Option CommandLine) (c : RecvCommand) (d : GateCommand) → o ≡ Some (Recv c) → o ≡ Some (Gate d) → ⊥
+no_both o c d e f = absurd (cc (e, f))
+
+pub same_gate : (o : Option CommandLine) (c d : GateCommand) → o ≡ Some (Gate c) → o ≡ Some (Gate d) → c ≡ d
+same_gate o c d e f = cc (e, f)
+
+-- words that are no gateway
+pub does_no_gate : {A I O E L C : Type 0} (told : Bool) (tells : Tells I O E) (live : TellsLive L C) (words : List (String A)) (faults_were faults_are : ℕ) (old new : Shelf I O E L C) (status : Status)
+    → ((c : GateCommand) → IsLine words (Gate c) → ⊥) → DoesGate told tells live words faults_were faults_are old new status
+does_no_gate told tells live words faults_were faults_are old new status none = record {
+  gated = λ unused ran c is. absurd (none c is);
+  ungated = λ unused refused c is. absurd (none c is);
+  around = λ unused c is. absurd (none c is);
+  links_opened = λ unused ran c is. absurd (none c is);
+  random = λ unused failed c is. absurd (none c is);
+  complete = λ unused opened c is. absurd (none c is);
+}
+
+-- memory is refused before a gateway is known
+pub gates_nothing : {A I O E L C : Type 0} (told : Bool) (tells : Tells I O E) (live : TellsLive L C) (words : List (String A)) (faults : ℕ) (old : Shelf I O E L C)
+    → DoesGate told tells live words faults faults old old statuses.Memory
+gates_nothing told tells live words faults old = record {
+  gated = λ unused ran c is. absurd (ran refuses);
+  ungated = λ unused refused c is. record { links = λ place. inl refl; clocks = λ place. inl refl; report = refl };
+  around = λ unused c is. record {
+    sources = refl;
+    sinks = refl;
+    links = record { others = λ place least. inl refl; first = λ place. inl refl };
+    clocks = record { others = λ place least. inl refl; first = λ place. inl refl };
+    words = record { others = λ place other. refl; first = inl refl; undrawn = λ none. refl };
+  };
+  links_opened = λ unused ran c is. absurd (ran refuses);
+  random = λ unused failed c is. absurd (cc (failed));
+  complete = λ unused opened c is none stays behind. inr (inr (inr (inr refl)));
+}

@@ -1,5 +1,5 @@
 -- A receiving in which nothing fails but links, of which one doesn't, comes to its end.
-use Rattle.std.proofs.Common.{◌≡◌, ◌∙◌, ◌⊎◌, ◌<◌, ℕ, List, [], ◌∷◌, length, map, Bool, true, Some, refl, sym, ap, subst, slice_get, get_or, arith}
+use Rattle.std.proofs.Common.{◌≡◌, ◌∙◌, ◌⊎◌, ◌<◌, ℕ, List, [], ◌∷◌, length, map, Bool, true, Option, Some, refl, sym, ap, subst, slice_get, get_or, arith}
 use Rattle.std.proofs.lemmas.List.{length-map, get_or-map}
 use Rattle.std.proofs.lemmas.List.Sums.{AllPass-from_list_all}
 use Rattle.std.proofs.lemmas.Option.{get_or_from_slice_get, slice_get-get_or}
@@ -16,8 +16,10 @@ use Rattle.rist_recv.specs.declared.ending.Ending.{Ending}
 use Rattle.rist_sender.specs.Links.{Line}
 use Rattle.rist_recv.specs.declared.ending.Ending.TheVariants as endings
 use Rattle.rist_recv.specs.Endings.{all_workers, is_link_failed, is_write_fault}
-use Rattle.rist_recv.specs.Run.{EndsAs}
-use Rattle.rist_recv.specs.Setup.{given_to}
+use Rattle.rist_recv.specs.Run.{EndsAs, Receives}
+use Rattle.rist_recv.specs.Setup.{Setup as ReceiveSetup, given_to}
+use Rattle.rist_desk.specs.declared.worker.Limits.{Limits as WorkerLimits}
+use Rattle.rist_ends.specs.declared.counts.Counts.{Counts}
 use Rattle.rist_recv.specs.Workers.{ToldTrace, link_of, told_trace}
 use Rattle.rist_words.specs.CommandLine.{RecvCommand}
 use Rattle.rist_top.specs.Causes.{CanRefuse}
@@ -42,7 +44,7 @@ same_failure ends.Spent = refl
 same_failure ends.TraceFull = refl
 
 -- an element stands at each place of a list
-at_place : {X : Type 0} (xs : List X) (i : ℕ) → i < length xs → (x : X) × (slice_get xs i ≡ Some x)
+pub at_place : {X : Type 0} (xs : List X) (i : ℕ) → i < length xs → (x : X) × (slice_get xs i ≡ Some x)
 at_place [] i less = absurd (omega (arith, less))
 at_place (x ∷ xs) i less = (get_or (x ∷ xs) i x, slice_get-get_or (x ∷ xs) i x less)
 
@@ -56,27 +58,33 @@ link_at ws links i w are less here =
     ap (λ l. get_or l i w.link) (sym are) ∙ (get_or-map link_of ws i w w.link less ∙ ap link_of (get_or_from_slice_get ws i w w here))
 
 -- where each link failed, the count of each rose
+pub failed_at : {L C : Type 0} (moments : C → Option (ℕ → ℕ)) (line : Line L) (s : ReceiveSetup) (limits : WorkerLimits) (links_were links_are : List L) (clocks_were clocks_are : List C)
+    (contents_were contents_are : Option (List ℕ)) (faults_were faults_are : ℕ) (counts : Counts) (ending : Ending)
+    (run : Receives moments (link_tells line) s limits links_were links_are clocks_were clocks_are contents_were contents_are faults_were faults_are counts ending)
+    → all_workers is_link_failed run.are ≡ true → (place : ℕ) → place < length links_were
+    → (was : L) × (is : L) × (get_or links_were place was ≡ was) × (get_or links_are place is ≡ is) × Rose (line.faults was) (line.faults is)
+failed_at {L} {C} moments line s limits links_were links_are clocks_were clocks_are contents_were contents_are faults_were faults_are counts ending run failed place among =
+    let many : length run.were ≡ length links_were = sym (length-map run.were link_of) ∙ ap length run.links_had in
+    let less : place < length run.were = subst (λ n. place < n) (sym many) among in
+    let later : place < length run.are = subst (λ n. place < n) (sym run.as_many) less in
+    let was = at_place run.were place less in
+    let is = at_place run.are place later in
+    let served : ServesOn (given_to s contents_were faults_were) moments (link_tells line) told_trace limits place was.0 is.0 = run.served place was.0 is.0 was.1 is.1 in
+    let end : is_link_failed (Some served.made.end) ≡ true =
+    ap is_link_failed (sym served.made.ended) ∙ (ap (λ (w : Worker L C ToldTrace). is_link_failed w.end) (sym (get_or_from_slice_get run.are place is.0 is.0 is.1))
+    ∙ AllPass-from_list_all (λ (w : Worker L C ToldTrace). is_link_failed w.end) run.are failed place is.0 later) in
+    let rose : Rose (line.faults was.0.link) (line.faults is.0.link) =
+    rose_by (is_link_failure (Some served.made.end)) (line.faults was.0.link) (line.faults is.0.link) (sym (same_failure served.made.end) ∙ end) served.made.failed_cause in
+    (was.0.link, is.0.link, link_at run.were links_were place was.0 run.links_had less was.1, link_at run.are links_are place is.0 run.links_have later is.1, rose)
+
 each_failed : {I O E L C : Type 0} (tells : Tells I O E) (live : TellsLive L C) (old new : Shelf I O E L C) (c : RecvCommand) (status : Status) (r : Received tells live old new c status)
     → all_workers is_link_failed r.received.received.receives.run.are ≡ true → StaysUp live.line old.links new.links (length c.links) → ⊥
-each_failed {L = L} {C = C} tells live old new c status r failed stays =
+each_failed tells live old new c status r failed stays =
     let o = r.received in
-    let run = o.received.receives.run in
-    let many : length run.were ≡ length c.links = sym (length-map run.were link_of) ∙ (ap length run.links_had ∙ o.count) in
-    let less : stays.place < length run.were = subst (λ n. stays.place < n) (sym many) stays.among in
-    let later : stays.place < length run.are = subst (λ n. stays.place < n) (sym run.as_many) less in
-    let was = at_place run.were stays.place less in
-    let is = at_place run.are stays.place later in
-    let s : ServesOn (given_to (setup_received c r.received.received.sealer) (tells.contents r.sink) (tells.write_faults r.sink)) live.moments (link_tells live.line) told_trace (limits_received c) stays.place was.0 is.0 = run.served stays.place was.0 is.0 was.1 is.1 in
-    let end : is_link_failed (Some s.made.end) ≡ true =
-    ap is_link_failed (sym s.made.ended) ∙ (ap (λ (w : Worker L C ToldTrace). is_link_failed w.end) (sym (get_or_from_slice_get run.are stays.place is.0 is.0 is.1))
-    ∙ AllPass-from_list_all (λ (w : Worker L C ToldTrace). is_link_failed w.end) run.are failed stays.place is.0 later) in
-    let rose : Rose (live.line.faults was.0.link) (live.line.faults is.0.link) =
-    rose_by (is_link_failure (Some s.made.end)) (live.line.faults was.0.link) (live.line.faults is.0.link) (sym (same_failure s.made.end) ∙ end) s.made.failed_cause in
     let among : stays.place < length o.links_were = subst (λ n. stays.place < n) (sym o.count) stays.among in
-    stays.up was.0.link is.0.link
-    (o.links.took stays.place was.0.link among ∙ ap Here (link_at run.were o.links_were stays.place was.0 run.links_had less was.1))
-    (o.links.gave stays.place is.0.link among ∙ ap Back (link_at run.are o.links_are stays.place is.0 run.links_have later is.1))
-    rose
+    let f = failed_at live.moments live.line (setup_received c o.received.sealer) (limits_received c) o.links_were o.links_are o.received.clocks_were o.received.clocks_are
+    (tells.contents r.sink) (tells.contents r.filled) (tells.write_faults r.sink) (tells.write_faults r.filled) o.received.counts o.received.receives.ending o.received.receives.run failed stays.place among in
+    stays.up f.0 f.1 (o.links.took stays.place f.0 among ∙ ap Here f.2) (o.links.gave stays.place f.1 among ∙ ap Back f.3) f.4
 
 ended_by : {I O E L C : Type 0} (tells : Tells I O E) (live : TellsLive L C) (old new : Shelf I O E L C) (c : RecvCommand) (status : Status) (r : Received tells live old new c status) (end : Ending)
     → r.received.received.receives.ending ≡ end → status ≡ receive_status end → NoWriteFailed tells old new c → StaysUp live.line old.links new.links (length c.links) → IsHeard c status

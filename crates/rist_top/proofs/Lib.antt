@@ -9,4 +9,5 @@ pub mod FrameLemmas
 pub mod WholeLemmas
 pub mod ReceiveLemmas
 pub mod HeardLemmas
+pub mod GatingLemmas
 pub mod DoesLemmas

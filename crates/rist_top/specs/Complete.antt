@@ -1,12 +1,12 @@
 -- A command whose calls don't fail comes to its end, or memory is refused.
-use Rattle.std.specs.Prelude.{◌≡◌, ◌⊎◌, ◌<◌, ◌≤◌, ◌^◌, ℕ, List, length, Some, true, is_some}
+use Rattle.std.specs.Prelude.{◌≡◌, ◌⊎◌, ◌<◌, ◌≤◌, ◌+◌, ◌^◌, ℕ, List, length, Some, true, is_some}
 use Rattle.outside_io.specs.Causes.{Rose}
 use Rattle.outside_host.specs.Shelf.{Shelf}
 use Rattle.outside_host.specs.declared.host.Place.{Place}
 use Rattle.outside_host.specs.declared.host.Place.TheVariants.{Here, Back}
 use Rattle.capture_file.specs.Capture.{Record, IsCapture}
 use Rattle.rist_sender.specs.Links.{Line}
-use Rattle.rist_words.specs.CommandLine.{CommandLine, Replay, Show, Pack, Send, Recv, Gate, SendCommand, RecvCommand}
+use Rattle.rist_words.specs.CommandLine.{CommandLine, Replay, Show, Pack, Send, Recv, Gate, SendCommand, RecvCommand, GateCommand}
 use Rattle.rist_compare.specs.declared.tear.Tear.{Tear}
 use Rattle.rist_top.specs.Ran.{source_name, sink_name}
 use Rattle.rist_top.specs.Sealing.{FailedAt}
@@ -76,3 +76,21 @@ IsHeard c status =
 abbrev pub CompletesReceiving : {I O E L C : Type 0} → Tells I O E → Line L → Shelf I O E L C → Shelf I O E L C → RecvCommand → Status → Type 0
 CompletesReceiving tells line old new c status =
     NoWriteFailed tells old new c → StaysUp line old.links new.links (length c.links) → IsHeard c status
+
+-- of so many links behind the first ones one stays up
+pub record StaysUpBehind {L : Type 0} (line : Line L) (old new : ℕ → Place L) (first count : ℕ) : Type 0 where
+  pub place : ℕ
+  pub among : place < count
+  pub up : (was is : L) → old (first + place) ≡ Here was → new (first + place) ≡ Back is → Rose (line.faults was) (line.faults is) → ⊥
+
+-- a gateway came to its end, or too few pairs were left at either end, or its kept steps had no room or differ, or memory was refused
+abbrev pub IsGateWhole : Status → Type 0
+IsGateWhole status =
+    (status ≡ statuses.Done)
+    ⊎ ((status ≡ statuses.Spent) ⊎ ((status ≡ statuses.TraceFull) ⊎ (((tear : Tear) × (status ≡ statuses.Torn tear)) ⊎ (status ≡ statuses.Memory))))
+
+-- a gateway in which nothing failed but links, of which one that is received on and one that is sent on stay up, ends so
+abbrev pub CompletesGating : {I O E L C : Type 0} → Tells I O E → Line L → Shelf I O E L C → Shelf I O E L C → GateCommand → Status → Type 0
+CompletesGating tells line old new c status =
+    (FailedAt tells old new → ⊥) → StaysUp line old.links new.links (length c.inputs)
+    → StaysUpBehind line old.links new.links (length c.inputs) (length c.outputs) → IsGateWhole status

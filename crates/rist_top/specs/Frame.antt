@@ -1,10 +1,10 @@
 -- What a run leaves as it stood.
-use Rattle.std.specs.Prelude.{◌≡◌, ◌≢◌, ◌≤◌, ℕ, List, length, map, Bool, false, is_some}
-use Rattle.outside_net.specs.declared.link_spec.Role.TheVariants.{Receives, Sends}
+use Rattle.std.specs.Prelude.{◌≡◌, ◌≢◌, ◌≤◌, ◌+◌, ◌++◌, ℕ, List, length, map, Bool, false, is_some}
+use Rattle.outside_net.specs.declared.link_spec.Role.TheVariants.{Receives, Sends, Forwards}
 use Rattle.outside_host.specs.Shelf.{Shelf, ChangesSources, ChangesSinks}
 use Rattle.outside_host.specs.declared.host.Opened.{Opened}
 use Rattle.outside_host.specs.declared.host.Place.{Place}
-use Rattle.rist_words.specs.CommandLine.{CommandLine, Replay, Show, Pack, Send, Recv, Gate, SendCommand, RecvCommand}
+use Rattle.rist_words.specs.CommandLine.{CommandLine, Replay, Show, Pack, Send, Recv, Gate, SendCommand, RecvCommand, GateCommand}
 use Rattle.rist_top.specs.Places.{CameBack, IsAsItWas, KeepsLive}
 use Rattle.rist_top.specs.Ran.{source_name, sink_name}
 
@@ -88,3 +88,19 @@ OpensLinksAfterSink old new c = new.sinks c.out ≡ old.sinks c.out → ChangesS
 -- the links that a receiving opens, the first first: it is bound to each, in the profile of its session
 abbrev pub links_received : RecvCommand → List Opened
 links_received c = map (λ spec. record { spec = spec; role = Receives; profile = c.session.profile }) c.links
+
+-- what a gateway doesn't speak of stands as it stood, and what it speaks of came back: its links, a clock for each and one for its
+-- sender, and the first random words where it draws some
+pub record KeepsAroundGate {I O E L C : Type 0} (old new : Shelf I O E L C) (c : GateCommand) : Type 0 where
+  pub sources : new.sources ≡ old.sources
+  pub sinks : new.sinks ≡ old.sinks
+  pub links : KeepsLinksBut (length c.inputs + length c.outputs) old.links new.links
+  pub clocks : KeepsLinksBut (length c.inputs + length c.outputs + 1) old.clocks new.clocks
+  pub words : KeepsWords old new (is_some c.session.pass)
+
+-- the links that a gateway opens, the first first: it is bound to those that it receives on, and behind them it sends to the others,
+-- all in the profile of its session
+abbrev pub links_gated : GateCommand → List Opened
+links_gated c =
+    map (λ spec. record { spec = spec; role = Receives; profile = c.session.profile }) c.inputs
+    ++ map (λ spec. record { spec = spec; role = Forwards; profile = c.session.profile }) c.outputs

@@ -9,6 +9,7 @@ pub mod Places
 pub mod Sealing
 pub mod Sent
 pub mod Received
+pub mod Gated
 pub mod Pieces
 pub mod Ran
 pub mod Frame
@@ -16,4 +17,5 @@ pub mod Untouched
 pub mod Exact
 pub mod Complete
 pub mod Does
+pub mod DoesGate
 pub mod Inside

@@ -2,7 +2,7 @@
 use Rattle.std.specs.Prelude.{◌≡◌, Bool, List, Option, Some, None, IsTrue, map, string_bytes}
 use Rattle.std.specs.declared.string.String.{String}
 use Rattle.outside_host.specs.Shelf.{Shelf}
-use Rattle.rist_words.specs.CommandLine.{CommandLine, Replay, Show, Pack, Send, Recv, Gate, SendCommand, RecvCommand, line_of}
+use Rattle.rist_words.specs.CommandLine.{CommandLine, Replay, Show, Pack, Send, Recv, Gate, SendCommand, RecvCommand, GateCommand, line_of}
 
 -- they are this line
 abbrev pub IsLine : {A : Type 0} → List (String A) → CommandLine → Type 0
@@ -27,23 +27,13 @@ plain_line (Some (Send c)) = Some (Send c)
 plain_line (Some (Recv c)) = None
 plain_line (Some (Gate c)) = None
 
--- a line, if its command is done: a gateway isn't yet
-abbrev pub done_line : Option CommandLine → Option CommandLine
-done_line None = None
-done_line (Some (Replay c)) = Some (Replay c)
-done_line (Some (Show c)) = Some (Show c)
-done_line (Some (Pack c)) = Some (Pack c)
-done_line (Some (Send c)) = Some (Send c)
-done_line (Some (Recv c)) = Some (Recv c)
-done_line (Some (Gate c)) = None
-
 -- they are no line whose command waits for nobody
 abbrev pub IsNoPlainLine : {A : Type 0} → List (String A) → Type 0
 IsNoPlainLine words = plain_line (line_of (map string_bytes words)) ≡ None
 
--- they are none whose command is done
+-- they are no line
 abbrev pub IsNoLine : {A : Type 0} → List (String A) → Type 0
-IsNoLine words = done_line (line_of (map string_bytes words)) ≡ None
+IsNoLine words = line_of (map string_bytes words) ≡ None
 
 -- a command over a source and a sink: any but those over links
 abbrev pub IsOverFiles : CommandLine → Type 0
@@ -65,6 +55,10 @@ IfSending words P = (c : SendCommand) → IsLine words (Send c) → P c
 -- P holds of the receiving that they are, if they are one
 abbrev pub IfReceiving : {A : Type 0} → List (String A) → (RecvCommand → Type 0) → Type 0
 IfReceiving words P = (c : RecvCommand) → IsLine words (Recv c) → P c
+
+-- P holds of the gateway that they are, if they are one
+abbrev pub IfGate : {A : Type 0} → List (String A) → (GateCommand → Type 0) → Type 0
+IfGate words P = (c : GateCommand) → IsLine words (Gate c) → P c
 
 -- a host tells what stands on its shelf, and has handed out no random words yet
 abbrev pub IsFresh : {I O E L C : Type 0} → Bool → Shelf I O E L C → Type 0

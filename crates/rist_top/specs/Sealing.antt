@@ -1,5 +1,5 @@
 -- What is left where a sealer is made, or can't be.
-use Rattle.std.specs.Prelude.{◌≡◌, ◌≢◌, ℕ, Bool, false}
+use Rattle.std.specs.Prelude.{◌≡◌, ◌≢◌, ℕ, List, Bool, false, Option, Some}
 use Rattle.psk_seal.specs.Nonces.{Draws}
 use Rattle.psk_seal.specs.Sealer.{SealerState}
 use Rattle.outside_io.specs.Causes.{Rose}
@@ -35,3 +35,19 @@ pub record FailedAt {I O E L C : Type 0} (tells : Tells I O E) (old new : Shelf 
   pub took : old.entropies 0 ≡ Here words
   pub gave : new.entropies 0 ≡ Back drawn
   pub rose : Rose (tells.word_faults words) (tells.word_faults drawn)
+
+-- The nonces of two sealers are drawn from the first source of random words, those of the second behind those of the first; it was
+-- handed out, did not fail, and came back.
+pub record DrawnBoth {I O E : Type 0} (tells : Tells I O E) (old new : ℕ → Place E) (first second : SealerState) : Type 0 where
+  pub words : E
+  pub drawn : E
+  pub between : Option (List ℕ)
+  pub took : old 0 ≡ Here words
+  pub gave : new 0 ≡ Back drawn
+  pub nonces : Draws (tells.words words) between first.nonces 16
+  pub more : Draws between (tells.words drawn) second.nonces 16
+  pub none : tells.word_faults drawn ≡ tells.word_faults words
+
+-- they are, where there are two
+abbrev pub AreDrawn : {I O E : Type 0} → Tells I O E → (ℕ → Place E) → (ℕ → Place E) → Option SealerState → Option SealerState → Type 0
+AreDrawn tells old new first second = (s t : SealerState) → first ≡ Some s → second ≡ Some t → DrawnBoth tells old new s t

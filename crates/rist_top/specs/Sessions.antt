@@ -4,7 +4,7 @@ use Rattle.seq_unwrap.specs.declared.width.Width.TheVariants.{W16, W32}
 use Rattle.receiver_rules.specs.declared.limits.Limits.{Limits}
 use Rattle.rist_wire.specs.declared.session.Session.{Session}
 use Rattle.psk_seal.specs.Sealer.{SealerState}
-use Rattle.rist_words.specs.CommandLine.{ReplayCommand, PackCommand, SendCommand, RecvCommand}
+use Rattle.rist_words.specs.CommandLine.{ReplayCommand, PackCommand, SendCommand, RecvCommand, GateCommand, Receiver, Serving}
 use Rattle.rist_pack.specs.declared.settings.PackSettings.{PackSettings}
 use Rattle.rist_words.specs.CommandLine as lines
 use Rattle.rist_ends.specs.Settings.{limits_of, muted_settings}
@@ -15,6 +15,8 @@ use Rattle.sender_rules.specs.Bonding.{Bonding, Duplicate, Share}
 use Rattle.rist_sender.specs.Calls.{Rules}
 use Rattle.rist_sender.specs.Sender.{has_keepalives}
 use Rattle.rist_send.specs.Run.{Setup}
+use Rattle.rist_sender.specs.declared.settings.Settings.{Settings as SenderSettings}
+use Rattle.rist_gateway.specs.Setup.{GateSetup, rules_with}
 
 -- a session whose datagrams are written with null packets deleted, or with numbers of 32 bits
 abbrev pub session_with : lines.Session → Bool → Bool → Session
@@ -71,27 +73,62 @@ setup_sent c = record {
   links = length c.links;
 }
 
--- what the receiver of a receiving is set to
-abbrev pub settings_received : RecvCommand → ReceiverSettings
-settings_received c = record {
-  delay = c.receiver.delay;
-  span = c.receiver.span;
-  reorder = c.receiver.reorder;
-  least = c.receiver.least;
-  tries = c.receiver.tries;
-  nack = c.receiver.nack;
-  own = c.receiver.own;
+-- what a receiver is set to that sends back what it asks for
+abbrev pub settings_with : Receiver → ReceiverSettings
+settings_with r = record {
+  delay = r.delay;
+  span = r.span;
+  reorder = r.reorder;
+  least = r.least;
+  tries = r.tries;
+  nack = r.nack;
+  own = r.own;
   muted = false;
 }
 
--- how many steps it keeps at most, where it keeps any
+-- what the receiver of a receiving is set to
+abbrev pub settings_received : RecvCommand → ReceiverSettings
+settings_received c = settings_with c.receiver
+
+-- how many steps a run keeps at most, where it keeps any
+abbrev pub steps_kept : Serving → Option ℕ
+steps_kept s = if s.keep == 0 then None else Some s.keep
+
+-- likewise a receiving
 abbrev pub kept_steps : RecvCommand → Option ℕ
-kept_steps c = if c.serving.keep == 0 then None else Some c.serving.keep
+kept_steps c = steps_kept c.serving
 
 -- what its run is set to, under a sealer where there is one
 abbrev pub setup_received : RecvCommand → Option SealerState → ReceiveSetup
 setup_received c sealer = setup_made (settings_received c) (session_read c.session) sealer (kept_steps c)
 
--- when its workers end, with times in microseconds
+-- when a run's workers end, with times in microseconds
+abbrev pub limits_served : Serving → WorkerLimits
+limits_served s = record { turns = s.turns; idle = 1000 * s.idle }
+
+-- likewise those of a receiving
 abbrev pub limits_received : RecvCommand → WorkerLimits
-limits_received c = record { turns = c.serving.turns; idle = 1000 * c.serving.idle }
+limits_received c = limits_served c.serving
+
+-- the session of what a gateway sends on
+abbrev pub session_gated : GateCommand → Session
+session_gated c = session_with c.session c.stream.nulls c.stream.wide
+
+-- what its sender is set to
+abbrev pub sender_gated : GateCommand → SenderSettings
+sender_gated c = record {
+  flow = c.stream.flow;
+  first = c.stream.first;
+  store = c.store;
+  hold = c.hold;
+  bond = bonding_with (length c.outputs) c.share;
+}
+
+-- what its run is set to, under these sealers of its receiver and of its sender, where there are any
+abbrev pub setup_gated : GateCommand → Option SealerState → Option SealerState → GateSetup
+setup_gated c receiving sending = record {
+  receiving = setup_made (settings_with c.receiver) (session_read c.session) receiving (steps_kept c.serving);
+  rules = rules_with (sender_gated c) (session_gated c);
+  session = session_gated c;
+  sealer = sending;
+}

@@ -2,6 +2,7 @@
 //! sinks tell before and after.
 #![tactic(auto)]
 
+mod gating;
 mod receiving;
 mod sealing;
 mod sending;

@@ -8,7 +8,7 @@ ghost use Rattle.rist_words.specs.Shown.{shown_recv};
 ghost use Rattle.rist_words.specs.Ranges.{IsInRecv};
 ghost use Rattle.rist_top.specs.Causes.{CanRefuse, fault_of};
 ghost use Rattle.rist_top.specs.Sealing.{FailedAt};
-ghost use Rattle.rist_top.specs.Sessions.{kept_steps, limits_received, settings_received, setup_received};
+ghost use Rattle.rist_top.specs.Sessions.{kept_steps, limits_received, setup_received};
 ghost use Rattle.rist_top.specs.Works.{IsFreshFor};
 ghost use Rattle.rist_top.specs.Sent.{IsUnused, live_of};
 ghost use Rattle.rist_top.specs.Received.{ReceivedByClocks, ReceivedOnLinks, Received};
@@ -18,7 +18,7 @@ ghost use Rattle.rist_top.specs.Inside.Answers.{KeepsButTiming, KeepsFiles};
 ghost use Rattle.rist_top.specs.Inside.Heard.{Hears};
 
 use crate::sealing::sealer_for;
-use crate::sessions::session_of;
+use crate::sessions::{session_of, settings_of};
 use crate::status::Status;
 use crate::telling::Telling;
 use host_links::{back_clocks, back_links, open_clocks, open_links};
@@ -27,31 +27,15 @@ use outside_io::{NoMemory, Sink};
 use outside_net::{Clock, Kept, Link, Quiet, Role};
 use psk_seal::Sealer;
 use rist_desk::{Limits, Step};
-use rist_ends::{Counts, Settings};
+use rist_ends::Counts;
 use rist_recv::{MadeTrace, Run, make, receive_on};
 use rist_words::RecvLine;
 use std::alloc::Global;
 use std::sync::Wait;
 use std::thread::Threads;
 
-// What the receiver of a line is set to.
-fn settings_of(line: &RecvLine<'_>) -> Settings
-    ensures value { result ≡ settings_received (shown_recv line.now) }
-{
-    Settings {
-        delay: line.receiver.delay,
-        span: line.receiver.span,
-        reorder: line.receiver.reorder,
-        least: line.receiver.least,
-        tries: line.receiver.tries,
-        nack: line.receiver.nack,
-        own: line.receiver.own,
-        muted: false,
-    }
-}
-
-// What a receiver counted, as a host takes it.
-fn reception_of(counts: &Counts) -> Reception
+/// What a receiver counted, as a host takes it.
+pub fn reception_of(counts: &Counts) -> Reception
     ensures value { result ≡ reception_of counts.now }
 {
     Reception {
@@ -109,7 +93,7 @@ fn receive_with<
     let session = session_of(&line.session, false, false);
     let made = match make::<T, L, C>(
         alloc,
-        &settings_of(line),
+        &settings_of(&line.receiver),
         &session,
         sealer,
         links.len(),

@@ -1,19 +1,21 @@
-//! The sealer of a packing or a sending.
-ghost use Rattle.std.specs.Prelude.{IsTrue, IfOk, IfSome, IsErrOf, is_some};
-ghost use Rattle.outside_io.specs.Causes.{HasOpenCause};
+//! The sealers of a line.
+ghost use Rattle.std.specs.Prelude.{◌≡◌, IsTrue, IfOk, IfSome, IsErrOf, Option, List, ℕ, is_some};
+ghost use Rattle.outside_io.specs.Causes.{HasCause, HasOpenCause};
 ghost use Rattle.outside_host.specs.Shelf.{Stays};
 ghost use Rattle.rist_words.specs.Shown.{shown_session};
 ghost use Rattle.rist_top.specs.Causes.{CanRefuse, fault_of};
 ghost use Rattle.rist_top.specs.Lines.{IsFresh};
 ghost use Rattle.rist_top.specs.Works.{IsFreshFor};
-ghost use Rattle.rist_top.specs.Sealing.{KeepsObjects, DrawnFirst, FailedAt};
-ghost use Rattle.rist_top.specs.Inside.Answers.{OnErrIs, status_of};
+ghost use Rattle.psk_seal.specs.Nonces.{AreNonces};
+ghost use Rattle.rist_top.specs.Sealing.{AreDrawn, KeepsObjects, DrawnFirst, FailedAt};
+ghost use Rattle.rist_top.specs.Inside.Answers.{AreDrawnApart, OnErrIs, status_of};
 ghost use Rattle.rist_top.specs.declared.status.Status.TheVariants as statuses;
 
 use crate::status::Status;
 use crate::telling::Telling;
 use outside_host::Host;
-use psk_seal::Sealer;
+use outside_io::Entropy;
+use psk_seal::{EntropyFault, Sealer};
 use rist_words::SessionWords;
 
 /// The sealer of a session that has a passphrase: its nonces are drawn from the host's first source of random words.
@@ -48,6 +50,66 @@ pub fn sealer_for<H: Host>(
     host.back_entropy(0, words);
     match sealer {
         Ok(sealer) => Ok(Some(sealer)),
+        Err(_) => Err(Status::EntropyFault),
+    }
+}
+
+/// The sealers of a gateway's receiver and of its sender; none without a passphrase.
+#[derive(Drop)]
+pub struct Sealers {
+    pub receiving: Option<Sealer>,
+    pub sending: Option<Sealer>,
+}
+
+// Two sealers, the nonces of the second drawn behind those of the first.
+fn two_of<E: Entropy>(entropy: &mut E) -> Result<(Sealer, Sealer), EntropyFault>
+    ensures drawn { IfOk result (λ two. AreDrawnApart (E.remaining entropy.old) (E.remaining entropy.new)
+        two.0.nonces two.1.nonces) }
+    ensures nonces { IfOk result (λ two. AreNonces two.0.nonces × AreNonces two.1.nonces) }
+    ensures fresh { IfOk result (λ two. (two.0.given ≡ 0) × (two.1.given ≡ 0)) }
+    ensures cause { HasCause (E.faults entropy.old) (E.faults entropy.new) result }
+{
+    let first = match Sealer::with(entropy) {
+        Ok(sealer) => sealer,
+        Err(fault) => return Err(fault),
+    };
+    match Sealer::with(entropy) {
+        Ok(second) => Ok((first, second)),
+        Err(fault) => Err(fault),
+    }
+}
+
+/// The sealers of a gateway whose session has a passphrase: their nonces are drawn from the host's first source of
+/// random words, the receiver's before the sender's.
+pub fn sealers_for<H: Host>(host: &mut H, session: &SessionWords<'_>) -> Result<Sealers, Status>
+    ensures receiving { IfOk result (λ sealers. IsFreshFor (shown_session session.now) sealers.receiving) }
+    ensures sending { IfOk result (λ sealers. IsFreshFor (shown_session session.now) sealers.sending) }
+    ensures err { OnErrIs result CanRefuse }
+    ensures drawn { IsFresh H.tells (H.shelf host.old) → IfOk result (λ sealers. AreDrawn ⟦<H as Telling>⟧.objects
+        (H.shelf host.old).entropies (H.shelf host.new).entropies sealers.receiving sealers.sending) }
+    ensures others { IsTrue H.tells
+        → KeepsObjects (H.shelf host.old) (H.shelf host.new) (is_some (shown_session session.now).pass) }
+    ensures opened { HasOpenCause (fault_of (status_of result)) (H.faults host.old) (H.faults host.new) }
+    ensures random { IsFresh H.tells (H.shelf host.old) → IsErrOf result statuses.EntropyFault
+        → FailedAt ⟦<H as Telling>⟧.objects (H.shelf host.old) (H.shelf host.new) }
+{
+    let Some(_) = session.pass else {
+        return Ok(Sealers {
+            receiving: None,
+            sending: None,
+        });
+    };
+    let mut words = match host.entropy() {
+        Ok(words) => words,
+        Err(bad) => return Err(Status::of_host(bad)),
+    };
+    let two = two_of(&mut words);
+    host.back_entropy(0, words);
+    match two {
+        Ok((receiving, sending)) => Ok(Sealers {
+            receiving: Some(receiving),
+            sending: Some(sending),
+        }),
         Err(_) => Err(Status::EntropyFault),
     }
 }

@@ -1,14 +1,15 @@
 //! The session and the settings that a line speaks of.
 ghost use Rattle.std.specs.Prelude.{◌≡◌, false};
-ghost use Rattle.rist_words.specs.Shown.{shown_session};
+ghost use Rattle.rist_words.specs.Shown.{shown_receiver, shown_session};
 ghost use Rattle.rist_words.specs.Ranges.{IsInSession};
 ghost use Rattle.outside_io.specs.declared.profile.Profile.TheVariants.{Simple};
 ghost use Rattle.rist_wire.specs.Session.{IsSession};
-ghost use Rattle.rist_top.specs.Sessions.{session_with};
+ghost use Rattle.rist_top.specs.Sessions.{session_with, settings_with};
 
 use psk_keys::Phrase;
+use rist_ends::Settings;
 use rist_wire::Session;
-use rist_words::SessionWords;
+use rist_words::{ReceiverWords, SessionWords};
 use seq_unwrap::Width;
 
 /// The session of a line whose datagrams are written with null packets deleted, or with numbers of 32 bits.
@@ -30,5 +31,21 @@ pub fn session_of(words: &SessionWords<'_>, nulls: bool, wide: bool) -> Session
         nulls,
         width: if wide { Width::W32 } else { Width::W16 },
         full: words.full,
+    }
+}
+
+/// What the receiver of a line is set to.
+pub fn settings_of(words: &ReceiverWords) -> Settings
+    ensures value { result ≡ settings_with (shown_receiver words.now) }
+{
+    Settings {
+        delay: words.delay,
+        span: words.span,
+        reorder: words.reorder,
+        least: words.least,
+        tries: words.tries,
+        nack: words.nack,
+        own: words.own,
+        muted: false,
     }
 }

@@ -3,6 +3,7 @@ use capture_file::CapKind;
 use capture_walk::WalkBad;
 use outside_host::HostBad;
 use rist_compare::Tear;
+use rist_gateway::GateEnding;
 use rist_pack::PackBad;
 use rist_recv::{Ending, TearText};
 use rist_send::SendFault;
@@ -29,11 +30,11 @@ pub enum Status {
     EntropyFault,
     /// A record ends, or what was read of a source goes, past 2^40 octets.
     TooLong,
-    /// Every link is down: a write on each has failed, or in a receiving each has failed.
+    /// Every link is down: a write on each that is sent on has failed, or each that is received on has failed.
     LinksDown,
     /// A trace of steps was at its limit, and one more step came.
     TraceFull,
-    /// The kept steps of a receiving and those of its links differ there.
+    /// The kept steps of a receiving or a gateway and those of its links differ there.
     Torn(Tear),
     /// The sealer had no pair for the datagrams that were due, or the sequence numbers have ended.
     Spent,
@@ -73,6 +74,7 @@ impl Status {
     ghost use Rattle.rist_top.specs.Works.{walk_status, pack_status, host_status};
     ghost use Rattle.rist_top.specs.Sent.{send_status};
     ghost use Rattle.rist_top.specs.Received.{receive_status};
+    ghost use Rattle.rist_top.specs.Gated.{gate_status};
 
     /// How a walk over a capture ended.
     pub(crate) fn of_walk(end: Result<(), WalkBad>) -> Status
@@ -125,6 +127,19 @@ impl Status {
             Ending::TraceFull => Status::TraceFull,
             Ending::Torn(tear) => Status::Torn(tear),
             Ending::LinksDown => Status::LinksDown,
+        }
+    }
+
+    /// How a gateway ended.
+    pub(crate) fn of_gate(ending: GateEnding) -> Status
+        ensures value { result ≡ gate_status ending }
+    {
+        match ending {
+            GateEnding::Spent => Status::Spent,
+            GateEnding::TraceFull => Status::TraceFull,
+            GateEnding::Torn(tear) => Status::Torn(tear),
+            GateEnding::LinksDown => Status::LinksDown,
+            GateEnding::Done => Status::Done,
         }
     }
 

@@ -1,8 +1,8 @@
 //! The top call, and a line from its objects to its status.
 ghost use Rattle.std.specs.Prelude.{◌≡◌, ◌≢◌, ◌⊎◌, Err, IfOk, IsTrue};
 ghost use Rattle.outside_io.specs.Causes.{HasOpenCause, Rose};
-ghost use Rattle.rist_words.specs.CommandLine.{Recv, RecvCommand, Send, SendCommand};
-ghost use Rattle.rist_words.specs.Shown.{shown, shown_recv};
+ghost use Rattle.rist_words.specs.CommandLine.{Gate, GateCommand, Recv, RecvCommand, Send, SendCommand};
+ghost use Rattle.rist_words.specs.Shown.{shown, shown_gate, shown_recv};
 ghost use Rattle.rist_words.specs.Ranges.{IsInRange};
 ghost use Rattle.rist_top.specs.Causes.{CanRefuse, fault_of};
 ghost use Rattle.rist_top.specs.Lines.{IfReceiving, IsFresh, IsLine, IsNoLine, IsNoPlainLine, IsOverFiles, IsPlain};
@@ -15,20 +15,22 @@ ghost use Rattle.rist_top.specs.Sent.{IsUnused, Sent, Unsent};
 ghost use Rattle.rist_top.specs.Received.{Received, Unreceived};
 ghost use Rattle.rist_top.specs.Complete.{CompletesReceiving};
 ghost use Rattle.rist_top.specs.Does.{Does};
+ghost use Rattle.rist_top.specs.DoesGate.{DoesGate};
 
+use crate::gating::gate_line;
 use crate::receiving::receive_line;
 use crate::sending::send_line;
 use crate::status::Status;
 use crate::telling::Telling;
 use crate::working::{Worked, work};
 use outside_host::Host;
-use rist_words::{Line, RecvLine, Refused, line};
+use rist_words::{GateLine, Line, RecvLine, Refused, line};
 use std::alloc::Global;
 use std::sync::Wait;
 use std::thread::Threads;
 
-/// Does what the words of a command line say, the program's name first, with the objects of a host. A receiving waits for
-/// its links, each in a thread of its own; every other command returns as [`plain`] does. A gateway isn't done yet.
+/// Does what the words of a command line say, the program's name first, with the objects of a host. A receiving and
+/// a gateway wait for their links, each in a thread of its own; every other command returns as [`plain`] does.
 pub fn run<R: Threads + Wait + Sync, H: Host>(
     rt: &R,
     alloc: Global,
@@ -45,7 +47,7 @@ pub fn run<R: Threads + Wait + Sync, H: Host>(
     // What is no line touches nothing.
     ensures same { IsTrue H.tells → IsNoLine words.now → H.shelf host.new ≡ H.shelf host.old }
 
-    // What every command but a receiving leaves.
+    // What every command leaves that waits for nobody.
     ensures does { Does H.tells ⟦<H as Telling>⟧.objects ⟦<H as Telling>⟧.live words.now
         (H.faults host.old) (H.faults host.new) (H.shelf host.old) (H.shelf host.new) result }
 
@@ -74,32 +76,44 @@ pub fn run<R: Threads + Wait + Sync, H: Host>(
     ensures heard { IsUnused H.tells (H.shelf host.old) → (Rose (H.faults host.old) (H.faults host.new) → ⊥)
         → IfReceiving words.now (λ c. CompletesReceiving ⟦<H as Telling>⟧.objects ⟦<H as Telling>⟧.live.line
         (H.shelf host.old) (H.shelf host.new) c result) }
+
+    // What a gateway leaves, and how it ends.
+    ensures gates { DoesGate H.tells ⟦<H as Telling>⟧.objects ⟦<H as Telling>⟧.live words.now
+        (H.faults host.old) (H.faults host.new) (H.shelf host.old) (H.shelf host.new) result }
 {
-    match receiving(alloc, words) {
-        Ok(line) => receive_line(rt, alloc, host, &line),
-        Err(Otherwise::Plain) => plain(alloc, words, host),
-        Err(Otherwise::Memory) => Status::Memory,
+    match waiting_line(alloc, words) {
+        Waiting::Receive(line) => receive_line(rt, alloc, host, &line),
+        Waiting::Gate(line) => gate_line(rt, alloc, host, &line),
+        Waiting::Plain => plain(alloc, words, host),
+        Waiting::Memory => Status::Memory,
     }
 }
 
-/// Why words are no receiving.
-#[derive(Clone, Copy, PartialEq, Eq)]
-enum Otherwise {
-    /// They are another line, or none.
+/// What words are, by whether their command waits.
+#[derive(Drop)]
+enum Waiting<'a> {
+    /// A receiving.
+    Receive(RecvLine<'a>),
+    /// A gateway.
+    Gate(GateLine<'a>),
+    /// Another line, or none.
     Plain,
     /// Memory was refused.
     Memory,
 }
 
-/// The receiving that the words are, if they are one.
-fn receiving<'a>(alloc: Global, words: &'a [String]) -> Result<RecvLine<'a>, Otherwise>
-    ensures ok { IfOk result (λ l. IsLine words.entry.now (Recv (shown_recv l))) }
-    ensures other { (c : RecvCommand) → result ≡ Err Otherwise.Plain → IsLine words.entry.now (Recv c) → ⊥ }
+/// The receiving or the gateway that the words are, if they are one.
+fn waiting_line<'a>(alloc: Global, words: &'a [String]) -> Waiting<'a>
+    ensures receive { (l : _) → result ≡ Waiting.Receive l → IsLine words.entry.now (Recv (shown_recv l)) }
+    ensures gate { (l : _) → result ≡ Waiting.Gate l → IsLine words.entry.now (Gate (shown_gate l)) }
+    ensures no_receive { (c : RecvCommand) → result ≡ Waiting.Plain → IsLine words.entry.now (Recv c) → ⊥ }
+    ensures no_gate { (c : GateCommand) → result ≡ Waiting.Plain → IsLine words.entry.now (Gate c) → ⊥ }
 {
     match line(alloc, words) {
-        Ok(Line::Recv(line)) => Ok(line),
-        Ok(_) | Err(Refused::Usage) => Err(Otherwise::Plain),
-        Err(Refused::Memory) => Err(Otherwise::Memory),
+        Ok(Line::Recv(line)) => Waiting::Receive(line),
+        Ok(Line::Gate(line)) => Waiting::Gate(line),
+        Ok(_) | Err(Refused::Usage) => Waiting::Plain,
+        Err(Refused::Memory) => Waiting::Memory,
     }
 }
 

@@ -43,7 +43,8 @@ usage: rist COMMAND [OPTION..] ARGUMENT..
       --keep STEPS            steps kept to be compared at the end, 1 to 65536, or 0: none
                               (default 0)
 
-  rist gate LINK..            to come: receive on the first links, and send on the others
+  rist gate LINK..            receive on the first links, and send on over the others, each payload
+                              as it is played out
       --in LINKS              how many links receive, at least one and not all (default 1)
       --delay, --span, --reorder, --least, --tries, --nack, --own, --turns, --idle, --keep,
                               as of recv

@@ -2,6 +2,7 @@
 use Rattle.std.specs.Prelude.{◌≡◌, ◌<◌, ℕ, List, [], ◌∷◌, ◌++◌, length}
 use Rattle.outside_host.specs.Shelf.{HandsOut}
 use Rattle.outside_host.specs.declared.host.Place.{Place}
+use Rattle.host_links.specs.Opening.{AreAsTheyWere, AreOut}
 
 -- the link behind these was handed out
 pub record IsNextOut {L : Type 0} (old new : ℕ → Place L) (had has : List L) : Type 0 where
@@ -12,3 +13,11 @@ pub record IsNextOut {L : Type 0} (old new : ℕ → Place L) (had has : List L)
 -- the first places stand as they stood
 abbrev pub StayFirst : {L : Type 0} → ℕ → (ℕ → Place L) → (ℕ → Place L) → Type 0
 StayFirst count old new = (place : ℕ) → place < count → new place ≡ old place
+
+-- wherever these were out, all of those are now
+abbrev pub GoOut : {L : Type 0} → (ℕ → Place L) → (ℕ → Place L) → List L → List L → Type 0
+GoOut {L} old new had has = (base : ℕ → Place L) → AreOut base old had → AreOut base new has
+
+-- wherever these were out, each place is now as it was before
+abbrev pub ComeBack : {L : Type 0} → (ℕ → Place L) → (ℕ → Place L) → List L → Type 0
+ComeBack {L} old new had = (base : ℕ → Place L) → AreOut base old had → AreAsTheyWere base new

@@ -1,5 +1,6 @@
 -- What the parts of a run answer.
-use Rattle.std.specs.Prelude.{◌≡◌, ◌≢◌, Result, Ok, Err}
+use Rattle.std.specs.Prelude.{◌≡◌, ◌≢◌, ℕ, List, Option, Result, Ok, Err}
+use Rattle.psk_seal.specs.Nonces.{Draws}
 use Rattle.outside_host.specs.Shelf.{Shelf, Stays}
 use Rattle.rist_top.specs.declared.status.Status.{Status}
 use Rattle.rist_top.specs.declared.status.Status.TheVariants as statuses
@@ -37,3 +38,9 @@ pub record KeepsButTiming {I O E L C : Type 0} (old new : Shelf I O E L C) : Typ
 pub record KeepsFiles {I O E L C : Type 0} (old new : Shelf I O E L C) : Type 0 where
   pub sources : new.sources ≡ old.sources
   pub sinks : new.sinks ≡ old.sinks
+
+-- sixteen nonces were drawn, and sixteen others behind them
+pub record AreDrawnApart (old new : Option (List ℕ)) (first second : List ℕ) : Type 0 where
+  pub between : Option (List ℕ)
+  pub nonces : Draws old between first 16
+  pub more : Draws between new second 16

@@ -1,9 +1,10 @@
--- What a run of receiving leaves under its host.
+-- What a run of receiving, or of a gateway, leaves under its host.
 use Rattle.std.specs.Prelude.{◌≡◌, List, Option, Some, Bool, IsTrue}
 use Rattle.outside_host.specs.Shelf.{Shelf}
 use Rattle.psk_seal.specs.Sealer.{SealerState}
 use Rattle.rist_ends.specs.declared.counts.Counts.{Counts}
-use Rattle.rist_words.specs.CommandLine.{RecvCommand}
+use Rattle.rist_words.specs.CommandLine.{RecvCommand, GateCommand}
+use Rattle.rist_top.specs.Gated.{GatesAs}
 use Rattle.rist_top.specs.Objects.{Tells}
 use Rattle.rist_top.specs.Received.{ReceivesAs, reception_of}
 use Rattle.rist_top.specs.Sent.{TellsLive}
@@ -16,3 +17,10 @@ pub record Hears {I O E L C : Type 0} (tells : Tells I O E) (live : TellsLive L 
   pub reported : IsTrue told → new.report ≡ Some (reception_of counts)
   pub receives : ReceivesAs live c sealer links_were links_are clocks_were clocks_are (tells.contents sink) (tells.contents filled)
       (tells.write_faults sink) (tells.write_faults filled) counts status
+
+-- the same of a gateway
+pub record Passes {I O E L C : Type 0} (live : TellsLive L C) (told : Bool) (new : Shelf I O E L C) (c : GateCommand) (receiving sending : Option SealerState)
+    (links_were links_are : List L) (clocks_were clocks_are : List C) (status : Status) : Type 0 where
+  pub counts : Counts
+  pub reported : IsTrue told → new.report ≡ Some (reception_of counts)
+  pub gates : GatesAs live c receiving sending links_were links_are clocks_were clocks_are counts status

@@ -1,7 +1,7 @@
 -- Each clock that was had is out, or comes back as it was.
-use Rattle.std.proofs.Common.{rules, arith, ap, sym, ◌∙◌, ◌+◌, length, length-append, subst}
+use Rattle.std.proofs.Common.{subst}
 use Rattle.host_links.specs.Opening.{AreBack}
-use Rattle.host_links.proofs.OpeningLemmas.{one_out, all_as_they_were}
+use Rattle.host_links.proofs.OpeningLemmas.{all_as_they_were}
 use Rattle.host_links.proofs.timing.open_clocks.Goals as goal
 
 pub returns-in-Err-start_next-clause-err : goal.returns-in-Err-start_next-clause-err

@@ -1,24 +1,128 @@
--- A receiving is none of the other commands, and they are no receiving.
-use Rattle.std.proofs.Common.{subst}
+-- A command that waits is none of the others, and they are none that waits.
+use Rattle.std.proofs.Common.{◌≡◌, ap, subst}
 use Rattle.outside_io.specs.Causes.{HasOpenCause}
 use Rattle.rist_words.proofs.RangeLemmas.{line_range}
-use Rattle.rist_words.specs.CommandLine.{Recv}
+use Rattle.rist_words.specs.CommandLine.{Gate, Recv}
 use Rattle.rist_top.specs.Causes.{fault_of}
-use Rattle.rist_top.proofs.DoesLemmas.{same_receiving}
+use Rattle.rist_top.specs.Frame.{KeepsAroundGate, KeepsAroundSink, OpensLinksAfterSink, links_gated, links_received}
+use Rattle.rist_top.specs.Received.{Unreceived}
+use Rattle.rist_top.proofs.DoesLemmas.{does_no_gate, does_no_line, gate_is_none, gates_nothing, is_line, no_both, no_line, no_plain_line, receiving_is_none, same_gate, same_receiving}
+use Rattle.rist_top.proofs.GatingLemmas.{gated_completes, gated_same, gating_same}
 use Rattle.rist_top.proofs.HeardLemmas.{completes_same, received_completes, received_same}
 use Rattle.rist_top.proofs.top.run.Goals as goal
 
 pub receive_line-requires-clause-range : goal.receive_line-requires-clause-range
-receive_line-requires-clause-range g c = λ κs within. line_range _ (Recv _) c.in-Ok.ensures.ok
+receive_line-requires-clause-range g c = λ κs within. line_range _ (Recv _) (c.waiting_line.ensures.receive _ c.in-Receive.is)
 
-pub returns-in-Ok-clause-received : goal.returns-in-Ok-clause-received
-returns-in-Ok-clause-received g c unused ran k is =
-    received_same _ _ (g.H.Host.shelf c.args.host.now) (g.H.Host.shelf c.receive_line.new.host) _ k c.receive_line.result (same_receiving _ _ k c.in-Ok.ensures.ok is)
-    (c.receive_line.ensures.received unused ran)
+pub gate_line-requires-clause-range : goal.gate_line-requires-clause-range
+gate_line-requires-clause-range g c = λ κs within. line_range _ (Gate _) (c.waiting_line.ensures.gate _ c.in-Gate.is)
 
-pub returns-in-Ok-clause-heard : goal.returns-in-Ok-clause-heard
-returns-in-Ok-clause-heard g c unused opened k is =
-    completes_same _ _ (g.H.Host.shelf c.args.host.now) (g.H.Host.shelf c.receive_line.new.host) _ k c.receive_line.result (same_receiving _ _ k c.in-Ok.ensures.ok is)
+pub returns-in-Receive-clause-received : goal.returns-in-Receive-clause-received
+returns-in-Receive-clause-received g c unused ran k is =
+    received_same _ _ (g.H.Host.shelf c.args.host.now) (g.H.Host.shelf c.receive_line.new.host) _ k c.receive_line.result
+    (same_receiving _ _ k (c.waiting_line.ensures.receive _ c.in-Receive.is) is) (c.receive_line.ensures.received unused ran)
+
+pub returns-in-Receive-clause-heard : goal.returns-in-Receive-clause-heard
+returns-in-Receive-clause-heard g c unused opened k is =
+    completes_same _ _ (g.H.Host.shelf c.args.host.now) (g.H.Host.shelf c.receive_line.new.host) _ k c.receive_line.result
+    (same_receiving _ _ k (c.waiting_line.ensures.receive _ c.in-Receive.is) is)
     (received_completes _ _ (g.H.Host.shelf c.args.host.now) (g.H.Host.shelf c.receive_line.new.host) _ c.receive_line.result
     (λ e. opened (subst (λ s. HasOpenCause (fault_of s) (g.H.Host.faults c.args.host.now) (g.H.Host.faults c.receive_line.new.host)) e c.receive_line.ensures.opened))
     (λ failed. c.receive_line.ensures.random unused failed) (λ ran. c.receive_line.ensures.received unused ran))
+
+pub returns-in-Receive-clause-does : goal.returns-in-Receive-clause-does
+returns-in-Receive-clause-does g c = does_no_line _ _ _ _ _ _ _ _ _ (receiving_is_none _ _ (c.waiting_line.ensures.receive _ c.in-Receive.is))
+
+pub returns-in-Receive-clause-gates : goal.returns-in-Receive-clause-gates
+returns-in-Receive-clause-gates g c = does_no_gate _ _ _ _ _ _ _ _ _ (λ k is. no_both _ _ k (c.waiting_line.ensures.receive _ c.in-Receive.is) is)
+
+pub returns-in-Gate-clause-does : goal.returns-in-Gate-clause-does
+returns-in-Gate-clause-does g c = does_no_line _ _ _ _ _ _ _ _ _ (gate_is_none _ _ (c.waiting_line.ensures.gate _ c.in-Gate.is))
+
+pub returns-in-Gate-clause-gates : goal.returns-in-Gate-clause-gates
+returns-in-Gate-clause-gates g c =
+    let old = g.H.Host.shelf c.args.host.now in
+    let new = g.H.Host.shelf c.gate_line.new.host in
+    record {
+      gated = λ unused ran k is.
+          gated_same _ _ old new _ k c.gate_line.result (same_gate _ _ k (c.waiting_line.ensures.gate _ c.in-Gate.is) is) (c.gate_line.ensures.gated unused ran);
+      ungated = λ unused refused k is. c.gate_line.ensures.ungated unused refused;
+      around = λ unused k is. subst (KeepsAroundGate old new) (same_gate _ _ k (c.waiting_line.ensures.gate _ c.in-Gate.is) is) (c.gate_line.ensures.around unused);
+      links_opened = λ unused ran k is.
+          subst (λ x. new.opened_links ≡ links_gated x) (same_gate _ _ k (c.waiting_line.ensures.gate _ c.in-Gate.is) is) (c.gate_line.ensures.links_opened unused ran);
+      random = λ unused failed k is. c.gate_line.ensures.random unused failed;
+      complete = λ unused opened k is.
+          gating_same _ _ old new _ k c.gate_line.result (same_gate _ _ k (c.waiting_line.ensures.gate _ c.in-Gate.is) is)
+          (gated_completes _ _ old new _ c.gate_line.result
+          (λ e. opened (subst (λ s. HasOpenCause (fault_of s) (g.H.Host.faults c.args.host.now) (g.H.Host.faults c.gate_line.new.host)) e c.gate_line.ensures.opened))
+          (λ failed. c.gate_line.ensures.random unused failed) (λ ran. c.gate_line.ensures.gated unused ran));
+    }
+
+pub returns-in-Plain-clause-gates : goal.returns-in-Plain-clause-gates
+returns-in-Plain-clause-gates g c = does_no_gate _ _ _ _ _ _ _ _ _ (λ k is. c.waiting_line.ensures.no_gate k c.in-Plain.is is)
+
+pub returns-in-Memory-clause-gates : goal.returns-in-Memory-clause-gates
+returns-in-Memory-clause-gates g c = gates_nothing _ _ _ _ _ _
+
+pub returns-in-Receive-clause-refused : goal.returns-in-Receive-clause-refused
+returns-in-Receive-clause-refused g c none = absurd (is_line _ _ (c.waiting_line.ensures.receive _ c.in-Receive.is) none)
+
+pub returns-in-Receive-clause-same : goal.returns-in-Receive-clause-same
+returns-in-Receive-clause-same g c tells none = absurd (is_line _ _ (c.waiting_line.ensures.receive _ c.in-Receive.is) none)
+
+pub returns-in-Receive-clause-unreceived : goal.returns-in-Receive-clause-unreceived
+returns-in-Receive-clause-unreceived g c unused refused k is =
+    subst (λ x. Unreceived (g.H.Host.shelf c.args.host.now) (g.H.Host.shelf c.receive_line.new.host) x)
+    (same_receiving _ _ k (c.waiting_line.ensures.receive _ c.in-Receive.is) is) (c.receive_line.ensures.unreceived unused refused)
+
+pub returns-in-Receive-clause-around : goal.returns-in-Receive-clause-around
+returns-in-Receive-clause-around g c unused k is =
+    subst (λ x. KeepsAroundSink (g.H.Host.shelf c.args.host.now) (g.H.Host.shelf c.receive_line.new.host) x)
+    (same_receiving _ _ k (c.waiting_line.ensures.receive _ c.in-Receive.is) is) (c.receive_line.ensures.around unused)
+
+pub returns-in-Receive-clause-links_opened : goal.returns-in-Receive-clause-links_opened
+returns-in-Receive-clause-links_opened g c unused ran k is =
+    subst (λ x. (g.H.Host.shelf c.receive_line.new.host).opened_links ≡ links_received x)
+    (same_receiving _ _ k (c.waiting_line.ensures.receive _ c.in-Receive.is) is) (c.receive_line.ensures.links_opened unused ran)
+
+pub returns-in-Receive-clause-links_after : goal.returns-in-Receive-clause-links_after
+returns-in-Receive-clause-links_after g c tells k is =
+    subst (λ x. OpensLinksAfterSink (g.H.Host.shelf c.args.host.now) (g.H.Host.shelf c.receive_line.new.host) x)
+    (same_receiving _ _ k (c.waiting_line.ensures.receive _ c.in-Receive.is) is) (c.receive_line.ensures.order tells)
+
+pub returns-in-Gate-clause-refused : goal.returns-in-Gate-clause-refused
+returns-in-Gate-clause-refused g c none = absurd (is_line _ _ (c.waiting_line.ensures.gate _ c.in-Gate.is) none)
+
+pub returns-in-Gate-clause-same : goal.returns-in-Gate-clause-same
+returns-in-Gate-clause-same g c tells none = absurd (is_line _ _ (c.waiting_line.ensures.gate _ c.in-Gate.is) none)
+
+pub returns-in-Gate-clause-received : goal.returns-in-Gate-clause-received
+returns-in-Gate-clause-received g c unused ran k is = absurd (no_both _ k _ is (c.waiting_line.ensures.gate _ c.in-Gate.is))
+
+pub returns-in-Gate-clause-unreceived : goal.returns-in-Gate-clause-unreceived
+returns-in-Gate-clause-unreceived g c unused refused k is = absurd (no_both _ k _ is (c.waiting_line.ensures.gate _ c.in-Gate.is))
+
+pub returns-in-Gate-clause-around : goal.returns-in-Gate-clause-around
+returns-in-Gate-clause-around g c unused k is = absurd (no_both _ k _ is (c.waiting_line.ensures.gate _ c.in-Gate.is))
+
+pub returns-in-Gate-clause-links_opened : goal.returns-in-Gate-clause-links_opened
+returns-in-Gate-clause-links_opened g c unused ran k is = absurd (no_both _ k _ is (c.waiting_line.ensures.gate _ c.in-Gate.is))
+
+pub returns-in-Gate-clause-links_after : goal.returns-in-Gate-clause-links_after
+returns-in-Gate-clause-links_after g c tells k is = absurd (no_both _ k _ is (c.waiting_line.ensures.gate _ c.in-Gate.is))
+
+pub returns-in-Gate-clause-random : goal.returns-in-Gate-clause-random
+returns-in-Gate-clause-random g c unused failed k is = absurd (no_both _ k _ is (c.waiting_line.ensures.gate _ c.in-Gate.is))
+
+pub returns-in-Gate-clause-heard : goal.returns-in-Gate-clause-heard
+returns-in-Gate-clause-heard g c unused opened k is = absurd (no_both _ k _ is (c.waiting_line.ensures.gate _ c.in-Gate.is))
+
+pub returns-in-Plain-clause-usage : goal.returns-in-Plain-clause-usage
+returns-in-Plain-clause-usage g c used =
+    no_line _ (λ k is. c.waiting_line.ensures.no_receive k c.in-Plain.is is) (λ k is. c.waiting_line.ensures.no_gate k c.in-Plain.is is) (c.plain.ensures.usage used)
+
+pub returns-in-Plain-clause-refused : goal.returns-in-Plain-clause-refused
+returns-in-Plain-clause-refused g c none = c.plain.ensures.refused (no_plain_line _ none)
+
+pub returns-in-Plain-clause-same : goal.returns-in-Plain-clause-same
+returns-in-Plain-clause-same g c tells none = c.plain.ensures.same tells (no_plain_line _ none)

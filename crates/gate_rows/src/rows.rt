@@ -1,0 +1,122 @@
+//! What gateways are told to do, and what has to come of them.
+
+/// A command line; the letters of the packets that each link brings which is received on, and the moments of its clock;
+/// which writes fail of each link that is sent on; after how many packets those give a request for number 1, or none
+/// with 0; which draws of random words fail; the exit status; and of a link, by its place, the letters of the packets
+/// that it took, numbered from 0, and the letter of number 1 where it was sent again.
+#[derive(Clone, Copy)]
+pub struct Row<'a> {
+    pub line: &'a str,
+    pub inputs: &'a [&'a [u8]],
+    pub moments: &'a [u64],
+    pub outputs: &'a [&'a [u64]],
+    pub asks_after: usize,
+    pub draws: &'a [u64],
+    pub exit: u8,
+    pub place: u8,
+    pub taken: &'a [u8],
+    pub again: Option<u8>,
+}
+
+/// Three packets on one link, which go on over another.
+const SINGLE: Row<'static> = Row {
+    line: "rist gate 127.0.0.1:5000 127.0.0.1:5002",
+    inputs: &[b"ABC"],
+    moments: &[],
+    outputs: &[&[]],
+    asks_after: 0,
+    draws: &[],
+    exit: 0,
+    place: 1,
+    taken: b"ABC",
+    again: None,
+};
+
+/// Two links that are sent on.
+const PAIR: Row<'static> = Row {
+    line: "rist gate 127.0.0.1:5000 127.0.0.1:5002 127.0.0.1:5004",
+    outputs: &[&[], &[]],
+    ..SINGLE
+};
+
+/// A passphrase, for which thirty-two random words are drawn.
+const SEALED: Row<'static> = Row {
+    line: "rist gate 127.0.0.1:5000 127.0.0.1:5002 --profile main --pass x",
+    exit: 11,
+    taken: b"",
+    ..SINGLE
+};
+
+/// What is no line.
+const NO_LINE: Row<'static> = Row {
+    exit: 2,
+    taken: b"",
+    ..SINGLE
+};
+
+/// Packets that are played out 2 s later, before their link ends, and a request for the second, which is answered; and
+/// two links that share three packets, one of them on both.
+pub const ENDS: &[Row<'static>] = &[
+    Row {
+        moments: &[0, 0, 0, 2_000_000],
+        asks_after: 3,
+        again: Some(b'B'),
+        ..SINGLE
+    },
+    Row {
+        line: "rist gate 127.0.0.1:5000 127.0.0.1:5002 127.0.0.1:5004 --in 2 --keep 64",
+        inputs: &[b"AC", b"BC"],
+        place: 2,
+        ..SINGLE
+    },
+    PAIR,
+];
+
+/// A first write that fails, where no other link is there to send on, and where one is.
+pub const BREAKS: &[Row<'static>] = &[
+    Row {
+        outputs: &[&[0]],
+        exit: 6,
+        taken: b"",
+        ..SINGLE
+    },
+    Row {
+        outputs: &[&[0], &[]],
+        place: 2,
+        ..PAIR
+    },
+];
+
+/// The first random word of the receiver, and the first and the last of the sender, that can't be had.
+pub const DRAWS: &[Row<'static>] = &[
+    Row {
+        draws: &[0],
+        ..SEALED
+    },
+    Row {
+        draws: &[16],
+        ..SEALED
+    },
+    Row {
+        draws: &[31],
+        ..SEALED
+    },
+];
+
+/// One link of three that can't be opened; and what is no line.
+pub const REFUSALS: &[Row<'static>] = &[
+    Row {
+        outputs: &[],
+        exit: 3,
+        taken: b"",
+        ..SINGLE
+    },
+    Row {
+        line: "rist gate --in 1 127.0.0.1:5000",
+        ..NO_LINE
+    },
+    Row {
+        line: "rist gate 127.0.0.1:5000 127.0.0.1:5002 --in 2",
+        ..NO_LINE
+    },
+];

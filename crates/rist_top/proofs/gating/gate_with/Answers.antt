@@ -1,0 +1,26 @@
+-- What was made is what the line says, and what the run left is the line's.
+use Rattle.std.proofs.Common.{◌≡◌, length, subst, arith}
+use Rattle.rist_send.specs.Served.{line_of}
+use Rattle.rist_gateway.specs.Run.{Forwards}
+use Rattle.rist_gateway.specs.Setup.{gate_setup_of}
+use Rattle.rist_words.specs.Shown.{shown_gate}
+use Rattle.rist_top.specs.Sessions.{limits_served, setup_gated}
+use Rattle.rist_top.proofs.gating.gate_with.Goals as goal
+
+pub returns-clause-work : goal.returns-clause-work
+returns-clause-work g c =
+    let line = shown_gate c.args.line.now in
+    let tells = line_of g.L.Link.taken g.L.Link.knows g.L.Link.faults g.L.Link.reads g.L.Link.ends in
+    let inputs : c.len.result ≡ length c.args.line.now.inputs.items = omega (arith, c.len.ensures) in
+    record {
+      ending = c.gate_on-ending.result.ending;
+      answer = c.of_gate.ensures.value;
+      run = subst
+          (λ n. Forwards g.C.Clock.moments tells (setup_gated line c.args.sealers.receiving c.args.sealers.sending) (limits_served line.serving) n
+          c.args.links.now.items c.gate_on-ending.new.links.items c.args.clocks.now.items c.gate_on-ending.new.clocks.items
+          c.gate_on-ending.result.counts c.gate_on-ending.result.ending) inputs
+          (subst
+          (λ s. Forwards g.C.Clock.moments tells s (limits_served line.serving) c.len.result
+          c.args.links.now.items c.gate_on-ending.new.links.items c.args.clocks.now.items c.gate_on-ending.new.clocks.items
+          c.gate_on-ending.result.counts c.gate_on-ending.result.ending) c.in-Ok.ensures.setup c.gate_on-ending.ensures.work);
+    }

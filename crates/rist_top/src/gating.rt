@@ -1,0 +1,297 @@
+//! A gateway, from its objects to its status.
+ghost use Rattle.std.specs.Prelude.{◌≡◌, ◌≢◌, ◌+◌, IsTrue, IfOk, OnErr, length, is_some};
+ghost use Rattle.outside_io.specs.Causes.{HasOpenCause};
+ghost use Rattle.outside_host.specs.Shelf.{ChangesReport};
+ghost use Rattle.host_links.specs.Opening.{AreAsTheyWere};
+ghost use Rattle.rist_gateway.specs.Setup.{IsGateMade, gate_setup_of};
+ghost use Rattle.rist_words.specs.Shown.{shown_gate};
+ghost use Rattle.rist_words.specs.Ranges.{IsInGate};
+ghost use Rattle.rist_top.specs.Causes.{CanRefuse, fault_of};
+ghost use Rattle.rist_top.specs.Sealing.{FailedAt};
+ghost use Rattle.rist_top.specs.Sessions.{bonding_with, sender_gated, setup_gated, steps_kept};
+ghost use Rattle.rist_top.specs.Works.{IsFreshFor};
+ghost use Rattle.rist_top.specs.Sent.{IsUnused, live_of};
+ghost use Rattle.rist_top.specs.Gated.{GatedByClocks, Gated, GatesAs, Ungated};
+ghost use Rattle.rist_top.specs.Frame.{KeepsAroundGate, KeepsLinksBut, KeepsWords, links_gated};
+ghost use Rattle.rist_top.specs.Inside.Answers.{KeepsButTiming};
+ghost use Rattle.rist_top.specs.Inside.Heard.{Passes};
+
+use crate::receiving::reception_of;
+use crate::sealing::{Sealers, sealers_for};
+use crate::sessions::{session_of, settings_of};
+use crate::status::Status;
+use crate::telling::Telling;
+use bond_links::Bond;
+use host_links::{back_clocks, back_links, open_both, open_clocks};
+use outside_host::Host;
+use outside_io::NoMemory;
+use outside_net::{Clock, Kept, Link, Quiet};
+use rist_desk::{Limits, Step};
+use rist_ends::Counts;
+use rist_gateway::{Made, gate_on};
+use rist_recv::MadeTrace;
+use rist_sender::Settings;
+use rist_words::GateLine;
+use std::alloc::Global;
+use std::sync::Wait;
+use std::thread::Threads;
+
+// How the links that a line sends on have its packets.
+fn bond_of(line: &GateLine<'_>) -> Bond
+    requires range { IsInGate (shown_gate line.now) }
+    ensures value { result ≡ bonding_with (length line.now.outputs.items) (shown_gate line.now).share }
+{
+    match &line.share {
+        None => Bond::duplicate(line.outputs.len() as u8),
+        Some(weights) => Bond::share(weights.as_slice()),
+    }
+}
+
+// What the sender of a line is set to.
+fn sender_settings(line: &GateLine<'_>) -> Settings
+    requires range { IsInGate (shown_gate line.now) }
+    ensures value { result ≡ sender_gated (shown_gate line.now) }
+{
+    Settings {
+        flow: line.stream.flow,
+        first: line.stream.first,
+        store: line.store as usize,
+        hold: line.hold as u16,
+        bond: bond_of(line),
+    }
+}
+
+// Takes the memory for the run of a line, with traces of one kind.
+fn made_for<T: MadeTrace + Drop, L: Drop, C: Drop>(
+    alloc: Global,
+    line: &GateLine<'_>,
+    sealers: Sealers,
+) -> Result<Made<T, L, C>, NoMemory>
+    requires range { IsInGate (shown_gate line.now) }
+    requires kind { T.told ≡ is_some (steps_kept (shown_gate line.now).serving) }
+    requires receiving { IsFreshFor (shown_gate line.now).session sealers.receiving }
+    requires sending { IsFreshFor (shown_gate line.now).session sealers.sending }
+    ensures setup { IfOk result (λ made. gate_setup_of T.limit made
+        ≡ setup_gated (shown_gate line.now) sealers.receiving sealers.sending) }
+    ensures made { IfOk result (λ made. IsGateMade T.list T.limit
+        (length line.now.inputs.items) (length line.now.outputs.items) made) }
+{
+    let session = session_of(&line.session, false, false);
+    let receiving = match rist_recv::make::<T, L, C>(
+        alloc,
+        &settings_of(&line.receiver),
+        &session,
+        sealers.receiving,
+        line.inputs.len(),
+        line.serving.keep as usize,
+    ) {
+        Ok(receiving) => receiving,
+        Err(refused) => return Err(refused),
+    };
+    let onward = session_of(&line.session, line.stream.nulls, line.stream.wide);
+    rist_gateway::make(
+        alloc,
+        receiving,
+        line.inputs.len(),
+        sender_settings(line),
+        &onward,
+        sealers.sending,
+        line.outputs.len(),
+    )
+}
+
+// Receives on the first links and sends on over the others, with traces of one kind.
+fn gate_with<
+    T: MadeTrace + Drop + Send,
+    L: Link + Drop + Send,
+    C: Clock + Drop + Send,
+    R: Threads + Wait + Sync,
+>(
+    rt: &R,
+    alloc: Global,
+    line: &GateLine<'_>,
+    sealers: Sealers,
+    links: &mut Vec<L>,
+    clocks: &mut Vec<C>,
+) -> Result<(Status, Counts), NoMemory>
+    requires range { IsInGate (shown_gate line.now) }
+    requires kind { T.told ≡ is_some (steps_kept (shown_gate line.now).serving) }
+    requires receiving { IsFreshFor (shown_gate line.now).session sealers.receiving }
+    requires sending { IsFreshFor (shown_gate line.now).session sealers.sending }
+    requires count { length links.old.items ≡ length line.now.inputs.items + length line.now.outputs.items }
+    requires clocks { length clocks.old.items ≡ length line.now.inputs.items + length line.now.outputs.items + 1 }
+    ensures work { IfOk result (λ ended. GatesAs
+        (live_of (record { taken = L.taken; knows = L.knows; faults = L.faults; reads = L.reads; ends = L.ends })
+        C.moments)
+        (shown_gate line.now) sealers.receiving sealers.sending links.old.items links.new.items
+        clocks.old.items clocks.new.items ended.1 ended.0) }
+    ensures memory { OnErr result ((links.new ≡ links.old) × (clocks.new ≡ clocks.old)) }
+    ensures line { IfOk result (λ ended. ended.0 ≢ Status.Usage) }
+    ensures ran { IfOk result (λ ended. CanRefuse ended.0 → ⊥) }
+    ensures links { length links.new.items ≡ length links.old.items }
+    ensures clocks { length clocks.new.items ≡ length clocks.old.items }
+{
+    let made = match made_for::<T, L, C>(alloc, line, sealers) {
+        Ok(made) => made,
+        Err(refused) => return Err(refused),
+    };
+    let limits = Limits {
+        turns: line.serving.turns,
+        idle: 1000 * line.serving.idle,
+    };
+    let rist_gateway::Gated { ending, counts } = gate_on(
+        rt,
+        made,
+        links,
+        clocks,
+        line.inputs.len(),
+        line.outputs.len(),
+        &limits,
+    );
+    Ok((Status::of_gate(ending), counts))
+}
+
+// Receives on the first links and sends on over the others; the receiver's steps are kept where the line says so.
+fn gate_kept<L: Link + Drop + Send, C: Clock + Drop + Send, R: Threads + Wait + Sync>(
+    rt: &R,
+    alloc: Global,
+    line: &GateLine<'_>,
+    sealers: Sealers,
+    links: &mut Vec<L>,
+    clocks: &mut Vec<C>,
+) -> Result<(Status, Counts), NoMemory>
+    requires range { IsInGate (shown_gate line.now) }
+    requires receiving { IsFreshFor (shown_gate line.now).session sealers.receiving }
+    requires sending { IsFreshFor (shown_gate line.now).session sealers.sending }
+    requires count { length links.old.items ≡ length line.now.inputs.items + length line.now.outputs.items }
+    requires clocks { length clocks.old.items ≡ length line.now.inputs.items + length line.now.outputs.items + 1 }
+    ensures work { IfOk result (λ ended. GatesAs
+        (live_of (record { taken = L.taken; knows = L.knows; faults = L.faults; reads = L.reads; ends = L.ends })
+        C.moments)
+        (shown_gate line.now) sealers.receiving sealers.sending links.old.items links.new.items
+        clocks.old.items clocks.new.items ended.1 ended.0) }
+    ensures memory { OnErr result ((links.new ≡ links.old) × (clocks.new ≡ clocks.old)) }
+    ensures line { IfOk result (λ ended. ended.0 ≢ Status.Usage) }
+    ensures ran { IfOk result (λ ended. CanRefuse ended.0 → ⊥) }
+    ensures links { length links.new.items ≡ length links.old.items }
+    ensures clocks { length clocks.new.items ≡ length clocks.old.items }
+{
+    if line.serving.keep == 0 {
+        gate_with::<Quiet, L, C, R>(rt, alloc, line, sealers, links, clocks)
+    } else {
+        gate_with::<Kept<Step>, L, C, R>(rt, alloc, line, sealers, links, clocks)
+    }
+}
+
+// Runs on links and clocks, and tells the host what the receiver counted.
+fn gate_sealed<R: Threads + Wait + Sync, H: Host>(
+    rt: &R,
+    alloc: Global,
+    host: &mut H,
+    line: &GateLine<'_>,
+    sealers: Sealers,
+    links: &mut Vec<H::Wire>,
+    clocks: &mut Vec<H::Time>,
+) -> Status
+    requires range { IsInGate (shown_gate line.now) }
+    requires receiving { IsFreshFor (shown_gate line.now).session sealers.receiving }
+    requires sending { IsFreshFor (shown_gate line.now).session sealers.sending }
+    requires count { length links.old.items ≡ length line.now.inputs.items + length line.now.outputs.items }
+    requires clocks { length clocks.old.items ≡ length line.now.inputs.items + length line.now.outputs.items + 1 }
+    ensures work { (CanRefuse result → ⊥) → Passes ⟦<H as Telling>⟧.live H.tells (H.shelf host.new)
+        (shown_gate line.now) sealers.receiving sealers.sending links.old.items links.new.items
+        clocks.old.items clocks.new.items result }
+    ensures refused { CanRefuse result → (result ≡ Status.Memory) × (links.new ≡ links.old)
+        × (clocks.new ≡ clocks.old) × (host.new ≡ host.old) }
+    ensures line { result ≢ Status.Usage }
+    ensures same { IsTrue H.tells → ChangesReport (H.shelf host.old) (H.shelf host.new) }
+    ensures opened { H.faults host.new ≡ H.faults host.old }
+    ensures links { length links.new.items ≡ length links.old.items }
+    ensures clocks { length clocks.new.items ≡ length clocks.old.items }
+{
+    match gate_kept(rt, alloc, line, sealers, links, clocks) {
+        Ok((status, counts)) => {
+            host.report(&reception_of(&counts));
+            status
+        }
+        Err(_) => Status::Memory,
+    }
+}
+
+// Runs on links by the host's next clocks, under sealers where the line has a passphrase.
+fn gate_by_clocks<R: Threads + Wait + Sync, H: Host>(
+    rt: &R,
+    alloc: Global,
+    host: &mut H,
+    line: &GateLine<'_>,
+    links: &mut Vec<H::Wire>,
+) -> Status
+    requires range { IsInGate (shown_gate line.now) }
+    requires count { length links.old.items ≡ length line.now.inputs.items + length line.now.outputs.items }
+    ensures gated { IsTrue H.tells → (H.shelf host.old).next_clock ≡ 0 → (H.shelf host.old).next_entropy ≡ 0
+        → (CanRefuse result → ⊥) → GatedByClocks ⟦<H as Telling>⟧.objects ⟦<H as Telling>⟧.live
+        (H.shelf host.old) (H.shelf host.new) (shown_gate line.now) links.old.items links.new.items result }
+    ensures ungated { CanRefuse result → links.new ≡ links.old }
+    ensures clocks { IsTrue H.tells → (H.shelf host.old).next_clock ≡ 0 → CanRefuse result
+        → AreAsTheyWere (H.shelf host.old).clocks (H.shelf host.new).clocks }
+    ensures unreported { IsTrue H.tells → CanRefuse result → (H.shelf host.new).report ≡ (H.shelf host.old).report }
+    ensures random { IsTrue H.tells → (H.shelf host.old).next_entropy ≡ 0 → result ≡ Status.EntropyFault
+        → FailedAt ⟦<H as Telling>⟧.objects (H.shelf host.old) (H.shelf host.new) }
+    ensures others { IsTrue H.tells → KeepsButTiming (H.shelf host.old) (H.shelf host.new) }
+    ensures times { IsTrue H.tells → (H.shelf host.old).next_clock ≡ 0
+        → KeepsLinksBut (length line.now.inputs.items + length line.now.outputs.items + 1)
+        (H.shelf host.old).clocks (H.shelf host.new).clocks }
+    ensures words { IsTrue H.tells → (H.shelf host.old).next_entropy ≡ 0
+        → KeepsWords (H.shelf host.old) (H.shelf host.new) (is_some (shown_gate line.now).session.pass) }
+    ensures line { result ≢ Status.Usage }
+    ensures opened { HasOpenCause (fault_of result) (H.faults host.old) (H.faults host.new) }
+    ensures links { length links.new.items ≡ length links.old.items }
+{
+    let mut clocks = match open_clocks(alloc, host, links.len() + 1) {
+        Ok(clocks) => clocks,
+        Err(bad) => return Status::of_host(bad),
+    };
+    let status = match sealers_for(host, &line.session) {
+        Ok(sealers) => gate_sealed(rt, alloc, host, line, sealers, links, &mut clocks),
+        Err(status) => status,
+    };
+    back_clocks(host, clocks);
+    status
+}
+
+/// Does the line of a gateway.
+pub fn gate_line<R: Threads + Wait + Sync, H: Host>(
+    rt: &R,
+    alloc: Global,
+    host: &mut H,
+    line: &GateLine<'_>,
+) -> Status
+    requires range { IsInGate (shown_gate line.now) }
+    ensures gated { IsUnused H.tells (H.shelf host.old) → (CanRefuse result → ⊥)
+        → Gated ⟦<H as Telling>⟧.objects ⟦<H as Telling>⟧.live
+        (H.shelf host.old) (H.shelf host.new) (shown_gate line.now) result }
+    ensures ungated { IsUnused H.tells (H.shelf host.old) → CanRefuse result
+        → Ungated (H.shelf host.old) (H.shelf host.new) }
+    ensures around { IsUnused H.tells (H.shelf host.old)
+        → KeepsAroundGate (H.shelf host.old) (H.shelf host.new) (shown_gate line.now) }
+    ensures links_opened { IsUnused H.tells (H.shelf host.old) → (CanRefuse result → ⊥)
+        → (H.shelf host.new).opened_links ≡ links_gated (shown_gate line.now) }
+    ensures random { IsUnused H.tells (H.shelf host.old) → result ≡ Status.EntropyFault
+        → FailedAt ⟦<H as Telling>⟧.objects (H.shelf host.old) (H.shelf host.new) }
+    ensures line { result ≢ Status.Usage }
+    ensures opened { HasOpenCause (fault_of result) (H.faults host.old) (H.faults host.new) }
+{
+    let mut links = match open_both(
+        alloc,
+        host,
+        line.inputs.as_slice(),
+        line.outputs.as_slice(),
+        line.session.profile,
+    ) {
+        Ok(links) => links,
+        Err(bad) => return Status::of_host(bad),
+    };
+    let status = gate_by_clocks(rt, alloc, host, line, &mut links);
+    back_links(host, links);
+    status
+}
