@@ -1,7 +1,9 @@
 #!/usr/bin/env python3
 """Makes a stream of numbered pieces, gives it out as datagrams, and counts which pieces came.
 
-    pieces.py make FILE COUNT                  writes COUNT pieces of 1,316 octets; piece k begins with 47 and k
+    pieces.py make FILE COUNT [nulls]          writes COUNT pieces of 1,316 octets; piece k begins with 47 and k. With `nulls` each
+                                               is seven transport packets, of which the fourth of every piece and the last of
+                                               every other one are null packets
     pieces.py feed FILE PORT GAP               sends them to a port of 127.0.0.1, GAP microseconds apart
     pieces.py take FILE PORT                   writes what comes to a port of 127.0.0.1, until it is stopped
     pieces.py compare FILE CAME FRONT END      compares octets. At most FRONT pieces may be missing before the first that
@@ -16,11 +18,21 @@ import time
 LENGTH = 1316
 
 
-def make(name, count):
+NULL = bytes([0x47, 0x1F, 0xFF, 0x10]) + bytes([0xFF]) * 184
+
+
+def make(name, count, nulls=''):
     draws = random.Random(1)
     with open(name, 'wb') as out:
         for k in range(int(count)):
-            out.write(bytes([0x47]) + k.to_bytes(4, 'big') + draws.randbytes(LENGTH - 5))
+            piece = bytes([0x47]) + k.to_bytes(4, 'big') + draws.randbytes(LENGTH - 5)
+            if nulls:
+                packets = [bytes([0x47, 0, 0x20]) + piece[at + 3:at + 188] for at in range(0, LENGTH, 188)]
+                packets[0] = piece[:188]
+                packets[3] = NULL
+                packets[6] = NULL if k % 2 else packets[6]
+                piece = b''.join(packets)
+            out.write(piece)
 
 
 def pieces_of(name):

@@ -1,7 +1,8 @@
 -- The sending end after one more call.
-use Rattle.std.proofs.Common.{◌≡◌, ◌⊎◌, inl, inr, ◌∙◌, ℕ, ◌<◌, ◌≤◌, nat_lt, List, [], ◌∷◌, length, get_or, map, Bool, true, false, Option, None, Some, Result, Ok, Err, refl, sym, ap, subst, arith}
-use Rattle.std.proofs.lemmas.List.{get_or-map, length-map}
+use Rattle.std.proofs.Common.{◌≡◌, ◌⊎◌, inl, inr, ◌∙◌, ℕ, ◌<◌, ◌≤◌, nat_lt, List, [], ◌∷◌, ◌++◌, take, drop, length, get_or, map, Bool, true, false, Option, None, Some, Result, Ok, Err, refl, sym, ap, subst, arith}
+use Rattle.std.proofs.lemmas.List.{get_or-map, length-map, append-nil, append_assoc, take-append-drop}
 use Rattle.outside_io.specs.Causes.{Rose}
+use Rattle.outside_io.specs.Told.{IsPrefix}
 use Rattle.outside_net.specs.Links.{Answer, Gave, Quiet, End, Failed}
 use Rattle.rtcp_compound.specs.Compound.{Content}
 use Rattle.rist_wire.specs.declared.session.Session.{Session}
@@ -17,7 +18,7 @@ use Rattle.rist_send.proofs.ServedLemmas.{all_none, all_then}
 use Rattle.rist_send.proofs.DownLemmas.{down_rose}
 use Rattle.rist_desk.specs.declared.beside.Side.{Side}
 use Rattle.rist_desk.specs.declared.beside.Side.TheVariants as sides
-use Rattle.rist_gateway.specs.Course.{Setup, Course, Deed, Sent, Looked, SendsPart, SendsParts, SendsOn, GoesOn, TicksOnce, TicksAfter, AnswersAndTicks, AfterRead, ReadsOnce, LooksAt, DoesAll, side_of, with_read}
+use Rattle.rist_gateway.specs.Course.{Setup, Passed, Course, Deed, Sent, Looked, SendsPart, AreParts, SendsParts, SendsOn, GoesOn, TicksOnce, TicksAfter, AnswersAndTicks, AfterRead, ReadsOnce, LooksAt, DoesAll, side_of, with_read}
 use Rattle.rist_gateway.specs.Onward.{LinkState, shown, plain, OnwardState, onward_of, setup_of, IsAt, Moves, no_work, start_of, HasRisen, IsOnward, IsUncalled, AnswersPut, PutsOn, Puts, Looks, bad_after}
 use Rattle.rist_gateway.specs.Inside.Moves.{setup_with, IsFar, Goes}
 
@@ -40,22 +41,22 @@ reads_shown : {L : Type 0} (line : Line L) (xs : List L) → map (λ (s : LinkSt
 reads_shown line [] = refl
 reads_shown line (x ∷ xs) = ap (λ l. line.reads x ∷ l) (reads_shown line xs)
 
-pub far_of : {L : Type 0} (line : Line L) (s : SenderState) (opener : Session) (links : List L) (m : Option (ℕ → ℕ)) (puts faults : ℕ) (put_bad aside_bad : Option SendBad) (from : Course)
+pub far_of : {L : Type 0} (line : Line L) (s : SenderState) (opener : Session) (links : List L) (m : Passed) (puts faults : ℕ) (put_bad aside_bad : Option SendBad) (from : Course)
     → IsAt (onward_of line s opener links m puts faults put_bad aside_bad) from → IsFar line s m links from
-far_of line s opener links m puts faults put_bad aside_bad from at = record { sender = at.sender; moments_are = at.moments; answers = at.answers ∙ reads_shown line links }
+far_of line s opener links m puts faults put_bad aside_bad from at = record { sender = at.sender; passed_is = at.passed; answers = at.answers ∙ reads_shown line links }
 
-setup_shown : {L : Type 0} (line : Line L) (s : SenderState) (opener : Session) (links : List L) (m : Option (ℕ → ℕ)) (puts faults : ℕ) (put_bad aside_bad : Option SendBad)
+setup_shown : {L : Type 0} (line : Line L) (s : SenderState) (opener : Session) (links : List L) (m : Passed) (puts faults : ℕ) (put_bad aside_bad : Option SendBad)
     → setup_with s (length links) ≡ setup_of (onward_of line s opener links m puts faults put_bad aside_bad)
 setup_shown line s opener links m puts faults put_bad aside_bad = ap (setup_with s) (sym (length-map links (shown line)))
 
 -- what a call did, as it is shown
-pub moves_of : {L : Type 0} (line : Line L) (s t : SenderState) (op oq : Session) (was is : List L) (m n : Option (ℕ → ℕ)) (p q f h : ℕ) (pb qb ab bb : Option SendBad) (from : Course) (P : Setup → Course → Type 0)
+pub moves_of : {L : Type 0} (line : Line L) (s t : SenderState) (op oq : Session) (was is : List L) (m n : Passed) (p q f h : ℕ) (pb qb ab bb : Option SendBad) (from : Course) (P : Setup → Course → Type 0)
     → length is ≡ length was → Goes line s t n was is from (P (setup_with s (length was)))
     → Moves (onward_of line s op was m p f pb ab) (onward_of line t oq is n q h qb bb) from (P (setup_of (onward_of line s op was m p f pb ab)))
 moves_of line s t op oq was is m n p q f h pb qb ab bb from P long d = record {
   to = d.to;
   fact = subst (λ (x : Setup). P x d.to) (setup_shown line s op was m p f pb ab) d.fact;
-  stands = record { sender = d.stands.sender; moments = d.stands.moments_are; answers = d.stands.answers ∙ sym (reads_shown line is) };
+  stands = record { sender = d.stands.sender; passed = d.stands.passed_is; answers = d.stands.answers ∙ sym (reads_shown line is) };
   given = shown_served line s.flow s.session from.work.history d.to.work.history was is long d.given;
 }
 
@@ -152,8 +153,9 @@ moved_more first o e P is more m =
     (subst (λ (f : ℕ). AreServed plain f o.sender.session is.moved.to.work.history m.to.work.history o.links e.links) (ap (λ (x : Rules). x.flow) is.rules) m.given))
 
 onward_more : (first o e : OnwardState) (P : Course → Type 0) → (is : IsOnward first o) → More o e → (m : Moves o e is.moved.to P)
-    → (deeds : List Deed) → DoesAll (setup_of first) deeds (start_of first) m.to → HasRisen e.put_bad first.links e.links → HasRisen e.aside_bad first.links e.links → IsOnward first e
-onward_more first o e P is more m deeds does put_down aside_down = record {
+    → (deeds : List Deed) → DoesAll (setup_of first) deeds (start_of first) m.to → (e.put_bad ≡ None → (o.put_bad ≡ None) × (e.faults ≡ o.faults))
+    → HasRisen e.put_bad first.links e.links → HasRisen e.aside_bad first.links e.links → IsOnward first e
+onward_more first o e P is more m deeds does none put_down aside_down = record {
   rules = more.rules ∙ is.rules;
   session = more.session ∙ is.session;
   opener = more.opener ∙ is.opener;
@@ -162,6 +164,7 @@ onward_more first o e P is more m deeds does put_down aside_down = record {
   few = is.few;
   deeds = deeds;
   moved = record { to = m.to; fact = does; stands = m.stands; given = moved_more first o e P is more m };
+  refused = λ told. (none told).1 ∙ is.refused (none told).0;
   put_down = put_down;
   aside_down = aside_down;
 }
@@ -177,7 +180,8 @@ onward_first o u put aside = record {
   bonded = u.bonded;
   few = u.few;
   deeds = [];
-  moved = record { to = start_of o; fact = refl; stands = record { sender = u.sender; moments = refl; answers = refl }; given = all_none plain o.sender.flow o.sender.session [] o.links };
+  moved = record { to = start_of o; fact = refl; stands = record { sender = u.sender; passed = refl; answers = refl }; given = all_none plain o.sender.flow o.sender.session [] o.links };
+  refused = λ told. refl;
   put_down = λ e. absurd (none_some put e);
   aside_down = λ e. absurd (none_some aside e);
 }
@@ -188,14 +192,15 @@ onward_first o u put aside = record {
 -- a put that was made, or refused
 pub onward_put : (first o e : OnwardState) (piece : List ℕ) (answer : Result Unit SendBad) → (is : IsOnward first o) → More o e
     → ((from : Course) → IsAt o from → Moves o e from (SendsOn (setup_of o) piece answer from))
-    → ((bad : SendBad) → e.put_bad ≡ Some bad → (answer ≡ Err bad) ⊎ (o.put_bad ≡ Some bad)) → e.aside_bad ≡ o.aside_bad → IsOnward first e
-onward_put first o e piece answer is more work put aside =
+    → ((bad : SendBad) → e.put_bad ≡ Some bad → (answer ≡ Err bad) ⊎ (o.put_bad ≡ Some bad)) → (e.put_bad ≡ None → (o.put_bad ≡ None) × (e.faults ≡ o.faults))
+    → e.aside_bad ≡ o.aside_bad → IsOnward first e
+onward_put first o e piece answer is more work put none aside =
     let m = work is.moved.to is.moved.stands in
     let same = setup_first first o is in
     let parts = subst (λ (x : Setup). SendsParts x m.fact.parts answer is.moved.to m.to) same m.fact.sends in
     let done = deeds_of (setup_of first) m.fact.parts answer (start_of first) is.moved.to m.to is.deeds is.moved.fact parts in
     let given = moved_more first o e _ is more m in
-    onward_more first o e _ is more m done.0 done.1
+    onward_more first o e _ is more m done.0 done.1 none
     (λ down. by_cause given (put LinksDown down) down)
     (subst (λ (x : Option SendBad). HasRisen x first.links e.links) (sym aside)
     (risen_still o.aside_bad o.sender.flow o.sender.session is.moved.to.work.history m.to.work.history first.links o.links e.links is.count m.given is.aside_down))
@@ -210,11 +215,11 @@ onward_put first o e piece answer is more work put aside =
 -- an aside
 pub onward_aside : (first o e : OnwardState) (micros link : ℕ) (side : Side) → (is : IsOnward first o) → More o e
     → ((from : Course) → IsAt o from → Moves o e from (LooksAt (setup_of o) micros link o.puts side from))
-    → e.put_bad ≡ o.put_bad → e.aside_bad ≡ bad_after o.aside_bad side → IsOnward first e
-onward_aside first o e micros link side is more work put aside =
+    → e.put_bad ≡ o.put_bad → e.faults ≡ o.faults → e.aside_bad ≡ bad_after o.aside_bad side → IsOnward first e
+onward_aside first o e micros link side is more work put same_faults aside =
     let same = setup_first first o is in
     let does : DoesAll (setup_of first) (Looked micros link o.puts side ∷ is.deeds) (start_of first) m.to = (is.moved.to, is.moved.fact, subst (λ (x : Setup). LooksAt x micros link o.puts side is.moved.to m.to) same m.fact) in
-    onward_more first o e _ is more m (Looked micros link o.puts side ∷ is.deeds) does
+    onward_more first o e _ is more m (Looked micros link o.puts side ∷ is.deeds) does (λ told. (sym put ∙ told, same_faults))
     (subst (λ (x : Option SendBad). HasRisen x first.links e.links) (sym put)
     (risen_still o.put_bad o.sender.flow o.sender.session is.moved.to.work.history m.to.work.history first.links o.links e.links is.count m.given is.put_down))
     (subst (λ (x : Option SendBad). HasRisen x first.links e.links) (sym aside) (by_side side refl))
@@ -237,9 +242,55 @@ onward_aside first o e micros link side is more work put aside =
     by_side (sides.Bad LinksDown) e1 = risen_now (Some LinksDown) (setup_of o).links first.sender.flow first.sender.session m.to.work.history first.links e.links is.count
         (λ down. down_look (setup_of o) micros link o.puts side is.moved.to m.to m.fact e1) (moved_more first o e _ is more m)
 
+-- ---- what a put hands on
+
+-- the payloads of a piece that the sender took are a front part of it, and all of it where none was refused
+pub record Front (piece : List ℕ) (answer : Result Unit SendBad) (before after : List ℕ) : Type 0 where
+  pub front : List ℕ
+  pub gained : after ≡ before ++ front
+  pub prefix : IsPrefix front piece
+  pub whole : answer ≡ Ok tt → front ≡ piece
+
+none_front : (piece : List ℕ) (answer : Result Unit SendBad) (before after : List ℕ) → after ≡ before → (answer ≡ Ok tt → [] ≡ piece) → Front piece answer before after
+none_front piece answer before after same whole = record { front = []; gained = same ∙ sym (append-nil before); prefix = (piece, refl); whole = whole }
+
+part_front : (part rest piece : List ℕ) (answer : Result Unit SendBad) (before mid after : List ℕ) → part ++ rest ≡ piece → mid ≡ before ++ part → Front rest answer mid after → Front piece answer before after
+part_front part rest piece answer before mid after cut gained f = record {
+  front = part ++ f.front;
+  gained = f.gained ∙ ap (λ (l : List ℕ). l ++ f.front) gained ∙ append_assoc before part f.front;
+  prefix = (f.prefix.0, sym cut ∙ ap (λ (l : List ℕ). part ++ l) f.prefix.1 ∙ sym (append_assoc part f.front f.prefix.0));
+  whole = λ ok. ap (λ (l : List ℕ). part ++ l) (f.whole ok) ∙ cut;
+}
+
+parts_front : (setup : Setup) (parts : List (List ℕ)) (piece : List ℕ) (answer : Result Unit SendBad) (from to : Course) → AreParts parts piece → SendsParts setup parts answer from to
+    → Front piece answer from.passed.sent to.passed.sent
+parts_front setup [] piece answer from to cut s = none_front piece answer from.passed.sent to.passed.sent (ap (λ (c : Course). c.passed.sent) s.1) (λ ok. sym cut)
+parts_front setup (part ∷ parts) piece answer from to cut (Ok done, between, sent, more) =
+    part_front part (drop 1500 piece) piece answer from.passed.sent between.passed.sent to.passed.sent
+    (ap (λ (l : List ℕ). l ++ drop 1500 piece) cut.1 ∙ take-append-drop 1500 piece)
+    (ap (λ (c : Course). c.passed.sent) sent.is)
+    (parts_front setup parts (drop 1500 piece) answer between to cut.2 more)
+parts_front setup (part ∷ parts) piece answer from to cut (Err bad, between, sent, more) =
+    none_front piece answer from.passed.sent to.passed.sent (ap (λ (c : Course). c.passed.sent) more.1 ∙ ap (λ (c : Course). c.passed.sent) sent.is)
+    (λ ok. absurd (refused bad (sym more.0 ∙ ok)))
+  where
+    the_answer : SendBad → Result Unit SendBad
+    the_answer bad = Err bad
+
+    refused : (b : SendBad) → the_answer b ≡ Ok tt → ⊥
+    refused b e = cc (e)
+
+front_moved : (first o e : OnwardState) (piece : List ℕ) (answer : Result Unit SendBad) → IsOnward first o
+    → ((from : Course) → IsAt o from → Moves o e from (SendsOn (setup_of o) piece answer from)) → Front piece answer o.passed.sent e.passed.sent
+front_moved first o e piece answer is work =
+    let m = work is.moved.to is.moved.stands in
+    subst (λ (x : Passed). Front piece answer x.sent e.passed.sent) is.moved.stands.passed
+    (subst (λ (x : Passed). Front piece answer is.moved.to.passed.sent x.sent) m.stands.passed
+    (parts_front (setup_of o) m.fact.parts piece answer is.moved.to m.to m.fact.cut m.fact.sends))
+
 -- ---- by the parts
 
-more_of : {L : Type 0} (line : Line L) (s t : SenderState) (op oq : Session) (was is : List L) (m n : Option (ℕ → ℕ)) (p q f h : ℕ) (pb qb ab bb : Option SendBad) → oq ≡ op → length is ≡ length was → StaysSet s t
+more_of : {L : Type 0} (line : Line L) (s t : SenderState) (op oq : Session) (was is : List L) (m n : Passed) (p q f h : ℕ) (pb qb ab bb : Option SendBad) → oq ≡ op → length is ≡ length was → StaysSet s t
     → More (onward_of line s op was m p f pb ab) (onward_of line t oq is n q h qb bb)
 more_of line s t op oq was is m n p q f h pb qb ab bb same long stay = record {
   rules = stay.rules;
@@ -248,27 +299,27 @@ more_of line s t op oq was is m n p q f h pb qb ab bb same long stay = record {
   count = length-map is (shown line) ∙ long ∙ sym (length-map was (shown line));
 }
 
-pub aside_looks : {L : Type 0} (line : Line L) (s t : SenderState) (op oq : Session) (was items is back : List L) (m : Option (ℕ → ℕ)) (puts f : ℕ) (pb ab bb : Option SendBad) (us link : ℕ) (side : Side)
+pub aside_looks : {L : Type 0} (line : Line L) (s t : SenderState) (op oq : Session) (was items is back : List L) (m : Passed) (puts f : ℕ) (pb ab bb : Option SendBad) (us link : ℕ) (side : Side)
     → was ≡ items → back ≡ is → length is ≡ length was
-    → ((moments : Option (ℕ → ℕ)) (from : Course) → IsFar line s moments was from → Goes line s t moments was is from (LooksAt (setup_with s (length was)) us link puts side from))
+    → ((moments : Passed) (from : Course) → IsFar line s moments was from → Goes line s t moments was is from (LooksAt (setup_with s (length was)) us link puts side from))
     → Looks (onward_of line s op items m puts f pb ab) (onward_of line t oq back m puts f pb bb) us link side
 aside_looks {L} line s t op oq was items is back m puts f pb ab bb us link side value wrote long work =
     subst (λ (xs : List L). Looks (onward_of line s op xs m puts f pb ab) (onward_of line t oq back m puts f pb bb) us link side) value
     (subst (λ (xs : List L). Looks (onward_of line s op was m puts f pb ab) (onward_of line t oq xs m puts f pb bb) us link side) (sym wrote)
     (λ from at. moves_of line s t op oq was is m m puts puts f f pb pb ab bb from (λ setup. LooksAt setup us link puts side from) long (work m from (far_of line s op was m puts f pb ab from at))))
 
-pub aside_keeps : {L : Type 0} (line : Line L) (first : OnwardState) (s t : SenderState) (op oq : Session) (was items is back : List L) (m : Option (ℕ → ℕ)) (puts f : ℕ) (pb ab bb : Option SendBad) (us link : ℕ) (side : Side)
+pub aside_keeps : {L : Type 0} (line : Line L) (first : OnwardState) (s t : SenderState) (op oq : Session) (was items is back : List L) (m : Passed) (puts f : ℕ) (pb ab bb : Option SendBad) (us link : ℕ) (side : Side)
     → was ≡ items → back ≡ is → length is ≡ length was → oq ≡ op → StaysSet s t → bb ≡ bad_after ab side
-    → ((moments : Option (ℕ → ℕ)) (from : Course) → IsFar line s moments was from → Goes line s t moments was is from (LooksAt (setup_with s (length was)) us link puts side from))
+    → ((moments : Passed) (from : Course) → IsFar line s moments was from → Goes line s t moments was is from (LooksAt (setup_with s (length was)) us link puts side from))
     → IsOnward first (onward_of line s op items m puts f pb ab) → IsOnward first (onward_of line t oq back m puts f pb bb)
 aside_keeps {L} line first s t op oq was items is back m puts f pb ab bb us link side value wrote long same stay bad work old =
     subst (λ (xs : List L). IsOnward first (onward_of line t oq xs m puts f pb bb)) (sym wrote)
     (onward_aside first (onward_of line s op was m puts f pb ab) (onward_of line t oq is m puts f pb bb) us link side
     (subst (λ (xs : List L). IsOnward first (onward_of line s op xs m puts f pb ab)) (sym value) old)
     (more_of line s t op oq was is m m puts puts f f pb pb ab bb same long stay)
-    (aside_looks line s t op oq was was is is m puts f pb ab bb us link side refl refl long work) refl bad)
+    (aside_looks line s t op oq was was is is m puts f pb ab bb us link side refl refl long work) refl refl bad)
 
-pub put_works : {L E : Type 0} (line : Line L) (s t : SenderState) (op : Session) (was items is back : List L) (m n : Option (ℕ → ℕ)) (p q f h : ℕ) (pb qb ab : Option SendBad) (piece : List ℕ) (answer : Result Unit SendBad) (result : Result Unit E)
+pub put_works : {L E : Type 0} (line : Line L) (s t : SenderState) (op : Session) (was items is back : List L) (m n : Passed) (p q f h : ℕ) (pb qb ab : Option SendBad) (piece : List ℕ) (answer : Result Unit SendBad) (result : Result Unit E)
     → was ≡ items → back ≡ is → length is ≡ length was → AnswersPut result answer pb qb
     → ((from : Course) → IsFar line s m was from → Goes line s t n was is from (SendsOn (setup_with s (length was)) piece answer from))
     → Puts (onward_of line s op items m p f pb ab) (onward_of line t op back n q h qb ab) piece result
@@ -279,18 +330,18 @@ put_works {L} {E} line s t op was items is back m n p q f h pb qb ab piece answe
     let d = moves_of line s t op op was is m n p q f h pb qb ab ab from (λ setup. SendsOn setup piece answer from) long (work from (far_of line s op was m p f pb ab from at)) in
     record { to = d.to; fact = record { answer = answer; sends = d.fact; told = told }; stands = d.stands; given = d.given }))
 
-pub put_keeps : {L : Type 0} (line : Line L) (first : OnwardState) (s t : SenderState) (op : Session) (was items is back : List L) (m n : Option (ℕ → ℕ)) (p q f h : ℕ) (pb qb ab : Option SendBad) (piece : List ℕ) (answer : Result Unit SendBad)
+pub put_keeps : {L : Type 0} (line : Line L) (first : OnwardState) (s t : SenderState) (op : Session) (was items is back : List L) (m n : Passed) (p q f h : ℕ) (pb qb ab : Option SendBad) (piece : List ℕ) (answer : Result Unit SendBad)
     → was ≡ items → back ≡ is → length is ≡ length was → StaysSet s t
-    → ((bad : SendBad) → qb ≡ Some bad → (answer ≡ Err bad) ⊎ (pb ≡ Some bad))
+    → ((bad : SendBad) → qb ≡ Some bad → (answer ≡ Err bad) ⊎ (pb ≡ Some bad)) → (qb ≡ None → (pb ≡ None) × (h ≡ f))
     → ((from : Course) → IsFar line s m was from → Goes line s t n was is from (SendsOn (setup_with s (length was)) piece answer from))
     → IsOnward first (onward_of line s op items m p f pb ab) → IsOnward first (onward_of line t op back n q h qb ab)
-put_keeps {L} line first s t op was items is back m n p q f h pb qb ab piece answer value wrote long stay cause work old =
+put_keeps {L} line first s t op was items is back m n p q f h pb qb ab piece answer value wrote long stay cause none work old =
     subst (λ (xs : List L). IsOnward first (onward_of line t op xs n q h qb ab)) (sym wrote)
     (onward_put first (onward_of line s op was m p f pb ab) (onward_of line t op is n q h qb ab) piece answer
     (subst (λ (xs : List L). IsOnward first (onward_of line s op xs m p f pb ab)) (sym value) old)
     (more_of line s t op op was is m n p q f h pb qb ab ab refl long stay)
     (λ from at. moves_of line s t op op was is m n p q f h pb qb ab ab from (λ setup. SendsOn setup piece answer from) long (work from (far_of line s op was m p f pb ab from at)))
-    cause refl)
+    cause none refl)
 
 -- a refusal
 abbrev pub the_error : SendBad → Result Unit SendBad
@@ -298,3 +349,16 @@ the_error bad = Err bad
 
 pub same_bad : (a b : SendBad) → Some a ≡ Some b → the_error a ≡ the_error b
 same_bad a b e = cc (e)
+
+-- what the parts of a put hand on
+pub put_front : {L : Type 0} (line : Line L) (first : OnwardState) (s t : SenderState) (op : Session) (was items is : List L) (m n : Passed) (p f : ℕ) (pb ab : Option SendBad) (piece : List ℕ) (answer : Result Unit SendBad)
+    → was ≡ items → length is ≡ length was
+    → ((from : Course) → IsFar line s m was from → Goes line s t n was is from (SendsOn (setup_with s (length was)) piece answer from))
+    → IsOnward first (onward_of line s op items m p f pb ab) → Front piece answer m.sent n.sent
+put_front {L} line first s t op was items is m n p f pb ab piece answer value long work old =
+    front_moved first (onward_of line s op was m p f pb ab) (onward_of line t op is n p f pb ab) piece answer
+    (subst (λ (xs : List L). IsOnward first (onward_of line s op xs m p f pb ab)) (sym value) old)
+    (λ from at. moves_of line s t op op was is m n p p f f pb pb ab ab from (λ setup. SendsOn setup piece answer from) long (work from (far_of line s op was m p f pb ab from at)))
+
+pub none_bad : (a : SendBad) → Some a ≡ None → ⊥
+none_bad a e = cc (e)

@@ -1,5 +1,5 @@
 -- What a gateway's sending end does: it sends pieces on, and looks at what comes back on its links (this profile).
-use Rattle.std.specs.Prelude.{◌≡◌, ◌<◌, ℕ, nat_lt, List, [], ◌∷◌, length, take, drop, set, slice_index_or, Bool, true, false, Option, None, Some, Result, Ok, Err}
+use Rattle.std.specs.Prelude.{◌≡◌, ◌<◌, ℕ, nat_lt, List, [], ◌∷◌, ◌++◌, length, take, drop, set, slice_index_or, Bool, true, false, Option, None, Some, Result, Ok, Err}
 use Rattle.std.specs.Option.{option_map}
 use Rattle.outside_net.specs.Streams.{later, IsFirst}
 use Rattle.outside_net.specs.Links.{Answer, Gave, Quiet, End, Failed}
@@ -17,21 +17,36 @@ pub record Setup : Type 0 where
   pub session : Session
   pub links : ℕ
 
--- how far it has come: what its sender did, and what its clock and the reads of each of its links have still to give, where they tell
--- it
+-- what its clock has still to give, where it tells it, and the octets of the payloads that its sender took, one after another
+pub record Passed : Type 0 where
+  pub moments : Option (ℕ → ℕ)
+  pub sent : List ℕ
+
+-- how far it has come: what its sender did, what has passed, and what the reads of each of its links have still to give, where they
+-- tell it
 pub record Course : Type 0 where
   pub work : Work
-  pub moments : Option (ℕ → ℕ)
+  pub passed : Passed
   pub answers : List (Option (ℕ → Answer))
 
 -- ---- pieces
 
+-- a payload is sent, if it isn't refused
+abbrev pub sent_after : List ℕ → List ℕ → Result Unit SendBad → List ℕ
+sent_after sent part (Ok done) = sent ++ part
+sent_after sent part (Err bad) = sent
+
+-- what has passed then
+abbrev pub passed_after : Passed → List ℕ → Result Unit SendBad → Passed
+passed_after passed part result =
+    record { moments = option_map later passed.moments; sent = sent_after passed.sent part result }
+
 -- a part of a piece is sent as one payload, at the next moment of the clock
 pub record SendsPart (setup : Setup) (part : List ℕ) (result : Result Unit SendBad) (from to : Course) : Type 0 where
   pub moment : ℕ
-  pub first : IsFirst from.moments moment
+  pub first : IsFirst from.passed.moments moment
   pub sends : Sends setup.rules setup.links moment part result from.work to.work
-  pub is : to ≡ record from { work = to.work; moments = option_map later from.moments }
+  pub is : to ≡ record from { work = to.work; passed = passed_after from.passed part result }
 
 -- what follows a part: nothing, where that was refused
 abbrev pub GoesOn : (Result Unit SendBad → Course → Course → Type 0) → Result Unit SendBad → Result Unit SendBad → Course → Course → Type 0

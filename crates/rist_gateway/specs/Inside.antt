@@ -1,2 +1,4 @@
 -- What private contracts cite.
 pub mod Moves
+pub mod Handed
+pub mod Played

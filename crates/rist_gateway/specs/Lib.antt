@@ -3,3 +3,5 @@ pub mod Onward
 pub mod Sides
 pub mod Parts
 pub mod Inside
+pub mod Setup
+pub mod Run

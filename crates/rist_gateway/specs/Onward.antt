@@ -15,7 +15,7 @@ use Rattle.rist_sender.specs.Sender.{SenderState, IsSenderAfter, rules_of}
 use Rattle.rist_send.specs.Served.{AreServed}
 use Rattle.rist_desk.specs.declared.beside.Side.{Side}
 use Rattle.rist_desk.specs.declared.beside.Side.TheVariants as sides
-use Rattle.rist_gateway.specs.Course.{Setup, Course, Deed, SendsOn, LooksAt, DoesAll}
+use Rattle.rist_gateway.specs.Course.{Setup, Passed, Course, Deed, SendsOn, LooksAt, DoesAll}
 
 -- a link, by what it tells and its counts
 pub record LinkState : Type 0 where
@@ -33,26 +33,26 @@ shown line link = record { taken = line.taken link; knows = line.knows link; fau
 abbrev pub plain : Line LinkState
 plain = record { taken = λ s. s.taken; knows = λ s. s.knows; faults = λ s. s.faults; reads = λ s. s.reads; ends = λ s. s.ends }
 
--- its sender; its opener's session; its links; the moments that its clock has still to give; how often it was put to; how many puts
--- failed; and why the last put and the last aside that were refused were
+-- its sender; its opener's session; its links; the moments that its clock has still to give, and the octets of the payloads that its
+-- sender took; how often it was put to; how many puts failed; and why the last put and the last aside that were refused were
 pub record OnwardState : Type 0 where
   pub sender : SenderState
   pub opener : Session
   pub links : List LinkState
-  pub moments : Option (ℕ → ℕ)
+  pub passed : Passed
   pub puts : ℕ
   pub faults : ℕ
   pub put_bad : Option SendBad
   pub aside_bad : Option SendBad
 
 -- one of these parts
-abbrev pub onward_of : {L : Type 0} → Line L → SenderState → Session → List L → Option (ℕ → ℕ) → ℕ → ℕ → Option SendBad → Option SendBad → OnwardState
-onward_of line sender opener links moments puts faults put_bad aside_bad =
+abbrev pub onward_of : {L : Type 0} → Line L → SenderState → Session → List L → Passed → ℕ → ℕ → Option SendBad → Option SendBad → OnwardState
+onward_of line sender opener links passed puts faults put_bad aside_bad =
     record {
       sender = sender;
       opener = opener;
       links = map (shown line) links;
-      moments = moments;
+      passed = passed;
       puts = puts;
       faults = faults;
       put_bad = put_bad;
@@ -65,14 +65,19 @@ pub record OnwardParts (L C : Type 0) : Type 0 where
   pub opener : Session
   pub links : List L
   pub clock : C
+  pub handed : List ℕ
   pub puts : ℕ
   pub faults : ℕ
   pub put_bad : Option SendBad
   pub aside_bad : Option SendBad
 
+-- a clock that tells these moments, and these octets
+abbrev pub passed_of : Option (ℕ → ℕ) → List ℕ → Passed
+passed_of moments sent = record { moments = moments; sent = sent }
+
 -- what these show
 abbrev pub shows : {L C : Type 0} → Line L → (C → Option (ℕ → ℕ)) → OnwardParts L C → OnwardState
-shows line moments p = onward_of line p.sender p.opener p.links (moments p.clock) p.puts p.faults p.put_bad p.aside_bad
+shows line moments p = onward_of line p.sender p.opener p.links (passed_of (moments p.clock) p.handed) p.puts p.faults p.put_bad p.aside_bad
 
 -- why a put was refused, or, where none was, an aside
 abbrev pub why_of : Option SendBad → Option SendBad → Option SendBad
@@ -86,7 +91,7 @@ setup_of o = record { rules = rules_of o.sender; session = o.sender.session; lin
 -- it is as far as this
 pub record IsAt (o : OnwardState) (course : Course) : Type 0 where
   pub sender : IsSenderAfter o.sender course.work
-  pub moments : course.moments ≡ o.moments
+  pub passed : course.passed ≡ o.passed
   pub answers : course.answers ≡ map (λ s. s.reads) o.links
 
 -- from as far as that it has come to something of which this holds, and each link was given just the datagrams of its sender's work
@@ -104,7 +109,7 @@ no_work s = record { history = []; sealer = s.sealer; is_short = false }
 
 -- the start
 abbrev pub start_of : OnwardState → Course
-start_of o = record { work = no_work o.sender; moments = o.moments; answers = map (λ s. s.reads) o.links }
+start_of o = record { work = no_work o.sender; passed = o.passed; answers = map (λ s. s.reads) o.links }
 
 -- since every link is down the count of each has risen
 abbrev pub HasRisen : Option SendBad → List LinkState → List LinkState → Type 0
@@ -112,7 +117,8 @@ HasRisen why first now =
     why ≡ Some LinksDown → (link : ℕ) (d : LinkState) → link < length first → Rose (slice_index_or first link d).faults (slice_index_or now link d).faults
 
 -- What holds of every one that was made as this: it is set as it was; it has come to where it is by deeds, one after another; each
--- link was given just the datagrams of these; and where it tells that all links are down, a call on each failed.
+-- link was given just the datagrams of these; where a put failed it tells why; and where it tells that all links are down, a call on
+-- each failed.
 pub record IsOnward (first o : OnwardState) : Type 0 where
   pub rules : rules_of o.sender ≡ rules_of first.sender
   pub session : o.sender.session ≡ first.sender.session
@@ -122,6 +128,7 @@ pub record IsOnward (first o : OnwardState) : Type 0 where
   pub few : length first.links ≤ 16
   pub deeds : List Deed
   pub moved : Moves first o (start_of first) (λ to. DoesAll (setup_of first) deeds (start_of first) to)
+  pub refused : o.put_bad ≡ None → o.faults ≡ first.faults
   pub put_down : HasRisen o.put_bad first.links o.links
   pub aside_down : HasRisen o.aside_bad first.links o.links
 
@@ -176,7 +183,7 @@ nothing_first =
       };
       opener = record { profile = Simple; port = 0; pass = None; bits = 0; nulls = false; width = W16; full = false };
       links = [];
-      moments = None;
+      passed = passed_of None [];
       puts = 0;
       faults = 0;
       put_bad = None;

@@ -1,20 +1,30 @@
-//! The gateway: what a receiver plays out goes on over other links, payload by payload, as it is released. A contract sees
-//! what the sending end did, deed by deed, and what each of its links was given.
+//! The gateway: what a receiver plays out goes on over other links, payload by payload, as it is released. A contract
+//! sees what the sending end did, deed by deed, and what each of its links was given.
 #![tactic(auto)]
 
+mod ending;
 mod found;
 mod gating;
+mod handed;
+mod lending;
 mod looking;
+mod making;
 mod onward;
 mod origin;
 mod part;
 mod parts;
+mod receiving;
+mod running;
 mod side_worker;
+mod sides;
 #[cfg(test)]
 mod tests;
 
+pub use ending::GateEnding;
 pub use gating::gate;
+pub use making::{Made, make};
 pub use onward::Onward;
 pub use origin::Origin;
 pub use part::Part;
+pub use running::{Gated, gate_on};
 pub use side_worker::{SideEnded, SideWorker};

@@ -6,7 +6,8 @@ ghost use Rattle.rist_sender.specs.Sender.{StaysSet};
 ghost use Rattle.rist_send.specs.Served.{line_of};
 ghost use Rattle.rist_send.specs.Turns.{compound_in};
 ghost use Rattle.rist_send.specs.Inside.Moves.{ReadsAt};
-ghost use Rattle.rist_gateway.specs.Course.{Course, AnswersOnce, TicksOnce, AnswersAndTicks, ReadsOnce, LooksAt, side_of};
+ghost use Rattle.rist_gateway.specs.Course.{Course, Passed, AnswersOnce, TicksOnce, AnswersAndTicks, ReadsOnce};
+ghost use Rattle.rist_gateway.specs.Course.{LooksAt, side_of};
 ghost use Rattle.rist_gateway.specs.Inside.Moves.{IsFar, Goes, setup_with};
 ghost use Rattle.std.specs.Prelude.{Some};
 
@@ -21,9 +22,9 @@ use rtcp_compound::Compound;
 fn tick<L: Link>(sender: &mut Sender, links: &mut [L], us: u64) -> Result<(), SendBad>
     requires links { length links.old ≡ link_count sender.old.bonding }
     requires few { length links.old ≤ 16 }
-    ensures work { (moments : Option (ℕ → ℕ)) (from : Course)
-        → IsFar (line_of L.taken L.knows L.faults L.reads L.ends) sender.old moments links.old from
-        → Goes (line_of L.taken L.knows L.faults L.reads L.ends) sender.old sender.new moments links.old links.new from
+    ensures work { (passed : Passed) (from : Course)
+        → IsFar (line_of L.taken L.knows L.faults L.reads L.ends) sender.old passed links.old from
+        → Goes (line_of L.taken L.knows L.faults L.reads L.ends) sender.old sender.new passed links.old links.new from
         (TicksOnce (setup_with sender.old (length links.old)) us result from) }
     ensures set { StaysSet sender.old sender.new }
 {
@@ -41,9 +42,9 @@ fn feed<L: Link>(
     requires among { link < length links.old }
     requires links { length links.old ≡ link_count sender.old.bonding }
     requires few { length links.old ≤ 16 }
-    ensures work { (moments : Option (ℕ → ℕ)) (from : Course)
-        → IsFar (line_of L.taken L.knows L.faults L.reads L.ends) sender.old moments links.old from
-        → Goes (line_of L.taken L.knows L.faults L.reads L.ends) sender.old sender.new moments links.old links.new from
+    ensures work { (passed : Passed) (from : Course)
+        → IsFar (line_of L.taken L.knows L.faults L.reads L.ends) sender.old passed links.old from
+        → Goes (line_of L.taken L.knows L.faults L.reads L.ends) sender.old sender.new passed links.old links.new from
         (AnswersOnce (setup_with sender.old (length links.old)) us link compound.now result from) }
     ensures set { StaysSet sender.old sender.new }
 {
@@ -61,9 +62,9 @@ fn feed_and_tick<L: Link>(
     requires among { link < length links.old }
     requires links { length links.old ≡ link_count sender.old.bonding }
     requires few { length links.old ≤ 16 }
-    ensures work { (moments : Option (ℕ → ℕ)) (from : Course)
-        → IsFar (line_of L.taken L.knows L.faults L.reads L.ends) sender.old moments links.old from
-        → Goes (line_of L.taken L.knows L.faults L.reads L.ends) sender.old sender.new moments links.old links.new from
+    ensures work { (passed : Passed) (from : Course)
+        → IsFar (line_of L.taken L.knows L.faults L.reads L.ends) sender.old passed links.old from
+        → Goes (line_of L.taken L.knows L.faults L.reads L.ends) sender.old sender.new passed links.old links.new from
         (AnswersAndTicks (setup_with sender.old (length links.old)) us link (Some compound.now) result from) }
     ensures set { StaysSet sender.old sender.new }
 {
@@ -87,9 +88,9 @@ fn answer_and_tick<L: Link>(
     requires links { length links.old ≡ link_count sender.old.bonding }
     requires few { length links.old ≤ 16 }
     requires session { opener.old ≡ sender.old.session }
-    ensures work { (moments : Option (ℕ → ℕ)) (from : Course)
-        → IsFar (line_of L.taken L.knows L.faults L.reads L.ends) sender.old moments links.old from
-        → Goes (line_of L.taken L.knows L.faults L.reads L.ends) sender.old sender.new moments links.old links.new from
+    ensures work { (passed : Passed) (from : Course)
+        → IsFar (line_of L.taken L.knows L.faults L.reads L.ends) sender.old passed links.old from
+        → Goes (line_of L.taken L.knows L.faults L.reads L.ends) sender.old sender.new passed links.old links.new from
         (AnswersAndTicks (setup_with sender.old (length links.old)) us link
         (compound_in sender.old.session (Gave (record { channel = channel; octets = octets.old }))) result from) }
     ensures set { StaysSet sender.old sender.new }
@@ -140,9 +141,9 @@ fn look_on<L: Link>(
     requires links { length links.old ≡ link_count sender.old.bonding }
     requires few { length links.old ≤ 16 }
     requires session { opener.old ≡ sender.old.session }
-    ensures work { (moments : Option (ℕ → ℕ)) (from : Course)
-        → IsFar (line_of L.taken L.knows L.faults L.reads L.ends) sender.old moments links.old from
-        → Goes (line_of L.taken L.knows L.faults L.reads L.ends) sender.old sender.new moments links.old links.new from
+    ensures work { (passed : Passed) (from : Course)
+        → IsFar (line_of L.taken L.knows L.faults L.reads L.ends) sender.old passed links.old from
+        → Goes (line_of L.taken L.knows L.faults L.reads L.ends) sender.old sender.new passed links.old links.new from
         (ReadsOnce (setup_with sender.old (length links.old)) us link puts result from) }
     ensures set { StaysSet sender.old sender.new }
     ensures opener { opener.new ≡ opener.old }
@@ -163,8 +164,8 @@ fn look_on<L: Link>(
     }
 }
 
-/// Looks at a link: reads it once, answers a compound that came, and lets the sender tick. One that isn't there is at its
-/// end.
+/// Looks at a link: reads it once, answers a compound that came, and lets the sender tick. One that isn't there is at
+/// its end.
 pub(crate) fn look<L: Link>(
     sender: &mut Sender,
     opener: &mut Opener,
@@ -176,9 +177,9 @@ pub(crate) fn look<L: Link>(
     requires links { length links.old ≡ link_count sender.old.bonding }
     requires few { length links.old ≤ 16 }
     requires session { opener.old ≡ sender.old.session }
-    ensures work { (moments : Option (ℕ → ℕ)) (from : Course)
-        → IsFar (line_of L.taken L.knows L.faults L.reads L.ends) sender.old moments links.old from
-        → Goes (line_of L.taken L.knows L.faults L.reads L.ends) sender.old sender.new moments links.old links.new from
+    ensures work { (passed : Passed) (from : Course)
+        → IsFar (line_of L.taken L.knows L.faults L.reads L.ends) sender.old passed links.old from
+        → Goes (line_of L.taken L.knows L.faults L.reads L.ends) sender.old sender.new passed links.old links.new from
         (LooksAt (setup_with sender.old (length links.old)) us link puts result from) }
     ensures set { StaysSet sender.old sender.new }
     ensures opener { opener.new ≡ opener.old }

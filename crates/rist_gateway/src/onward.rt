@@ -1,10 +1,12 @@
 //! The sending end as a sink.
-ghost use Rattle.std.specs.Prelude.{◌≡◌, OnOk, OnErr, None, min, ◌+◌, ◌-◌, ◌^◌};
+ghost use Rattle.std.specs.Prelude.{◌≡◌, [], OnOk, OnErr, None, Some, min, ◌+◌, ◌-◌, ◌^◌};
 ghost use Rattle.outside_io.specs.Causes.{HasCause};
 ghost use Rattle.outside_io.specs.Told.{Appends, AppendsPart};
 ghost use Rattle.rist_send.specs.Served.{line_of};
-ghost use Rattle.rist_gateway.specs.Onward.{IsOnward, IsUncalled, Puts, Looks, onward_of, shows, why_of, bad_after};
+ghost use Rattle.rist_gateway.specs.Onward.{IsOnward, IsUncalled, Puts, Looks, onward_of, passed_of, shows};
+ghost use Rattle.rist_gateway.specs.Onward.{why_of, bad_after};
 
+use crate::handed::Handed;
 use crate::looking::look;
 use crate::origin::Origin;
 use crate::parts::send_parts;
@@ -15,14 +17,15 @@ use rist_sender::{SendBad, Sender};
 use rist_wire::Opener;
 use std::marker::{Model, PhantomData};
 
-/// A sender with its links, its clock, and an opener for what comes back. Each piece that is put to it is one payload, sent
-/// at its clock's moment. A contract sees what the sender keeps, and what the links tell.
+/// A sender with its links, its clock, and an opener for what comes back. Each piece that is put to it is one payload,
+/// sent at its clock's moment. A contract sees what the sender keeps, and what the links tell.
 #[derive(Drop)]
 pub struct Onward<G: Origin, L: Link + Drop, C: Clock + Drop> {
     sender: Sender,
     opener: Opener,
     links: Vec<L>,
     clock: C,
+    handed: Handed,
     puts: u64,
     faults: u64,
     put_bad: Option<SendBad>,
@@ -32,7 +35,7 @@ pub struct Onward<G: Origin, L: Link + Drop, C: Clock + Drop> {
 
 impl<G: Origin, L: Link + Drop, C: Clock + Drop> Model for Onward<G, L, C> {
     ghost use Rattle.rist_send.specs.Served.{line_of};
-    ghost use Rattle.rist_gateway.specs.Onward.{OnwardParts, IsOnward, onward_of};
+    ghost use Rattle.rist_gateway.specs.Onward.{OnwardParts, IsOnward, onward_of, passed_of};
 
     ghost Value = { OnwardParts L C };
 
@@ -41,6 +44,7 @@ impl<G: Origin, L: Link + Drop, C: Clock + Drop> Model for Onward<G, L, C> {
       opener = o.opener;
       links = o.links.items;
       clock = o.clock;
+      handed = o.handed;
       puts = o.puts;
       faults = o.faults;
       put_bad = o.put_bad;
@@ -48,21 +52,22 @@ impl<G: Origin, L: Link + Drop, C: Clock + Drop> Model for Onward<G, L, C> {
     } };
 
     ghost invariant = { λ o. IsOnward G.first (onward_of (line_of L.taken L.knows L.faults L.reads L.ends)
-        o.sender o.opener o.links.items (C.moments o.clock) o.puts o.faults o.put_bad o.aside_bad) };
+        o.sender o.opener o.links.items (passed_of (C.moments o.clock) o.handed) o.puts o.faults o.put_bad o.aside_bad) };
 }
 
 impl<G: Origin, L: Link + Drop, C: Clock + Drop> Onward<G, L, C> {
     /// A new sender over its 1 to 16 links, with an opener of the same session and a clock.
     pub fn with(sender: Sender, opener: Opener, links: Vec<L>, clock: C) -> Onward<G, L, C>
         requires first { G.first ≡ onward_of (line_of L.taken L.knows L.faults L.reads L.ends)
-            sender opener links.items (C.moments clock) 0 0 None None }
+            sender opener links.items (passed_of (C.moments clock) []) 0 0 None None }
         requires uncalled { IsUncalled (onward_of (line_of L.taken L.knows L.faults L.reads L.ends)
-            sender opener links.items (C.moments clock) 0 0 None None) }
+            sender opener links.items (passed_of (C.moments clock) []) 0 0 None None) }
         ensures value { result ≡ record {
           sender = sender;
           opener = opener;
           links = links.items;
           clock = clock;
+          handed = [];
           puts = 0;
           faults = 0;
           put_bad = None;
@@ -74,6 +79,7 @@ impl<G: Origin, L: Link + Drop, C: Clock + Drop> Onward<G, L, C> {
             opener,
             links,
             clock,
+            handed: Handed::none(),
             puts: 0,
             faults: 0,
             put_bad: None,
@@ -82,8 +88,8 @@ impl<G: Origin, L: Link + Drop, C: Clock + Drop> Onward<G, L, C> {
         }
     }
 
-    /// Why the last put that was refused was; where none was, why the last refused aside was; and none where neither was.
-    /// What it did since it was made stands in what holds of its type.
+    /// Why the last put that was refused was; where none was, why the last refused aside was; and none where neither
+    /// was. What it did since it was made stands in what holds of its type.
     pub fn why(&self) -> Option<SendBad>
         ensures value { result ≡ why_of self.now.put_bad self.now.aside_bad }
         ensures since { IsOnward G.first (shows (line_of L.taken L.knows L.faults L.reads L.ends) C.moments self.now) }
@@ -92,6 +98,14 @@ impl<G: Origin, L: Link + Drop, C: Clock + Drop> Onward<G, L, C> {
             Some(bad) => Some(bad),
             None => self.aside_bad,
         }
+    }
+
+    /// Why the last put that was refused was, and why the last aside, where one was.
+    pub fn refusals(&self) -> (Option<SendBad>, Option<SendBad>)
+        ensures value { result ≡ (self.now.put_bad, self.now.aside_bad) }
+        ensures since { IsOnward G.first (shows (line_of L.taken L.knows L.faults L.reads L.ends) C.moments self.now) }
+    {
+        (self.put_bad, self.aside_bad)
     }
 
     /// Its links and its clock.
@@ -104,6 +118,7 @@ impl<G: Origin, L: Link + Drop, C: Clock + Drop> Onward<G, L, C> {
             opener: _,
             links,
             clock,
+            handed: _,
             puts: _,
             faults: _,
             put_bad: _,
@@ -115,22 +130,29 @@ impl<G: Origin, L: Link + Drop, C: Clock + Drop> Onward<G, L, C> {
 }
 
 impl<G: Origin, L: Link + Drop, C: Clock + Drop> Sink for Onward<G, L, C> {
-    ghost contents = { λ o. None };
+    ghost contents = { λ o. Some o.handed };
 
     ghost faults = { λ o. o.faults };
 
     fn put(&mut self, piece: &[u8]) -> Result<(), Failed>
-        ensures ok { OnOk result (Appends None None piece.now) }
-        ensures err { OnErr result (AppendsPart None None piece.now) }
+        ensures ok { OnOk result (Appends (Some self.old.handed) (Some self.new.handed) piece.now) }
+        ensures err { OnErr result (AppendsPart (Some self.old.handed) (Some self.new.handed) piece.now) }
         ensures cause { HasCause self.old.faults self.new.faults result }
-        // The piece is sent on at the clock's moment, as one payload of at most 1,500 octets, and a longer one in parts.
+        // The piece is sent on at the clock's moment, as one payload of at most 1,500 octets, and a longer one in
+        // parts.
         ensures work { Puts (shows (line_of L.taken L.knows L.faults L.reads L.ends) C.moments self.old)
             (shows (line_of L.taken L.knows L.faults L.reads L.ends) C.moments self.new) piece.now result }
         ensures puts { self.new.puts ≡ min (self.old.puts + 1) (2 ^ 64 - 1) }
         ensures aside { self.new.aside_bad ≡ self.old.aside_bad }
     {
         self.puts = self.puts.saturating_add(1);
-        match send_parts(&mut self.sender, &mut self.links, &mut self.clock, piece) {
+        match send_parts(
+            &mut self.sender,
+            &mut self.links,
+            &mut self.clock,
+            &mut self.handed,
+            piece,
+        ) {
             Ok(()) => Ok(()),
             Err(bad) => {
                 self.put_bad = Some(bad);
@@ -161,7 +183,7 @@ impl<G: Origin, L: Link + Drop, C: Clock + Drop> Beside for Onward<G, L, C> {
         ensures faults { self.new.faults ≡ self.old.faults }
         ensures bad { self.new.aside_bad ≡ bad_after self.old.aside_bad result }
         ensures puts { (self.new.puts ≡ self.old.puts) × (self.new.put_bad ≡ self.old.put_bad) }
-        ensures clock { self.new.clock ≡ self.old.clock }
+        ensures clock { (self.new.clock ≡ self.old.clock) × (self.new.handed ≡ self.old.handed) }
     {
         let side = look(
             &mut self.sender,

@@ -4,8 +4,10 @@ ghost use Rattle.sender_rules.specs.Bonding.{link_count};
 ghost use Rattle.rist_sender.specs.Sender.{StaysSet};
 ghost use Rattle.rist_send.specs.Served.{line_of};
 ghost use Rattle.rist_gateway.specs.Course.{Course, SendsPart, SendsOn};
+ghost use Rattle.rist_gateway.specs.Onward.{passed_of};
 ghost use Rattle.rist_gateway.specs.Inside.Moves.{IsFar, Goes, setup_with};
 
+use crate::handed::Handed;
 use outside_net::{Clock, Link};
 use rist_sender::{SendBad, Sender};
 
@@ -17,20 +19,28 @@ fn send_part<L: Link, C: Clock>(
     sender: &mut Sender,
     links: &mut [L],
     clock: &mut C,
+    handed: &mut Handed,
     part: &[u8],
 ) -> Result<(), SendBad>
     requires part { length part.now ≤ 1500 }
     requires links { length links.old ≡ link_count sender.old.bonding }
     requires few { length links.old ≤ 16 }
     ensures work { (from : Course)
-        → IsFar (line_of L.taken L.knows L.faults L.reads L.ends) sender.old (C.moments clock.old) links.old from
-        → Goes (line_of L.taken L.knows L.faults L.reads L.ends) sender.old sender.new (C.moments clock.new)
-        links.old links.new from
+        → IsFar (line_of L.taken L.knows L.faults L.reads L.ends) sender.old
+        (passed_of (C.moments clock.old) handed.old) links.old from
+        → Goes (line_of L.taken L.knows L.faults L.reads L.ends) sender.old sender.new
+        (passed_of (C.moments clock.new) handed.new) links.old links.new from
         (SendsPart (setup_with sender.old (length links.old)) part.now result from) }
     ensures set { StaysSet sender.old sender.new }
 {
     let us = clock.now();
-    sender.send(us, part, links)
+    match sender.send(us, part, links) {
+        Ok(()) => {
+            handed.add(part);
+            Ok(())
+        }
+        Err(bad) => Err(bad),
+    }
 }
 
 /// Sends a piece in parts, up to one that is refused.
@@ -38,21 +48,23 @@ pub(crate) fn send_parts<L: Link, C: Clock>(
     sender: &mut Sender,
     links: &mut [L],
     clock: &mut C,
+    handed: &mut Handed,
     piece: &[u8],
 ) -> Result<(), SendBad>
     requires links { length links.old ≡ link_count sender.old.bonding }
     requires few { length links.old ≤ 16 }
     ensures work { (from : Course)
-        → IsFar (line_of L.taken L.knows L.faults L.reads L.ends) sender.old (C.moments clock.old) links.old from
-        → Goes (line_of L.taken L.knows L.faults L.reads L.ends) sender.old sender.new (C.moments clock.new)
-        links.old links.new from
+        → IsFar (line_of L.taken L.knows L.faults L.reads L.ends) sender.old
+        (passed_of (C.moments clock.old) handed.old) links.old from
+        → Goes (line_of L.taken L.knows L.faults L.reads L.ends) sender.old sender.new
+        (passed_of (C.moments clock.new) handed.new) links.old links.new from
         (SendsOn (setup_with sender.old (length links.old)) piece.now result from) }
     ensures set { StaysSet sender.old sender.new }
 {
     let mut rest = piece;
     while rest.len() > MAX_PART {
         let (part, more) = rest.split_at(MAX_PART);
-        match send_part(sender, links, clock, part) {
+        match send_part(sender, links, clock, handed, part) {
             Ok(()) => {}
             Err(bad) => return Err(bad),
         }
@@ -60,7 +72,7 @@ pub(crate) fn send_parts<L: Link, C: Clock>(
     }
     let left = rest.len();
     if left > 0 {
-        send_part(sender, links, clock, rest)
+        send_part(sender, links, clock, handed, rest)
     } else {
         Ok(())
     }

@@ -1,8 +1,8 @@
 //! A sending end over a link in memory.
-ghost use Rattle.std.specs.Prelude.{◌≡◌, None};
+ghost use Rattle.std.specs.Prelude.{◌≡◌, [], None};
 ghost use Rattle.rist_wire.specs.Session.{IsSession};
 ghost use Rattle.rist_send.specs.Served.{line_of};
-ghost use Rattle.rist_gateway.specs.Onward.{IsUncalled, onward_of};
+ghost use Rattle.rist_gateway.specs.Onward.{IsUncalled, onward_of, passed_of};
 
 use super::*;
 use bond_links::Bond;
@@ -49,9 +49,9 @@ fn forwarded<G: Origin, L: Link + Drop, C: Clock + Drop>(
     clock: C,
 ) -> Sent<L>
     requires first { G.first ≡ onward_of (line_of L.taken L.knows L.faults L.reads L.ends)
-        sender opener links.items (C.moments clock) 0 0 None None }
+        sender opener links.items (passed_of (C.moments clock) []) 0 0 None None }
     requires uncalled { IsUncalled (onward_of (line_of L.taken L.knows L.faults L.reads L.ends)
-        sender opener links.items (C.moments clock) 0 0 None None) }
+        sender opener links.items (passed_of (C.moments clock) []) 0 0 None None) }
 {
     let mut onward: Onward<G, L, C> = Onward::with(sender, opener, links, clock);
     for letter in b"ABC" {

@@ -3,7 +3,8 @@ ghost use Rattle.std.specs.Prelude.{◌≡◌, ◌⊎◌, reverse, true, false, 
 ghost use Rattle.std.specs.List.{list_any, list_all};
 ghost use Rattle.rist_desk.specs.Legal.{is_fault};
 ghost use Rattle.rist_recv.specs.declared.ending.Ending.{Ending};
-ghost use Rattle.rist_recv.specs.Endings.{is_spent, is_without_room, is_link_failed, any_worker, all_workers, is_write_fault, IsSound};
+ghost use Rattle.rist_recv.specs.Endings.{is_spent, is_without_room, is_link_failed, any_worker, all_workers};
+ghost use Rattle.rist_recv.specs.Endings.{is_write_fault, IsSound};
 ghost use Rattle.rist_recv.specs.Inside.Deciding.{has_fault, last_of, has_failed};
 
 use crate::ending::Ending;

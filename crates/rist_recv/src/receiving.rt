@@ -1,5 +1,6 @@
 //! The run.
-ghost use Rattle.std.specs.Prelude.{◌≡◌, ◌<◌, ◌≤◌, ◌^◌, ℕ, List, length, reverse, slice_index_or, is_some, true, false, Some};
+ghost use Rattle.std.specs.Prelude.{◌≡◌, ◌<◌, ◌≤◌, ◌^◌, ℕ, List, length, reverse, slice_index_or, is_some, true, false};
+ghost use Rattle.std.specs.Prelude.{Some};
 ghost use Rattle.outside_io.specs.Causes.{RoseWhere};
 ghost use Rattle.rist_compare.specs.declared.tear.Tear.{Tear};
 ghost use Rattle.rist_ends.specs.Receiver.{settings_of};
@@ -7,7 +8,8 @@ ghost use Rattle.rist_desk.specs.declared.step.Step.{Step};
 ghost use Rattle.rist_desk.specs.Desk.{IsNew, StandsFor, state_of};
 ghost use Rattle.rist_desk.specs.Serving.{Serves, ServesOn};
 ghost use Rattle.rist_recv.specs.declared.ending.Ending.{Ending};
-ghost use Rattle.rist_recv.specs.Endings.{is_spent, is_link_failed, any_worker, all_workers, is_write_fault, IsSound, IsWithoutRoom};
+ghost use Rattle.rist_recv.specs.Endings.{is_spent, is_link_failed, any_worker, all_workers, is_write_fault, IsSound};
+ghost use Rattle.rist_recv.specs.Endings.{IsWithoutRoom};
 ghost use Rattle.rist_recv.specs.Receiving.{IsUnused, given_by, own_lists, HasReceived, IsTorn};
 
 use crate::deciding::{ending_of, has_fault, last_of};
@@ -29,6 +31,47 @@ pub struct Received<T, K> {
     /// The steps of the run, where they are kept.
     pub trace: T,
     pub sink: K,
+}
+
+/// Ends a run whose workers have ended: the lists that were kept are compared, and then the end is told. The first
+/// ending that fits is answered.
+pub fn conclude<N: Name, T: StepTrace + Drop, K: Sink + Drop, L, C, U: StepTrace>(
+    desk: Desk<N, T, K>,
+    workers: &[Worker<L, C, U>],
+) -> Received<T, K>
+    requires few { length workers.now ≤ 16 }
+    // However it ends, the kept list is a legal history of the receiver, and the sink holds what it releases.
+    ensures stands { (steps : List Step) → T.list result.trace ≡ Some steps → StandsFor N.given
+        (state_of result.receiver (T.list result.trace) (T.limit result.trace)
+        (K.contents result.sink) (K.faults result.sink)) (reverse steps) }
+    ensures tells { is_some (T.list result.trace) ≡ N.given.tells_steps }
+    ensures settings { settings_of result.receiver ≡ N.given.settings }
+    // WriteFault comes exactly where the sink's count rose.
+    ensures fault { RoseWhere (is_write_fault result.ending) N.given.faults (K.faults result.sink) }
+    ensures spent { result.ending ≡ Ending.Spent → any_worker is_spent workers.now ≡ true }
+    ensures full { result.ending ≡ Ending.TraceFull → IsWithoutRoom workers.now N.given
+        (state_of result.receiver (T.list result.trace) (T.limit result.trace)
+        (K.contents result.sink) (K.faults result.sink)) }
+    ensures torn { (tear : Tear) → result.ending ≡ Ending.Torn tear → IsSound workers.now
+        × IsTorn N.given (T.list result.trace) (K.contents result.sink) (own_lists U.list workers.now) tear }
+    ensures down { result.ending ≡ Ending.LinksDown → IsSound workers.now
+        × (all_workers is_link_failed workers.now ≡ true)
+        × HasReceived N.given (T.list result.trace) (K.contents result.sink) (own_lists U.list workers.now) }
+    ensures done { result.ending ≡ Ending.Done → IsSound workers.now
+        × (all_workers is_link_failed workers.now ≡ false)
+        × HasReceived N.given (T.list result.trace) (K.contents result.sink) (own_lists U.list workers.now) }
+{
+    let tear = compare(desk.kept(), workers);
+    let failed = has_fault(desk.kept());
+    let mut outs = Outs::none();
+    let (answer, receiver, trace, sink) = desk.finish(&mut outs);
+    let ending = ending_of(workers, last_of(failed, &answer), tear);
+    Received {
+        ending,
+        receiver,
+        trace,
+        sink,
+    }
 }
 
 /// The run of a desk under a name.
@@ -81,25 +124,14 @@ fn session<
 {
     let desk: Mutex<Desk<N, T, K>> = Mutex::new(Desk::with(receiver, trace, sink));
     serve(rt, workers, &desk, limits);
-    let desk = desk.into_inner();
-    let tear = compare(desk.kept(), workers);
-    let failed = has_fault(desk.kept());
-    let mut outs = Outs::none();
-    let (answer, receiver, trace, sink) = desk.finish(&mut outs);
-    let ending = ending_of(workers, last_of(failed, &answer), tear);
-    Received {
-        ending,
-        receiver,
-        trace,
-        sink,
-    }
+    conclude(desk.into_inner(), workers)
 }
 
-/// Receives on the links of all workers, each in a thread of its own where one can be made, until each has ended; what the
-/// receiver plays out goes to the sink. Then the lists that were kept are compared, and then the end is told. The receiver is
-/// to be a new one, the trace and the sink empty; all three are given back. The first ending that fits is answered. What
-/// the clauses say of one ending is denied by those of each other, so each comes exactly where they say. Places of workers
-/// are those of their links, from 0.
+/// Receives on the links of all workers, each in a thread of its own where one can be made, until each has ended; what
+/// the receiver plays out goes to the sink. Then the lists that were kept are compared, and then the end is told. The
+/// receiver is to be a new one, the trace and the sink empty; all three are given back. The first ending that fits is
+/// answered. What the clauses say of one ending is denied by those of each other, so each comes exactly where they say.
+/// Places of workers are those of their links, from 0.
 pub fn receive<
     T: StepTrace + Drop + Send,
     K: Sink + Drop + Send,
@@ -124,7 +156,8 @@ pub fn receive<
     ensures served { (i : ℕ) (d : _) → i < length workers.old → Serves C.moments
         (record { reads = L.reads; taken = L.taken; knows = L.knows; ends = L.ends; faults = L.faults })
         U.list limits.now i (slice_index_or workers.old i d) (slice_index_or workers.new i d) }
-    // What it wrote is what its steps made by the rules, where the desk's trace tells its steps; and why a trace was full is told.
+    // What it wrote is what its steps made by the rules, where the desk's trace tells its steps; and why a trace was
+    // full is told.
     ensures on { (i : ℕ) (d : _) → i < length workers.old → ServesOn
         (given_by (state_of receiver (T.list trace) (T.limit trace) (K.contents sink) (K.faults sink))) C.moments
         (record { reads = L.reads; taken = L.taken; knows = L.knows; ends = L.ends; faults = L.faults })

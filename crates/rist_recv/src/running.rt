@@ -24,8 +24,8 @@ pub struct Run<K> {
     pub sink: K,
 }
 
-/// Receives on these links, each by its own clock, into an empty sink, with what was made for so many links. Links and clocks stand
-/// in their lists again when it ends.
+/// Receives on these links, each by its own clock, into an empty sink, with what was made for so many links. Links and
+/// clocks stand in their lists again when it ends.
 pub fn receive_on<
     T: MadeTrace + Drop + Send,
     K: Sink + Drop + Send,

@@ -6,8 +6,9 @@ ghost use Rattle.rist_recv.specs.Workers.{clock_of, is_unended, link_of, seat_of
 use crate::seats::Seat;
 use rist_desk::Worker;
 
-/// Sets each link with its clock into a seat, in room that was taken for them. The lists that they stood in keep their room.
-pub(crate) fn seated<L: Drop, C: Drop, U: Drop>(
+/// Sets each link with its clock into a seat, in room that was taken for them. The lists that they stood in keep their
+/// room.
+pub fn seated<L: Drop, C: Drop, U: Drop>(
     links: &mut Vec<L>,
     clocks: &mut Vec<C>,
     mut seats: Vec<Seat<U>>,
@@ -24,6 +25,8 @@ pub(crate) fn seated<L: Drop, C: Drop, U: Drop>(
     ensures no_links { (links.new.items ≡ []) × (clocks.new.items ≡ []) }
     ensures link_room { length links.old.items ≤ vec_capacity links.new }
     ensures clock_room { length links.old.items ≤ vec_capacity clocks.new }
+    ensures same_room { (vec_capacity links.new ≡ vec_capacity links.old)
+        × (vec_capacity clocks.new ≡ vec_capacity clocks.old) }
 {
     while let Some(link) = links.pop() {
         let (Some(clock), Some(Seat { opener, trace })) = (clocks.pop(), seats.pop()) else {
@@ -42,7 +45,7 @@ pub(crate) fn seated<L: Drop, C: Drop, U: Drop>(
 }
 
 /// Puts the links and the clocks of workers back into lists that have room for them.
-pub(crate) fn unseated<L: Drop, C: Drop, U: Drop>(
+pub fn unseated<L: Drop, C: Drop, U: Drop>(
     mut workers: Vec<Worker<L, C, U>>,
     links: &mut Vec<L>,
     clocks: &mut Vec<C>,
@@ -52,6 +55,8 @@ pub(crate) fn unseated<L: Drop, C: Drop, U: Drop>(
     requires clock_room { length workers.items ≤ vec_capacity clocks.old }
     ensures links { links.new.items ≡ map link_of workers.items }
     ensures clocks { clocks.new.items ≡ map clock_of workers.items }
+    ensures room { (vec_capacity links.old ≤ vec_capacity links.new)
+        × (vec_capacity clocks.old ≤ vec_capacity clocks.new) }
 {
     while let Some(worker) = workers.pop() {
         let Worker { link, clock, .. } = worker;

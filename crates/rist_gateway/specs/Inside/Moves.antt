@@ -5,23 +5,23 @@ use Rattle.rist_sender.specs.Links.{Line}
 use Rattle.rist_sender.specs.Sender.{SenderState, IsSenderAfter, rules_of}
 use Rattle.rist_sender.specs.declared.send_bad.SendBad.{SendBad}
 use Rattle.rist_send.specs.Served.{AreServed}
-use Rattle.rist_gateway.specs.Course.{Setup, Course, SendsOn}
+use Rattle.rist_gateway.specs.Course.{Setup, Passed, Course, SendsOn}
 
 -- what a sender over so many links is set to
 abbrev pub setup_with : SenderState → ℕ → Setup
 setup_with s links = record { rules = rules_of s; session = s.session; links = links }
 
--- sender, clock and links are as far as this
-pub record IsFar {L : Type 0} (line : Line L) (s : SenderState) (moments : Option (ℕ → ℕ)) (links : List L) (course : Course) : Type 0 where
+-- sender, links and what has passed are as far as this
+pub record IsFar {L : Type 0} (line : Line L) (s : SenderState) (passed : Passed) (links : List L) (course : Course) : Type 0 where
   pub sender : IsSenderAfter s course.work
-  pub moments_are : course.moments ≡ moments
+  pub passed_is : course.passed ≡ passed
   pub answers : course.answers ≡ map line.reads links
 
 -- from as far as that they have come to something of which this holds
-pub record Goes {L : Type 0} (line : Line L) (old new : SenderState) (moments : Option (ℕ → ℕ)) (was is : List L) (from : Course) (P : Course → Type 0) : Type 0 where
+pub record Goes {L : Type 0} (line : Line L) (old new : SenderState) (passed : Passed) (was is : List L) (from : Course) (P : Course → Type 0) : Type 0 where
   pub to : Course
   pub fact : P to
-  pub stands : IsFar line new moments is to
+  pub stands : IsFar line new passed is to
   pub given : AreServed line old.flow old.session from.work.history to.work.history was is
 
 -- the parts before these octets were sent: whatever the sending of the rest leaves, the sending of the piece leaves

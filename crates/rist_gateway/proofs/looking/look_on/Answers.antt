@@ -1,8 +1,7 @@
 -- By what was read.
-use Rattle.std.proofs.Common.{◌≡◌, take, length, ◌∙◌, refl, sym, subst}
+use Rattle.std.proofs.Common.{◌≡◌, take, length, refl, subst}
 use Rattle.outside_net.specs.Links.{Gave, Quiet, End, Failed}
 use Rattle.rist_gateway.specs.Course.{Setup, AfterRead, with_read}
-use Rattle.rist_gateway.specs.Inside.Moves.{setup_with}
 use Rattle.rist_gateway.proofs.MoveLemmas.{goes_none, reads_then, setup_links}
 use Rattle.rist_gateway.proofs.looking.look_on.Goals as goal
 

@@ -10,6 +10,8 @@ invariant-loop-worker g l =
     × (length l.clocks.items + length l.workers.items ≤ vec_capacity l.clocks)
     × (map link_of l.workers.items ++ reverse l.links.items ≡ map link_of l.initial.workers.items)
     × (map clock_of l.workers.items ++ reverse l.clocks.items ≡ map clock_of l.initial.workers.items)
+    × (vec_capacity l.initial.links ≤ vec_capacity l.links)
+    × (vec_capacity l.initial.clocks ≤ vec_capacity l.clocks)
 
 abbrev pub decreases-loop-worker : goal.decreases-loop-worker
 decreases-loop-worker g l = goal.left-loop-worker g l

@@ -1,0 +1,27 @@
+-- A run's links and clocks, in their lists.
+use Rattle.std.proofs.Common.{◌≡◌, ◌∙◌, ℕ, zero, suc, ◌+◌, ◌≤◌, List, [], ◌∷◌, ◌++◌, length, take, Bool, true, Option, None, Some, refl, ap, sym, subst, slice_get, arith}
+use Rattle.outside_io.specs.Causes.{RoseWhere}
+use Rattle.rist_gateway.specs.Onward.{OnwardState, IsOnward}
+
+-- where a write failed, a refused put tells why
+pub told_why : (first o : OnwardState) (b : Bool) → first.faults ≡ 0 → IsOnward first o → RoseWhere b 0 o.faults → b ≡ true → o.put_bad ≡ None → ⊥
+told_why first o b none is rose failed told =
+    let up = subst (λ (x : Bool). RoseWhere x 0 o.faults) failed rose in
+    let same = is.refused told in
+    omega (arith, up, same, none)
+
+-- the front of a front
+pub take_front : {A : Type 0} (n : ℕ) (xs ys all : List A) → xs ++ ys ≡ all → n ≤ length xs → take n xs ≡ take n all
+take_front zero xs ys all is within = refl
+take_front (suc n) [] ys all is within = absurd (omega (arith, within))
+take_front (suc n) (x ∷ xs) ys all is within = ap (λ l. x ∷ l) (take_front n xs ys (xs ++ ys) refl (omega (arith, within))) ∙ ap (take (suc n)) is
+
+-- what stands last
+pub last_at : {A : Type 0} (n : ℕ) (xs all : List A) (x : A) → all ≡ xs ++ x ∷ [] → length xs ≡ n → slice_get all n ≡ Some x
+last_at {A} n xs all x is long = ap (λ l. slice_get l n) is ∙ at n xs long
+  where
+    at : (n : ℕ) (xs : List A) → length xs ≡ n → slice_get (xs ++ x ∷ []) n ≡ Some x
+    at zero [] long = refl
+    at zero (y ∷ xs) long = absurd (omega (arith, long))
+    at (suc n) [] long = absurd (omega (arith, long))
+    at (suc n) (y ∷ xs) long = at n xs (omega (arith, long))

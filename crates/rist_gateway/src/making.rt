@@ -1,0 +1,61 @@
+//! What a run of a gateway takes memory for, before it begins.
+ghost use Rattle.std.specs.Prelude.{◌≡◌, ◌%◌, ◌≤◌, ◌+◌, IfOk, is_some};
+ghost use Rattle.sender_rules.specs.Bonding.{link_count};
+ghost use Rattle.rist_wire.specs.Session.{IsSession};
+ghost use Rattle.rist_recv.specs.Setup.{IsMade, setup_of};
+ghost use Rattle.rist_gateway.specs.Setup.{IsGateMade, gate_setup_of, rules_with};
+
+use crate::part::Part;
+use outside_io::NoMemory;
+use psk_seal::Sealer;
+use rist_recv::MadeTrace;
+use rist_sender::{Sender, Settings};
+use rist_wire::{Opener, Session};
+use std::alloc::Global;
+
+/// What a run takes memory for: its receiving end, its sender with an opener for what comes back, room for the links
+/// that are sent on, and room for the parts of both ends.
+#[derive(Drop)]
+pub struct Made<T, L, C> {
+    pub receiving: rist_recv::Made<T, L, C>,
+    pub sender: Sender,
+    pub opener: Opener,
+    pub links: Vec<L>,
+    pub parts: Vec<Part<L, C, T, C>>,
+}
+
+/// Takes the memory for a run over so many links of each end, with a receiving end that was made for its links. A
+/// sealer is handed in exactly where the session has a passphrase.
+pub fn make<T: MadeTrace + Drop, L: Drop, C: Drop>(
+    alloc: Global,
+    receiving: rist_recv::Made<T, L, C>,
+    inputs: usize,
+    settings: Settings,
+    session: &Session,
+    sealer: Option<Sealer>,
+    outputs: usize,
+) -> Result<Made<T, L, C>, NoMemory>
+    requires receiving { IsMade T.list T.limit inputs receiving }
+    requires few { inputs + outputs ≤ 16 }
+    requires flow { settings.flow % 2 ≡ 0 }
+    requires store { (1 ≤ settings.store) × (settings.store ≤ 65536) }
+    requires hold { (1 ≤ settings.hold) × (settings.hold ≤ 1000) }
+    requires session { IsSession session.now }
+    requires paired { is_some sealer ≡ is_some session.now.pass }
+    requires bonded { link_count settings.bond ≡ outputs }
+    ensures setup { IfOk result (λ made. gate_setup_of T.limit made ≡ record {
+      receiving = setup_of T.limit receiving;
+      rules = rules_with settings session.now;
+      session = session.now;
+      sealer = sealer;
+    }) }
+    ensures made { IfOk result (λ made. IsGateMade T.list T.limit inputs outputs made) }
+{
+    Ok(Made {
+        receiving,
+        sender: Sender::with(alloc, settings, session, sealer)?,
+        opener: Opener::with(alloc, session)?,
+        links: Vec::with_capacity(alloc, outputs)?,
+        parts: Vec::with_capacity(alloc, inputs + outputs)?,
+    })
+}
