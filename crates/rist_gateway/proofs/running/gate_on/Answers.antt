@@ -103,7 +103,7 @@ give_links-requires g c =
     let s = f.ensures.looked (side_workers 0 (drop c.args.inputs clocks)) hc.1 in
     let p = f.ensures.work in
     let onward_long : length f.result.links.items ≡ c.args.outputs =
-        sym (length-map f.result.links.items (shown (line_of g.L.Link.taken g.L.Link.knows g.L.Link.faults g.L.Link.reads g.L.Link.ends))) ∙ (ap length (sym p.links) ∙ (p.does.count ∙ (length-map c.hand_on.new.onward.items (shown (line_of g.L.Link.taken g.L.Link.knows g.L.Link.faults g.L.Link.reads g.L.Link.ends)) ∙ long.1))) in
+    sym (length-map f.result.links.items (shown (line_of g.L.Link.taken g.L.Link.knows g.L.Link.faults g.L.Link.reads g.L.Link.ends))) ∙ (ap length (sym p.links) ∙ (p.does.count ∙ (length-map c.hand_on.new.onward.items (shown (line_of g.L.Link.taken g.L.Link.knows g.L.Link.faults g.L.Link.reads g.L.Link.ends)) ∙ long.1))) in
     let sides_long : length s.0 ≡ c.args.outputs = s.2.count ∙ (side_count 0 (drop c.args.inputs clocks) ∙ clocks_long.1) in
     let room : length c.args.links.now.items ≤ vec_capacity c.args.links.now = search rules in
     record { room = omega (arith, f.ensures.links, long.0, onward_long, f.ensures.room.0, c.hand_on.ensures.room.0, c.requires.links, room) }
@@ -121,7 +121,7 @@ give_clocks-requires g c =
     let s = f.ensures.looked (side_workers 0 (drop c.args.inputs clocks)) hc.1 in
     let p = f.ensures.work in
     let onward_long : length f.result.links.items ≡ c.args.outputs =
-        sym (length-map f.result.links.items (shown (line_of g.L.Link.taken g.L.Link.knows g.L.Link.faults g.L.Link.reads g.L.Link.ends))) ∙ (ap length (sym p.links) ∙ (p.does.count ∙ (length-map c.hand_on.new.onward.items (shown (line_of g.L.Link.taken g.L.Link.knows g.L.Link.faults g.L.Link.reads g.L.Link.ends)) ∙ long.1))) in
+    sym (length-map f.result.links.items (shown (line_of g.L.Link.taken g.L.Link.knows g.L.Link.faults g.L.Link.reads g.L.Link.ends))) ∙ (ap length (sym p.links) ∙ (p.does.count ∙ (length-map c.hand_on.new.onward.items (shown (line_of g.L.Link.taken g.L.Link.knows g.L.Link.faults g.L.Link.reads g.L.Link.ends)) ∙ long.1))) in
     let sides_long : length s.0 ≡ c.args.outputs = s.2.count ∙ (side_count 0 (drop c.args.inputs clocks) ∙ clocks_long.1) in
     let room : length c.args.clocks.now.items ≤ vec_capacity c.args.clocks.now = search rules in
     record { room = omega (arith, ap length s.1, parts_count g.row.L.Denot g.row.C.Denot g.row.T.Denot s.0, sides_long, f.ensures.clocks, clocks_long.0, f.ensures.room.1, c.hand_on.ensures.room.1, c.pop.ensures.capacity, c.requires.clocks, room) }
@@ -139,7 +139,7 @@ returns-clause-links g c =
     let s = f.ensures.looked (side_workers 0 (drop c.args.inputs clocks)) hc.1 in
     let p = f.ensures.work in
     let onward_long : length f.result.links.items ≡ c.args.outputs =
-        sym (length-map f.result.links.items (shown (line_of g.L.Link.taken g.L.Link.knows g.L.Link.faults g.L.Link.reads g.L.Link.ends))) ∙ (ap length (sym p.links) ∙ (p.does.count ∙ (length-map c.hand_on.new.onward.items (shown (line_of g.L.Link.taken g.L.Link.knows g.L.Link.faults g.L.Link.reads g.L.Link.ends)) ∙ long.1))) in
+    sym (length-map f.result.links.items (shown (line_of g.L.Link.taken g.L.Link.knows g.L.Link.faults g.L.Link.reads g.L.Link.ends))) ∙ (ap length (sym p.links) ∙ (p.does.count ∙ (length-map c.hand_on.new.onward.items (shown (line_of g.L.Link.taken g.L.Link.knows g.L.Link.faults g.L.Link.reads g.L.Link.ends)) ∙ long.1))) in
     let sides_long : length s.0 ≡ c.args.outputs = s.2.count ∙ (side_count 0 (drop c.args.inputs clocks) ∙ clocks_long.1) in
     let back = ap length c.give_links.ensures.value ∙ length-append f.new.links.items f.result.links.items in
     omega (arith, back, onward_long, f.ensures.links, long.0, c.requires.links)
@@ -157,14 +157,14 @@ returns-clause-clocks g c =
     let s = f.ensures.looked (side_workers 0 (drop c.args.inputs clocks)) hc.1 in
     let p = f.ensures.work in
     let onward_long : length f.result.links.items ≡ c.args.outputs =
-        sym (length-map f.result.links.items (shown (line_of g.L.Link.taken g.L.Link.knows g.L.Link.faults g.L.Link.reads g.L.Link.ends))) ∙ (ap length (sym p.links) ∙ (p.does.count ∙ (length-map c.hand_on.new.onward.items (shown (line_of g.L.Link.taken g.L.Link.knows g.L.Link.faults g.L.Link.reads g.L.Link.ends)) ∙ long.1))) in
+    sym (length-map f.result.links.items (shown (line_of g.L.Link.taken g.L.Link.knows g.L.Link.faults g.L.Link.reads g.L.Link.ends))) ∙ (ap length (sym p.links) ∙ (p.does.count ∙ (length-map c.hand_on.new.onward.items (shown (line_of g.L.Link.taken g.L.Link.knows g.L.Link.faults g.L.Link.reads g.L.Link.ends)) ∙ long.1))) in
     let sides_long : length s.0 ≡ c.args.outputs = s.2.count ∙ (side_count 0 (drop c.args.inputs clocks) ∙ clocks_long.1) in
     let room : length c.args.clocks.now.items ≤ vec_capacity c.args.clocks.now = search rules in
     let given = c.give_clocks.ensures.value s.0 s.1 in
     let given_long = ap length given ∙ length-append f.new.clocks.items (map side_clock s.0) in
     let side_long = length-map s.0 side_clock in
     let more = pushed c.push.result (c.give_clocks.new.clocks.items ++ f.result.clock ∷ []) c.give_clocks.new.clocks.items c.push.new.self.items
-        (c.push.ensures.succeeds (omega (arith, given_long, side_long, sides_long, f.ensures.clocks, clocks_long.0, c.give_clocks.ensures.room, f.ensures.room.1, c.hand_on.ensures.room.1, c.pop.ensures.capacity, c.requires.clocks, room))) c.push.ensures.items in
+    (c.push.ensures.succeeds (omega (arith, given_long, side_long, sides_long, f.ensures.clocks, clocks_long.0, c.give_clocks.ensures.room, f.ensures.room.1, c.hand_on.ensures.room.1, c.pop.ensures.capacity, c.requires.clocks, room))) c.push.ensures.items in
     let last_long = ap length more ∙ length-append c.give_clocks.new.clocks.items (f.result.clock ∷ []) in
     omega (arith, last_long, given_long, side_long, sides_long, f.ensures.clocks, clocks_long.0, c.requires.clocks)
 
@@ -181,14 +181,14 @@ returns-clause-work g c =
     let s = f.ensures.looked (side_workers 0 (drop c.args.inputs clocks)) hc.1 in
     let p = f.ensures.work in
     let onward_long : length f.result.links.items ≡ c.args.outputs =
-        sym (length-map f.result.links.items (shown (line_of g.L.Link.taken g.L.Link.knows g.L.Link.faults g.L.Link.reads g.L.Link.ends))) ∙ (ap length (sym p.links) ∙ (p.does.count ∙ (length-map c.hand_on.new.onward.items (shown (line_of g.L.Link.taken g.L.Link.knows g.L.Link.faults g.L.Link.reads g.L.Link.ends)) ∙ long.1))) in
+    sym (length-map f.result.links.items (shown (line_of g.L.Link.taken g.L.Link.knows g.L.Link.faults g.L.Link.reads g.L.Link.ends))) ∙ (ap length (sym p.links) ∙ (p.does.count ∙ (length-map c.hand_on.new.onward.items (shown (line_of g.L.Link.taken g.L.Link.knows g.L.Link.faults g.L.Link.reads g.L.Link.ends)) ∙ long.1))) in
     let sides_long : length s.0 ≡ c.args.outputs = s.2.count ∙ (side_count 0 (drop c.args.inputs clocks) ∙ clocks_long.1) in
     let room : length c.args.clocks.now.items ≤ vec_capacity c.args.clocks.now = search rules in
     let given = c.give_clocks.ensures.value s.0 s.1 in
     let given_long = ap length given ∙ length-append f.new.clocks.items (map side_clock s.0) in
     let side_long = length-map s.0 side_clock in
     let more = pushed c.push.result (c.give_clocks.new.clocks.items ++ f.result.clock ∷ []) c.give_clocks.new.clocks.items c.push.new.self.items
-        (c.push.ensures.succeeds (omega (arith, given_long, side_long, sides_long, f.ensures.clocks, clocks_long.0, c.give_clocks.ensures.room, f.ensures.room.1, c.hand_on.ensures.room.1, c.pop.ensures.capacity, c.requires.clocks, room))) c.push.ensures.items in
+    (c.push.ensures.succeeds (omega (arith, given_long, side_long, sides_long, f.ensures.clocks, clocks_long.0, c.give_clocks.ensures.room, f.ensures.room.1, c.hand_on.ensures.room.1, c.pop.ensures.capacity, c.requires.clocks, room))) c.push.ensures.items in
     let line = (line_of g.L.Link.taken g.L.Link.knows g.L.Link.faults g.L.Link.reads g.L.Link.ends) in
     let inputs = c.args.inputs in
     let links_now = c.give_links.new.links.items in
@@ -210,7 +210,7 @@ returns-clause-work g c =
     let was_back = ap (drop inputs) (front_is whole clocks (clock ∷ []) clocks_was (sym c.in-Some.ensures.items) front_long) in
     let now_back = back_is inputs f.new.clocks.items sides (f.new.clocks.items ++ sides) refl clocks_three ∙ ap (drop inputs) (front_is whole (f.new.clocks.items ++ sides) (f.result.clock ∷ []) clocks_now all_clocks back_long) in
     let received : List g.row.L.Denot → List g.row.L.Denot → List g.row.C.Denot → List g.row.C.Denot → Type 0 = λ a b x y.
-        Receives g.C.Clock.moments (tells_of line) (setup_of g.T.Trace.limit c.args.made.receiving) c.args.limits.now a b x y (Some []) (Some p.last.passed.sent) 0 p.last.faults f.result.counts p.ended in
+    Receives g.C.Clock.moments (tells_of line) (setup_of g.T.Trace.limit c.args.made.receiving) c.args.limits.now a b x y (Some []) (Some p.last.passed.sent) 0 p.last.faults f.result.counts p.ended in
     let shown_long = length-map c.hand_on.new.onward.items (shown line) in
     record {
       first = onward_of line c.args.made.sender c.args.made.opener c.hand_on.new.onward.items (passed_of (g.C.Clock.moments clock) []) 0 0 None None;

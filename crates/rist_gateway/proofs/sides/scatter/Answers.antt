@@ -30,6 +30,8 @@ loop-left-preserved g c =
     }
 
 pub returns : goal.returns
-returns g c = record { apart = λ ws rest is long.
-    let s = c.loop-left.invariant.scattered ws rest (c.reverse.ensures.items ∙ ap (λ l. reverse l) is) long in
-    scattered_all ws c.loop-left.workers.items rest c.loop-left.parts.items (omega (arith, s.0, long, c.loop-left-test.false)) s.1 }
+returns g c = record {
+  apart = λ ws rest is long.
+      let s = c.loop-left.invariant.scattered ws rest (c.reverse.ensures.items ∙ ap (λ l. reverse l) is) long in
+      scattered_all ws c.loop-left.workers.items rest c.loop-left.parts.items (omega (arith, s.0, long, c.loop-left-test.false)) s.1;
+}

@@ -22,7 +22,7 @@ gate-requires-clause-placed g c κs within = λ i d less.
 
 served_of : (g : given.Over) (c : goal.After-scatter g)
     → Served g.N.Name.given g.C.Clock.moments g.C.Clock.moments (record { reads = g.L.Link.reads; taken = g.L.Link.taken; knows = g.L.Link.knows; ends = g.L.Link.ends; faults = g.L.Link.faults })
-      (record { list = g.U.Trace.list; limit = g.U.Trace.limit }) c.args.limits.now 0 c.args.workers.now.items c.requires.room.sides c.gate.new.parts
+    (record { list = g.U.Trace.list; limit = g.U.Trace.limit }) c.args.limits.now 0 c.args.workers.now.items c.requires.room.sides c.gate.new.parts
 served_of g c =
     let ws = c.args.workers.now.items in
     let sides = c.requires.room.sides in
