@@ -23,9 +23,11 @@ ServesPart given moments ticks tells trace limits place (parts.Sending old) (par
 
 -- ---- side workers, the last one first
 
+-- what a worker is among the parts
 abbrev pub receiving_part : {L C U D : Type 0} → Worker L C U → Part L C U D
 receiving_part worker = parts.Receiving worker
 
+-- what a side worker is among them
 abbrev pub sending_part : {L C U D : Type 0} → SideWorker D → Part L C U D
 sending_part side = parts.Sending side
 
@@ -38,6 +40,7 @@ abbrev pub side_workers : {D : Type 0} → ℕ → List D → List (SideWorker D
 side_workers place [] = []
 side_workers place (clock ∷ clocks) = (record { link = place; clock = clock; end = None }) ∷ side_workers (place + 1) clocks
 
+-- the clock of a side worker
 abbrev pub side_clock : {D : Type 0} → SideWorker D → D
 side_clock side = side.clock
 
