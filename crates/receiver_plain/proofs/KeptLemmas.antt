@@ -7,7 +7,7 @@ use Rattle.receiver_rules.specs.declared.anchor.Anchor.{Anchor}
 use Rattle.receiver_plain.specs.declared.kept.Kept.{Kept}
 use Rattle.receiver_rules.specs.declared.place.Position.{Position}
 use Rattle.receiver_rules.specs.Steps.{Arrival}
-use Rattle.receiver_rules.specs.Packets.{Packet, Moment, is_due_by, distance, is_played_out, is_behind_playout, is_duplicate, is_beyond_capacity, insert_by_number, verdict_of, first_verdict, tests_of, placed_packet, highest_of}
+use Rattle.receiver_rules.specs.Packets.{Packet, Moment, is_due_by, distance, is_played_out, is_buffered, is_behind_playout, is_duplicate, is_beyond_capacity, insert_by_number, verdict_of, first_verdict, tests_of, placed_packet, highest_of}
 use Rattle.receiver_rules.specs.Seen.{packet_at, IsPlaceOf}
 use Rattle.receiver_plain.specs.Kept.{kept_packet, kept_packets}
 use Rattle.receiver_plain.specs.Inside.Kept.{at_number, at_deadline}
@@ -27,6 +27,9 @@ twice_plain n ks = sym (any_kept (λ k. k.number == n) ks)
 
 pub span_plain : (limits : Limits) (m : Moment) (n : ℕ) (ks : List Kept) → list_any (λ k. not (is_played_out (kept_packets ks) m (at_number k.place.number)) && nat_le limits.capacity (distance k.place.number n)) ks ≡ is_beyond_capacity limits (kept_packets ks) m (at_number n)
 span_plain limits m n ks = sym (any_kept (λ k. not (is_played_out (kept_packets ks) m k) && nat_le limits.capacity (distance k.number n)) ks)
+
+pub waiting_plain : (m : Moment) (ks : List Kept) → list_any (λ k. not (is_played_out (kept_packets ks) m (at_number k.place.number))) ks ≡ list_any (is_buffered (kept_packets ks) m) (kept_packets ks)
+waiting_plain m ks = sym (any_kept (λ k. not (is_played_out (kept_packets ks) m k)) ks)
 
 -- the verdict by number and deadline is that on the arrival
 pub judged_plain : (limits : Limits) (anchor : Anchor) (ks : List Packet) (t : ℕ) (arrival : Arrival) (place : Position) → IsPlaceOf place (placed_packet limits anchor (highest_of ks) arrival)

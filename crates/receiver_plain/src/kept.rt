@@ -1,8 +1,8 @@
 //! The packets that were kept, and each test made over all of them.
-ghost use Rattle.std.specs.Prelude.{◌≡◌, ◌<◌, ◌≤◌, ◌^◌, ◌&&◌, ◌==◌, ◌∷◌, List, map, nat_le, nat_lt, not, length, IfOk, OnOk};
+ghost use Rattle.std.specs.Prelude.{◌≡◌, ◌<◌, ◌≤◌, ◌^◌, ◌&&◌, ◌==◌, ◌∷◌, ◌++◌, List, map, nat_le, nat_lt, not, length, IfOk, OnOk};
 ghost use Rattle.std.specs.List.{list_any, filter, position_or_len};
 ghost use Rattle.std.specs.Option.{ForSome};
-ghost use Rattle.receiver_rules.specs.Packets.{highest_of, distance, is_due_by, is_played_out, is_behind_playout, is_duplicate, is_beyond_capacity, insert_by_number, verdict_of, first_verdict, tests_of, placed_packet};
+ghost use Rattle.receiver_rules.specs.Packets.{At, highest_of, distance, is_due_by, is_played_out, is_buffered, is_behind_playout, is_duplicate, is_beyond_capacity, insert_by_number, verdict_of, first_verdict, tests_of, placed_packet};
 ghost use Rattle.receiver_rules.specs.Seen.{seen, moment_of, IsPlaceOf};
 ghost use Rattle.receiver_rules.specs.Bounds.{AreInRange};
 ghost use Rattle.receiver_plain.specs.Told.{payload_of};
@@ -153,22 +153,49 @@ fn is_any_far(kept: &[Kept<'_>], capacity: u64, until: Option<u64>, number: u64)
         && k.place.number.abs_diff(number) >= capacity)
 }
 
-/// The payloads of the packets that are out, in the order in which they stand.
-pub fn payloads_out<'a>(
-    alloc: Global,
+/// Whether some packet waits at a time.
+pub fn is_any_buffered(kept: &[Kept<'_>], t: u64) -> bool
+    requires { t < 2 ^ 61 }
+    ensures { result ≡ list_any (is_buffered (kept_packets kept.now) (At t)) (kept_packets kept.now) }
+{
+    is_any_waiting(kept, Some(t))
+}
+
+fn is_any_waiting(kept: &[Kept<'_>], until: Option<u64>) -> bool
+    requires { ForSome until (λ t. t < 2 ^ 61) }
+    ensures { result ≡ list_any (λ k. not (is_played_out (kept_packets kept.now) (moment_of until)
+        (at_number k.place.number))) kept.now }
+{
+    kept.iter().any(|k| !is_out(kept, until, k.place.number))
+}
+
+/// Adds the payloads of the packets that are out, in the order in which they stand.
+pub fn add_payloads_out<'a>(
+    payloads: &mut Vec<&'a [u8]>,
     kept: &[Kept<'_>],
     ordered: &[Kept<'a>],
     until: Option<u64>,
-) -> Result<Vec<&'a [u8]>, AllocError>
+) -> Result<(), AllocError>
     requires { ForSome until (λ t. t < 2 ^ 61) }
-    ensures { IfOk result (λ payloads. map payload_of payloads.items
-        ≡ map (λ p. p.payload) (filter (is_played_out (kept_packets kept.now) (moment_of until)) (kept_packets ordered.now))) }
+    ensures { OnOk result (map payload_of payloads.new.items ≡ map payload_of payloads.old.items
+        ++ map (λ p. p.payload) (filter (is_played_out (kept_packets kept.now) (moment_of until)) (kept_packets ordered.now))) }
 {
-    let mut payloads = Vec::new(alloc);
     for k in ordered {
         if is_out(kept, until, k.place.number) {
             payloads.push(k.payload)?;
         }
+    }
+    Ok(())
+}
+
+/// The payloads of some packets, in the order in which they stand.
+pub fn payloads_in<'a>(alloc: Global, packets: &[Kept<'a>]) -> Result<Vec<&'a [u8]>, AllocError>
+    ensures { IfOk result (λ payloads. map payload_of payloads.items
+        ≡ map (λ p. p.payload) (kept_packets packets.now)) }
+{
+    let mut payloads = Vec::new(alloc);
+    for k in packets {
+        payloads.push(k.payload)?;
     }
     Ok(payloads)
 }

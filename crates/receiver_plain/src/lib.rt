@@ -11,5 +11,5 @@ mod tests;
 
 pub use kept::Kept;
 pub use programs::{released, verdicts};
-pub use running::{Run, nothing_yet, take};
+pub use running::{Run, nothing_yet, opens_epoch, take};
 pub use steps::{Event, Step};

@@ -1,20 +1,20 @@
 //! What a plain program knows after some steps.
-ghost use Rattle.std.specs.Prelude.{◌≡◌, ◌<◌, ◌^◌, [], ◌∷◌, List, if◌then◌else◌, IfOk, OnOk, unwrap_or};
+ghost use Rattle.std.specs.Prelude.{◌≡◌, ◌<◌, ◌^◌, [], ◌∷◌, ◌++◌, List, if◌then◌else◌, IfOk, OnOk, unwrap_or};
 ghost use Rattle.std.specs.List.{All};
 ghost use Rattle.std.specs.Option.{ForSome};
 ghost use Rattle.seq_unwrap.specs.Nearest.{cycle_of};
 ghost use Rattle.receiver_rules.specs.declared.limits.Limits.{Limits};
 ghost use Rattle.receiver_rules.specs.Steps.{Step as RuleStep};
 ghost use Rattle.receiver_rules.specs.Packets.{highest_of, is_kept, insert_by_number};
-ghost use Rattle.receiver_rules.specs.History.{new_anchor as anchor_fixed};
+ghost use Rattle.receiver_rules.specs.Epochs.{new_anchor as anchor_fixed, epochs_of, opens_epoch};
 ghost use Rattle.receiver_rules.specs.Seen.{seen, packet_at};
 ghost use Rattle.receiver_rules.specs.Bounds.{AreInRange, IsEarlyAnchor};
 ghost use Rattle.receiver_plain.specs.Told.{step_of, history_of, IsFit};
 ghost use Rattle.receiver_plain.specs.Kept.{kept_packets};
 ghost use Rattle.receiver_plain.specs.Run.{IsSmallRun, RunShows};
-ghost use Rattle.receiver_plain.specs.Inside.Run.{kept_with, ordered_with, SameButKept, IsBrought, IsKeptAfter};
+ghost use Rattle.receiver_plain.specs.Inside.Run.{kept_with, ordered_with, opens_here, SameButKept, IsBrought, IsKeptAfter, IsTurned, IsTaken};
 
-use crate::kept::{Kept, insert_in_order, judge_arrival};
+use crate::kept::{Kept, insert_in_order, is_any_buffered, judge_arrival};
 use crate::steps::{Event, Step};
 use receiver_rules::place::{Position, highest_after, new_anchor, place_of};
 use receiver_rules::{Anchor, Arrival, Highest, Limits, Verdict};
@@ -27,14 +27,18 @@ pub struct Run<'a> {
     pub time: u64,
     /// Whether some step ended the stream.
     pub has_ended: bool,
-    /// What the first media arrival fixed.
+    /// What the current epoch's first arrival fixed.
     pub anchor: Option<Anchor>,
-    /// The kept packet with the highest number.
+    /// The packet with the highest number that it has kept.
     pub highest: Option<Highest>,
-    /// All that was kept, the newest first.
+    /// All that it has kept, the newest first.
     pub kept: Vec<Kept<'a>>,
     /// The same by rising number.
     pub ordered: Vec<Kept<'a>>,
+    /// When the last of them came, in ticks.
+    pub last: u64,
+    /// What was kept in earlier epochs, one after another, each one's by rising number.
+    pub over: Vec<Kept<'a>>,
     /// The verdict on each arrival, in order.
     pub verdicts: Vec<Verdict>,
 }
@@ -64,6 +68,8 @@ pub fn nothing_yet<'a>(alloc: Global) -> Run<'a>
         highest: None,
         kept: Vec::new(alloc),
         ordered: Vec::new(alloc),
+        last: 0,
+        over: Vec::new(alloc),
         verdicts: Vec::new(alloc),
     }
 }
@@ -88,7 +94,80 @@ pub fn take<'a>(run: &mut Run<'a>, limits: &Limits, step: &Step<'a>) -> Result<(
     }
 }
 
+/// An arrival, which may open an epoch.
 fn bring<'a>(run: &mut Run<'a>, limits: &Limits, arrival: &Arrival<'a>) -> Result<(), AllocError>
+    requires limits { AreInRange limits.now }
+    requires word { arrival.now.word < cycle_of arrival.now.width }
+    requires small { IsSmallRun run.old }
+    ensures small { OnOk result (IsSmallRun run.new) }
+    ensures after { OnOk result (IsTaken limits.now (seen arrival.now) run.old run.new) }
+{
+    let opens = opens_epoch(run, limits, run.time, arrival);
+    turn(run, opens)?;
+    judge(run, limits, arrival)
+}
+
+/// Whether an arrival at a time opens an epoch.
+pub fn opens_epoch(run: &Run<'_>, limits: &Limits, t: u64, arrival: &Arrival<'_>) -> bool
+    requires limits { AreInRange limits.now }
+    requires small { IsSmallRun run.now }
+    requires time { t < 2 ^ 61 }
+    ensures value { result
+        ≡ opens_here limits.now run.now.anchor (kept_packets run.now.kept.items) run.now.last t (seen arrival.now) }
+    ensures shows { (history : List RuleStep) → RunShows limits.now run.now history
+        → result ≡ opens_epoch limits.now (epochs_of limits.now history) t (seen arrival.now) }
+{
+    is_opening(run, limits, t, arrival)
+}
+
+fn is_opening(run: &Run<'_>, limits: &Limits, t: u64, arrival: &Arrival<'_>) -> bool
+    requires limits { AreInRange limits.now }
+    requires small { IsSmallRun run.now }
+    requires time { t < 2 ^ 61 }
+    ensures { result
+        ≡ opens_here limits.now run.now.anchor (kept_packets run.now.kept.items) run.now.last t (seen arrival.now) }
+{
+    match run.anchor {
+        None => true,
+        Some(anchor) => {
+            arrival.flow != anchor.flow
+                && limits.restart_time > 0
+                && !is_any_buffered(run.kept.as_slice(), t)
+                && run.last + limits.restart_time <= t
+        }
+    }
+}
+
+/// Begins an epoch where an arrival opens one: what was kept before is over.
+fn turn(run: &mut Run<'_>, opens: bool) -> Result<(), AllocError>
+    requires small { IsSmallRun run.old }
+    ensures small { OnOk result (IsSmallRun run.new) }
+    ensures turned { OnOk result (IsTurned opens run.old run.new) }
+{
+    if opens {
+        append(&mut run.over, run.ordered.as_slice())?;
+        run.kept.clear();
+        run.ordered.clear();
+        run.anchor = None;
+        run.highest = None;
+        run.last = run.time;
+    }
+    Ok(())
+}
+
+/// Puts packets behind others.
+fn append<'a>(over: &mut Vec<Kept<'a>>, packets: &[Kept<'a>]) -> Result<(), AllocError>
+    ensures { OnOk result
+        (kept_packets over.new.items ≡ kept_packets over.old.items ++ kept_packets packets.now) }
+{
+    for packet in packets {
+        over.push(*packet)?;
+    }
+    Ok(())
+}
+
+/// An arrival of the current epoch, or the first of it.
+fn judge<'a>(run: &mut Run<'a>, limits: &Limits, arrival: &Arrival<'a>) -> Result<(), AllocError>
     requires limits { AreInRange limits.now }
     requires word { arrival.now.word < cycle_of arrival.now.width }
     requires small { IsSmallRun run.old }
@@ -136,6 +215,7 @@ fn settle<'a>(
     ensures ordered { OnOk result (kept_packets run.new.ordered.items
         ≡ ordered_with verdict (packet_at place payload.now) (kept_packets run.old.ordered.items)) }
     ensures known { OnOk result (run.new.highest ≡ highest_of (kept_packets run.new.kept.items)) }
+    ensures last { OnOk result (run.new.last ≡ (if is_kept verdict then run.old.time else run.old.last)) }
 {
     if verdict.is_kept() {
         keep(run, place, payload)?;
@@ -151,5 +231,6 @@ fn keep<'a>(run: &mut Run<'a>, place: Position, payload: &'a [u8]) -> Result<(),
     run.kept.insert(0, packet)?;
     insert_in_order(&mut run.ordered, &packet)?;
     run.highest = Some(highest_after(run.highest, place.number, place.timestamp));
+    run.last = run.time;
     Ok(())
 }

@@ -1,5 +1,5 @@
 //! The worked runs, by the plain programs.
-ghost use Rattle.std.specs.Prelude.{◌<◌, ◌^◌};
+ghost use Rattle.std.specs.Prelude.{◌<◌, ◌≤◌, ◌^◌};
 ghost use Rattle.std.specs.List.{All};
 ghost use Rattle.receiver_rules.specs.Bounds.{AreInRange};
 ghost use Rattle.receiver_plain.specs.Told.{IsFit};
@@ -10,13 +10,15 @@ use seq_unwrap::Width;
 use std::alloc::{AllocError, Global};
 use std::test::Fail;
 
-/// A delay of one second, and a span of 8.
-fn usual() -> Limits
+/// A delay of one second, a span of 8, and a restart time in ticks.
+fn restarting(restart_time: u64) -> Limits
+    requires { restart_time ≤ 180000 }
     ensures { AreInRange result }
 {
     Limits {
         playout_delay: 90_000,
         capacity: 8,
+        restart_time,
     }
 }
 
@@ -74,7 +76,21 @@ fn answers(
 ) -> Result<bool, AllocError>
     requires steps { All IsFit steps.now }
 {
-    let limits = usual();
+    answers_under(alloc, 0, steps, want, written)
+}
+
+/// The same under a restart time in ticks.
+fn answers_under(
+    alloc: Global,
+    restart_time: u64,
+    steps: &[Step<'_>],
+    want: &[Verdict],
+    written: &[u8],
+) -> Result<bool, AllocError>
+    requires restart { restart_time ≤ 180000 }
+    requires steps { All IsFit steps.now }
+{
+    let limits = restarting(restart_time);
     let given = verdicts(alloc, &limits, steps)?;
     let payloads = released(alloc, &limits, steps)?;
     let mut bytes = Vec::new(alloc);
@@ -172,5 +188,30 @@ fn the_span_counts_against_what_is_buffered(rt: HostRuntime) -> Result<(), Fail>
     let beyond = brings(0, 11, 90_001, b"B");
     assert!(rt; answers(alloc, &[first, ahead], &two, b"")?);
     assert!(rt; answers(alloc, &[first, beyond], &early, b"")?);
+    Ok(())
+}
+
+#[test]
+fn another_flow_takes_over_once_nothing_waits_and_the_restart_time_has_passed(
+    rt: HostRuntime,
+) -> Result<(), Fail> {
+    let alloc = rt.alloc();
+    let first = brings(0, 10, 0, b"A");
+    let refused = [Verdict::Kept, Verdict::Stranger];
+    let kept = [Verdict::Kept, Verdict::Kept];
+    let (one, both): (&[u8], &[u8]) = (b"A", b"AB");
+    for (restart_time, tick, want, written) in [
+        (180_000, 179_999, &refused, one),
+        (180_000, 180_000, &kept, both),
+        (45_000, 45_000, &refused, one),
+        (45_000, 90_000, &kept, both),
+        (0, 900_000, &refused, one),
+    ] {
+        let steps = [first, media(0x2030_4050, tick, 7, 0, b"B"), ends()];
+        assert!(rt;
+            answers_under(alloc, restart_time, &steps, want, written)?,
+            "at {tick}"
+        );
+    }
     Ok(())
 }

@@ -1,7 +1,8 @@
 -- The worked runs, computed from the definitions.
-use Rattle.std.specs.Prelude.{◌≡◌, ℕ, ◌*◌, ◌-◌, List, [], ◌∷◌, reverse}
+use Rattle.std.specs.Prelude.{◌≡◌, ℕ, ◌+◌, ◌*◌, ◌-◌, List, [], ◌∷◌, reverse}
 use Rattle.seq_unwrap.specs.declared.width.Width.TheVariants.{W16}
-use Rattle.receiver_rules.specs.Sent.{CopyOf, reached_numbers}
+use Rattle.receiver_rules.specs.Sent.{SentStream, CopyOf, reached_numbers}
+use Rattle.receiver_rules.specs.SentEpochs.{CopyIn, sent_epochs, reached_payloads}
 use Rattle.std.proofs.Common.{refl}
 use Rattle.receiver_rules.specs.declared.verdict.Verdict.TheVariants.{Kept, Stranger, Late, Behind, Early, Twice, Span}
 use Rattle.receiver_rules.specs.declared.verdict.Verdict.{Verdict}
@@ -14,7 +15,7 @@ use Rattle.seq_unwrap.specs.Nearest.{nearest}
 
 -- a delay of one second, and a span of 8
 abbrev usual : Limits
-usual = record { playout_delay = 90000; capacity = 8 }
+usual = record { playout_delay = 90000; capacity = 8; restart_time = 0 }
 
 -- an arrival of flow 1, with one octet
 abbrev brings : ℕ → ℕ → ℕ → ℕ → Step
@@ -31,6 +32,21 @@ verdicts run = verdicts_of usual (reverse run)
 -- what a run releases
 abbrev written : List Step → List ℕ
 written run = released_bytes usual (reverse run)
+
+-- an arrival of a flow, with one octet
+abbrev brings_of : ℕ → ℕ → ℕ → ℕ → Step
+brings_of flow tick word octet = record { tick = tick; event = Media (record { flow = flow; width = W16; word = word; timestamp = 0; payload = octet ∷ [] }) }
+
+-- the same delay and span, and a restart time in ticks
+abbrev restarting : ℕ → Limits
+restarting restart = record { playout_delay = 90000; capacity = 8; restart_time = restart }
+
+-- the verdicts of a run under a restart time, and what it releases
+abbrev verdicts_under : ℕ → List Step → List Verdict
+verdicts_under restart run = verdicts_of (restarting restart) (reverse run)
+
+abbrev written_under : ℕ → List Step → List ℕ
+written_under restart run = released_bytes (restarting restart) (reverse run)
 
 -- ---- the runs
 
@@ -93,3 +109,61 @@ wraps = refl
 late_copy : reached_numbers usual (record { flow = 1; width = W16; timestamp = λ n. 900 * (n - 65534); payload = λ n. n ∷ [] })
     (record { tick = 91800; what = CopyOf 65536 } ∷ record { tick = 300; what = CopyOf 65535 } ∷ record { tick = 200; what = CopyOf 65537 } ∷ record { tick = 100; what = CopyOf 65537 } ∷ record { tick = 0; what = CopyOf 65534 } ∷ []) ≡ 65535 ∷ 65537 ∷ 65537 ∷ 65534 ∷ []
 late_copy = refl
+
+-- ---- a flow that restarts: flow 1's number 10 comes at tick 0 and is due at 90,000
+
+-- a restart time of two seconds: one tick early the other flow's packet is a stranger
+too_soon : verdicts_under 180000 (brings 0 10 0 65 ∷ brings_of 2 179999 7 66 ∷ []) ≡ Kept ∷ Stranger ∷ []
+unfolding nearest
+too_soon = refl
+
+-- and then it is kept: number 10 goes out before it, and it at the end
+restarts : verdicts_under 180000 (brings 0 10 0 65 ∷ brings_of 2 180000 7 66 ∷ []) ≡ Kept ∷ Kept ∷ []
+unfolding nearest
+restarts = refl
+
+restarts_written : written_under 180000 (brings 0 10 0 65 ∷ brings_of 2 180000 7 66 ∷ []) ≡ 65 ∷ []
+unfolding nearest
+restarts_written = refl
+
+restarts_end : written_under 180000 (brings 0 10 0 65 ∷ brings_of 2 180000 7 66 ∷ end_step ∷ []) ≡ 65 ∷ 66 ∷ []
+unfolding nearest
+restarts_end = refl
+
+-- half a second: while a packet waits no epoch opens
+still_waits : verdicts_under 45000 (brings 0 10 0 65 ∷ brings_of 2 45000 7 66 ∷ []) ≡ Kept ∷ Stranger ∷ []
+unfolding nearest
+still_waits = refl
+
+nothing_waits : verdicts_under 45000 (brings 0 10 0 65 ∷ brings_of 2 90000 7 66 ∷ []) ≡ Kept ∷ Kept ∷ []
+unfolding nearest
+nothing_waits = refl
+
+-- without a restart time another flow stays a stranger
+never : verdicts_under 0 (brings 0 10 0 65 ∷ brings_of 2 900000 7 66 ∷ []) ≡ Kept ∷ Stranger ∷ []
+unfolding nearest
+never = refl
+
+-- a flow that was there before opens an epoch again, and its numbers count anew
+comes_back : written_under 45000 (brings 0 10 0 65 ∷ brings_of 2 90000 7 66 ∷ brings_of 1 180000 3 67 ∷ end_step ∷ []) ≡ 65 ∷ 66 ∷ 67 ∷ []
+unfolding nearest
+comes_back = refl
+
+-- a stranger puts the time off for none: only kept packets do
+strangers_do_not_count : verdicts_under 180000 (brings 0 10 0 65 ∷ brings_of 2 90000 7 66 ∷ brings_of 2 180000 7 66 ∷ []) ≡ Kept ∷ Stranger ∷ Kept ∷ []
+unfolding nearest
+strangers_do_not_count = refl
+
+-- and once an epoch is open the flow before it is a stranger
+left_behind : verdicts_under 180000 (brings 0 10 0 65 ∷ brings_of 2 180000 7 66 ∷ brings 180100 11 900 67 ∷ []) ≡ Kept ∷ Kept ∷ Stranger ∷ []
+unfolding nearest
+left_behind = refl
+
+-- the same in sent numbers: flow 1 sends from 10 on, and flow 2 from 7 on; flow 2's 9 comes first, and its 7 too late
+abbrev stream_of : ℕ → SentStream
+stream_of epoch = record { flow = epoch + 1; width = W16; timestamp = λ n. 900 * n; payload = λ n. n ∷ epoch ∷ [] }
+
+two_streams : reached_payloads stream_of (sent_epochs (restarting 180000) stream_of
+    (record { tick = 270000; what = CopyIn 1 7 } ∷ record { tick = 180800; what = CopyIn 1 8 } ∷ record { tick = 180700; what = CopyIn 1 9 } ∷ record { tick = 600; what = CopyIn 0 10 } ∷ record { tick = 700; what = CopyIn 0 12 } ∷ record { tick = 600; what = CopyIn 0 11 } ∷ []))
+    ≡ (10 ∷ 0 ∷ []) ∷ (11 ∷ 0 ∷ []) ∷ (12 ∷ 0 ∷ []) ∷ (8 ∷ 1 ∷ []) ∷ (9 ∷ 1 ∷ []) ∷ []
+two_streams = refl

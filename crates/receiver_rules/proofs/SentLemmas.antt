@@ -1,5 +1,5 @@
 -- Where all that comes are copies of what was sent, what is kept is what was reached.
-use Rattle.std.proofs.Common.{◌≡◌, ℕ, ◌+◌, ◌-◌, ◌*◌, ◌/◌, ◌%◌, ◌^◌, ◌<◌, ◌≤◌, max, pos, Bool, true, false, cond, not, ◌||◌, ◌&&◌, List, [], ◌∷◌, Option, Some, None, unwrap_or, refl, sym, ◌∙◌, ap, subst, map, arith, ⊎_elim, lit≤}
+use Rattle.std.proofs.Common.{◌≡◌, ℕ, ◌+◌, ◌-◌, ◌*◌, ◌/◌, ◌%◌, ◌^◌, ◌<◌, ◌≤◌, max, pos, Bool, true, false, cond, not, ◌||◌, ◌&&◌, List, [], ◌∷◌, ◌++◌, Option, Some, None, refl, sym, ◌∙◌, ap, subst, map, arith, ⊎_elim, lit≤}
 use Rattle.std.specs.Prelude.{nat_lt, nat_le, ◌==◌, int_le, int_lt, ◌-ℤ◌, if◌then◌else◌}
 use Rattle.std.proofs.lemmas.Bool.{ltb-true, ltb-false, leb-true, le-leb, lt-leb, true≢false, eqb-true, eq-eqb, or_from, or_left, or_right, or_cases, or_parts, and_from, and_parts, le-ltb, eqb-false, ne_eqb}
 use Rattle.std.proofs.lemmas.Int.{ints}
@@ -13,10 +13,12 @@ use Rattle.receiver_rules.specs.Packets.{Packet, At, Ever, placed_packet, deadli
 use Rattle.seq_unwrap.specs.Nearest.{cycle_of, nearest}
 use Rattle.receiver_rules.specs.Sent.{SentStream, Start, Delivery, Content, CopyOf, NoCopy, HasSteadyTimestamps, IsOrdinary, IsNear, IsNearAfter, AreDeliveriesOf, copy_of, event_of, steps_of, run_time, start_of, start_after, arrives_in_window, reached_numbers, reached_after, number_deadline, greatest_of, rising_numbers, insert_number}
 use Rattle.receiver_rules.specs.Steps.{Media, Step, effective_time, end_step}
-use Rattle.receiver_rules.specs.History.{new_anchor, anchor_of, anchor_after, accepted_packets, accepted_after, released_payloads, verdict}
+use Rattle.receiver_rules.specs.Epochs.{Epoch, new_epoch, epoch_at, epoch_with, verdict_in, epochs_after, epochs_of}
+use Rattle.receiver_rules.specs.History.{packets_over, playout_of, released_payloads, verdict}
 use Rattle.receiver_rules.specs.declared.anchor.Anchor.{Anchor}
 use Rattle.receiver_rules.specs.declared.verdict.Verdict.TheVariants.{Kept, Stranger, Exhausted, Late, Behind, Early, Twice, Span}
 use Rattle.receiver_rules.proofs.PacketLemmas.{is_behind_playout-floor, is_played_out-floor}
+use Rattle.receiver_rules.proofs.HistoryLemmas.{epochs_continued, opens_of_flow}
 use Rattle.seq_unwrap.proofs.NearestLemmas.{nearest_is}
 
 -- ---- numbers and timestamps, as the receiver counts them
@@ -86,7 +88,7 @@ abbrev pub firsts : List ℕ → List ℕ
 firsts [] = []
 firsts (n ∷ ns) = if has n ns then firsts ns else n ∷ firsts ns
 
-any-firsts : (f : ℕ → Bool) (ns : List ℕ) → list_any f (firsts ns) ≡ list_any f ns
+pub any-firsts : (f : ℕ → Bool) (ns : List ℕ) → list_any f (firsts ns) ≡ list_any f ns
 any-firsts f [] = refl
 any-firsts f (n ∷ ns) =
     elim (has n ns) as (λ c. has n ns ≡ c → list_any f (cond c (firsts ns) (n ∷ firsts ns)) ≡ (f n || list_any f ns)) [
@@ -98,7 +100,7 @@ any-firsts f (n ∷ ns) =
     covered f n [] e = cc
     covered f n (m ∷ ms) e = grind (arith, covered f n ms)
 
-counted-firsts : (base : ℕ) (ns : List ℕ) → AllCounted base ns → AllCounted base (firsts ns)
+pub counted-firsts : (base : ℕ) (ns : List ℕ) → AllCounted base ns → AllCounted base (firsts ns)
 counted-firsts base [] h = tt
 counted-firsts base (n ∷ ns) h =
     elim (has n ns) as (λ c. AllCounted base (cond c (firsts ns) (n ∷ firsts ns))) [ true ↦ counted-firsts base ns h.1 | false ↦ (h.0, counted-firsts base ns h.1) ]
@@ -165,7 +167,7 @@ out_past limits p s t m e (k ∷ ks) h =
     (λ (later : has m ks ≡ true). or_right _ _ (out_past limits p s t m e ks later))
     (or_cases (k == m) (has m ks) h)
 
-held_is_not_past : (limits : Limits) (p : SentStream) (s : Start) → HasSteadyTimestamps p → (t m : ℕ) (ns : List ℕ) → base_of (cycle_of p.width) s.number ≤ 2 ^ 40 + m → AllCounted (base_of (cycle_of p.width) s.number) ns → has m ns ≡ true
+pub held_is_not_past : (limits : Limits) (p : SentStream) (s : Start) → HasSteadyTimestamps p → (t m : ℕ) (ns : List ℕ) → base_of (cycle_of p.width) s.number ≤ 2 ^ 40 + m → AllCounted (base_of (cycle_of p.width) s.number) ns → has m ns ≡ true
     → is_buffered (packets_for limits p s ns) (At t) (packet_for limits p s m) ≡ not (int_le (number_deadline limits p s m) (pos t))
 held_is_not_past limits p s steady t m ns hm h member =
     elim (int_le (number_deadline limits p s m) (pos t)) as (λ c. int_le (number_deadline limits p s m) (pos t) ≡ c → is_buffered (packets_for limits p s ns) (At t) (packet_for limits p s m) ≡ not c) [
@@ -265,21 +267,26 @@ highest_some : (limits : Limits) (p : SentStream) (s : Start) (x : ℕ) (ns : Li
 highest_some limits p s x [] e h = cc
 highest_some limits p s x (n ∷ ns) e h = highest-packets limits p s n ns h
 
--- the receiver's anchor and packets are those of the numbers reached
-pub record AgreesAt (limits : Limits) (p : SentStream) (s : Start) (first : Option Anchor) (packets : List Packet) (rs : List ℕ) : Type 0 where
-  pub anchor : first ≡ Some (anchor_for p s)
-  pub accepted : packets ≡ packets_for limits p s (firsts rs)
+-- an epoch's anchor and packets are those of the numbers reached
+pub record AgreesAt (limits : Limits) (p : SentStream) (s : Start) (epoch : Epoch) (rs : List ℕ) : Type 0 where
+  pub anchor : epoch.anchor ≡ anchor_for p s
+  pub accepted : epoch.accepted ≡ packets_for limits p s (firsts rs)
   pub counted : AllCounted (base_of (cycle_of p.width) s.number) rs
   pub some : has s.number rs ≡ true
 
-pub record BlankAt (first : Option Anchor) (packets : List Packet) (rs : List ℕ) : Type 0 where
-  pub anchor : first ≡ None
-  pub accepted : packets ≡ []
-  pub reached : rs ≡ []
+-- the only epoch is that of the numbers reached
+record SingleAt (limits : Limits) (p : SentStream) (s : Start) (epochs : List Epoch) (rs : List ℕ) : Type 0 where
+  epoch : Epoch
+  is : epochs ≡ epoch ∷ []
+  agrees : AgreesAt limits p s epoch rs
 
-abbrev pub StateAt : Limits → SentStream → Option Start → Option Anchor → List Packet → List ℕ → Type 0
-StateAt limits p None first packets rs = BlankAt first packets rs
-StateAt limits p (Some s) first packets rs = AgreesAt limits p s first packets rs
+record BlankAt (epochs : List Epoch) (rs : List ℕ) : Type 0 where
+  is : epochs ≡ []
+  reached : rs ≡ []
+
+abbrev StateAt : Limits → SentStream → Option Start → List Epoch → List ℕ → Type 0
+StateAt limits p None epochs rs = BlankAt epochs rs
+StateAt limits p (Some s) epochs rs = SingleAt limits p s epochs rs
 
 kept_cases : (limits : Limits) (p : SentStream) (s : Start) (rs : List ℕ) (n : ℕ) (r : Bool) → cond (r && not (has n rs)) (packet_for limits p s n ∷ packets_for limits p s (firsts rs)) (packets_for limits p s (firsts rs)) ≡ packets_for limits p s (firsts (cond r (n ∷ rs) rs))
 kept_cases limits p s rs n false = refl
@@ -294,13 +301,20 @@ some_cases : (x n : ℕ) (rs : List ℕ) (r : Bool) → has x rs ≡ true → ha
 some_cases x n rs true h = or_right _ _ h
 some_cases x n rs false h = h
 
+-- a copy is kept where its number is reached for the first time
+kept_when : (limits : Limits) (p : SentStream) (s : Start) (t n : ℕ) (rs : List ℕ)
+    → is_kept (verdict_of limits (anchor_for p s) (packets_for limits p s (firsts rs)) t (copy_of p n)) ≡ (arrives_in_window limits p s (firsts rs) t n && not (has n (firsts rs)))
+    → is_kept (verdict_of limits (anchor_for p s) (packets_for limits p s (firsts rs)) t (copy_of p n)) ≡ (arrives_in_window limits p s rs t n && not (has n rs))
+kept_when limits p s t n rs e =
+    e ∙ ap (λ b. b && not (has n (firsts rs))) (reaching_firsts limits p s rs t n) ∙ ap (λ b. arrives_in_window limits p s rs t n && not b) (any-firsts (λ m. m == n) rs)
+
 -- what one arrival leaves, given its place and when it is kept
 accepted_then : (limits : Limits) (p : SentStream) (s : Start) (t n : ℕ) (rs : List ℕ) → placed_packet limits (anchor_for p s) (highest_of (packets_for limits p s (firsts rs))) (copy_of p n) ≡ packet_for limits p s n
     → is_kept (verdict_of limits (anchor_for p s) (packets_for limits p s (firsts rs)) t (copy_of p n)) ≡ (arrives_in_window limits p s (firsts rs) t n && not (has n (firsts rs)))
     → cond (is_kept (verdict_of limits (anchor_for p s) (packets_for limits p s (firsts rs)) t (copy_of p n))) (placed_packet limits (anchor_for p s) (highest_of (packets_for limits p s (firsts rs))) (copy_of p n) ∷ packets_for limits p s (firsts rs)) (packets_for limits p s (firsts rs)) ≡ packets_for limits p s (firsts (cond (arrives_in_window limits p s rs t n) (n ∷ rs) rs))
 accepted_then limits p s t n rs at e =
     ap (λ q. cond (is_kept (verdict_of limits (anchor_for p s) (packets_for limits p s (firsts rs)) t (copy_of p n))) (q ∷ packets_for limits p s (firsts rs)) (packets_for limits p s (firsts rs))) at
-    ∙ ap (λ b. cond b (packet_for limits p s n ∷ packets_for limits p s (firsts rs)) (packets_for limits p s (firsts rs))) (e ∙ ap (λ b. b && not (has n (firsts rs))) (reaching_firsts limits p s rs t n) ∙ ap (λ b. arrives_in_window limits p s rs t n && not b) (any-firsts (λ m. m == n) rs))
+    ∙ ap (λ b. cond b (packet_for limits p s n ∷ packets_for limits p s (firsts rs)) (packets_for limits p s (firsts rs))) (kept_when limits p s t n rs e)
     ∙ kept_cases limits p s rs n (arrives_in_window limits p s rs t n)
 
 -- a copy is placed where its number belongs, beside the packets of these numbers
@@ -310,8 +324,8 @@ pub record IsPlaced (limits : Limits) (p : SentStream) (s : Start) (n : ℕ) (ns
   pub small : number_then p s n < 2 ^ 62
   pub at : placed_packet limits (anchor_for p s) (highest_of (packets_for limits p s ns)) (copy_of p n) ≡ packet_for limits p s n
 
-later_placed : (limits : Limits) (p : SentStream) (s : Start) → HasSteadyTimestamps p → (n : ℕ) (first : Option Anchor) (packets : List Packet) (rs : List ℕ) → AgreesAt limits p s first packets rs → IsNear p s.number (greatest_of rs) n → IsPlaced limits p s n (firsts rs)
-later_placed limits p s steady n first packets rs a nearest =
+pub later_placed : (limits : Limits) (p : SentStream) (s : Start) → HasSteadyTimestamps p → (n : ℕ) (epoch : Epoch) (rs : List ℕ) → AgreesAt limits p s epoch rs → IsNear p s.number (greatest_of rs) n → IsPlaced limits p s n (firsts rs)
+later_placed limits p s steady n epoch rs a nearest =
     let since : s.number ≤ greatest_of rs = greatest_has s.number rs a.some in
     let le : base_of (cycle_of p.width) s.number ≤ s.number = base_le (cycle_of p.width) s.number in
     let half = half_small p.width in
@@ -327,26 +341,38 @@ later_placed limits p s steady n first packets rs a nearest =
       at = ap (λ o. placed_packet limits (anchor_for p s) o (copy_of p n)) highest ∙ placed_is limits p s steady (greatest_of rs) n since nearest;
     }
 
-later_one : (limits : Limits) (p : SentStream) (s : Start) → HasSteadyTimestamps p → (t n : ℕ) (first : Option Anchor) (packets : List Packet) (rs : List ℕ) → AgreesAt limits p s first packets rs → IsNear p s.number (greatest_of rs) n
-    → AgreesAt limits p s (anchor_after first t (Media (copy_of p n))) (accepted_after limits first packets t (Media (copy_of p n))) (cond (arrives_in_window limits p s rs t n) (n ∷ rs) rs)
-later_one limits p s steady t n first packets rs a nearest =
-    let f = later_placed limits p s steady n first packets rs a nearest in
+-- an epoch with this anchor and these packets
+abbrev epoch_of : Anchor → List Packet → Epoch
+epoch_of a ps = record { anchor = a; accepted = ps; last = 0 }
+
+pub later_one : (limits : Limits) (p : SentStream) (s : Start) → HasSteadyTimestamps p → (t n : ℕ) (epoch : Epoch) (rs : List ℕ) → AgreesAt limits p s epoch rs → IsNear p s.number (greatest_of rs) n
+    → AgreesAt limits p s (epoch_with limits epoch t (copy_of p n)) (cond (arrives_in_window limits p s rs t n) (n ∷ rs) rs)
+later_one limits p s steady t n epoch rs a nearest =
+    let f = later_placed limits p s steady n epoch rs a nearest in
     record {
-      anchor = ap (λ o. Some (unwrap_or o (new_anchor t (copy_of p n)))) a.anchor;
-      accepted = ap (λ o. accepted_after limits o packets t (Media (copy_of p n))) a.anchor ∙ ap (λ ps. accepted_after limits (Some (anchor_for p s)) ps t (Media (copy_of p n))) a.accepted
+      anchor = a.anchor;
+      accepted = ap (λ x. (epoch_with limits (epoch_of x epoch.accepted) t (copy_of p n)).accepted) a.anchor ∙ ap (λ ps. (epoch_with limits (epoch_of (anchor_for p s) ps) t (copy_of p n)).accepted) a.accepted
           ∙ accepted_then limits p s t n rs f.at (accepted_is_reached limits p s steady t n (firsts rs) f.low f.counted f.small f.at);
       counted = counted_cases (base_of (cycle_of p.width) s.number) n rs (arrives_in_window limits p s rs t n) f.low a.counted;
       some = some_cases s.number n rs (arrives_in_window limits p s rs t n) a.some;
     }
 
+-- when it is kept
+pub later_kept : (limits : Limits) (p : SentStream) (s : Start) → HasSteadyTimestamps p → (t n : ℕ) (epoch : Epoch) (rs : List ℕ) → AgreesAt limits p s epoch rs → IsNear p s.number (greatest_of rs) n
+    → is_kept (verdict_in limits epoch t (copy_of p n)) ≡ (arrives_in_window limits p s rs t n && not (has n rs))
+later_kept limits p s steady t n epoch rs a nearest =
+    let f = later_placed limits p s steady n epoch rs a nearest in
+    ap (λ x. is_kept (verdict_of limits x epoch.accepted t (copy_of p n))) a.anchor ∙ ap (λ ps. is_kept (verdict_of limits (anchor_for p s) ps t (copy_of p n))) a.accepted
+    ∙ kept_when limits p s t n rs (accepted_is_reached limits p s steady t n (firsts rs) f.low f.counted f.small f.at)
+
 rest_small : (width : Width) (n : ℕ) → n % cycle_of width < 2 ^ 32
 rest_small W16 n = omega arith
 rest_small W32 n = omega arith
 
-first_reaches : (t delay timestamp : ℕ) → 1 ≤ delay → (not (int_le (pos (t + timestamp + delay) -ℤ pos timestamp) (pos t)) && (not (int_lt (pos (t + 2 * delay)) (pos (t + timestamp + delay) -ℤ pos timestamp)) && true)) ≡ true
+pub first_reaches : (t delay timestamp : ℕ) → 1 ≤ delay → (not (int_le (pos (t + timestamp + delay) -ℤ pos timestamp) (pos t)) && (not (int_lt (pos (t + 2 * delay)) (pos (t + timestamp + delay) -ℤ pos timestamp)) && true)) ≡ true
 first_reaches t delay timestamp some = grind (arith, ints)
 
-first_placed : (limits : Limits) (p : SentStream) (t n : ℕ) → IsPlaced limits p (record { number = n; time = t }) n []
+pub first_placed : (limits : Limits) (p : SentStream) (t n : ℕ) → IsPlaced limits p (record { number = n; time = t }) n []
 first_placed limits p t n =
     let le : base_of (cycle_of p.width) n ≤ n = base_le (cycle_of p.width) n in
     let rest = base_rest (cycle_of p.width) n in
@@ -360,40 +386,56 @@ first_placed limits p t n =
       at = packet_same limits p (record { number = n; time = t }) n _ _ (omega arith) (omega arith) (omega arith);
     }
 
-first_one : (limits : Limits) (p : SentStream) → HasSteadyTimestamps p → 1 ≤ limits.playout_delay → (t n : ℕ) (first : Option Anchor) (packets : List Packet) (rs : List ℕ) → BlankAt first packets rs
-    → AgreesAt limits p (record { number = n; time = t }) (anchor_after first t (Media (copy_of p n))) (accepted_after limits first packets t (Media (copy_of p n))) (cond (arrives_in_window limits p (record { number = n; time = t }) rs t n) (n ∷ rs) rs)
-first_one limits p steady delay t n first packets rs b =
+pub first_one : (limits : Limits) (p : SentStream) → HasSteadyTimestamps p → 1 ≤ limits.playout_delay → (t n : ℕ)
+    → AgreesAt limits p (record { number = n; time = t }) (epoch_with limits (new_epoch t (copy_of p n)) t (copy_of p n)) (cond (arrives_in_window limits p (record { number = n; time = t }) [] t n) (n ∷ []) [])
+first_one limits p steady delay t n =
     let s : Start = record { number = n; time = t } in
     let f = first_placed limits p t n in
-    let reaches : arrives_in_window limits p s [] t n ≡ true = first_reaches t limits.playout_delay (p.timestamp n) delay in
-    let reaches_rs : arrives_in_window limits p s rs t n ≡ true = ap (λ ms. arrives_in_window limits p s ms t n) b.reached ∙ reaches in
-    let after : cond (arrives_in_window limits p s rs t n) (n ∷ rs) rs ≡ n ∷ [] = ap (λ c. cond c (n ∷ rs) rs) reaches_rs ∙ ap (λ ms. n ∷ ms) b.reached in
+    let after : cond (arrives_in_window limits p s [] t n) (n ∷ []) [] ≡ n ∷ [] = ap (λ c. cond c (n ∷ []) []) (first_reaches t limits.playout_delay (p.timestamp n) delay) in
     record {
-      anchor = ap (λ o. Some (unwrap_or o (new_anchor t (copy_of p n)))) b.anchor;
-      accepted = ap (λ o. accepted_after limits o packets t (Media (copy_of p n))) b.anchor ∙ ap (λ ps. accepted_after limits None ps t (Media (copy_of p n))) b.accepted
-          ∙ accepted_then limits p s t n [] f.at (accepted_is_reached limits p s steady t n [] f.low f.counted f.small f.at)
-          ∙ ap (λ ms. packets_for limits p s (firsts ms)) (ap (λ c. cond c (n ∷ []) []) reaches ∙ sym after);
+      anchor = refl;
+      accepted = accepted_then limits p s t n [] f.at (accepted_is_reached limits p s steady t n [] f.low f.counted f.small f.at);
       counted = subst (AllCounted (base_of (cycle_of p.width) n)) (sym after) (f.low, tt);
       some = ap (has n) after ∙ or_left _ _ (eq-eqb n n refl);
     }
 
-step_at : (limits : Limits) (p : SentStream) → HasSteadyTimestamps p → 1 ≤ limits.playout_delay → (t : ℕ) (what : Content) (from : Option Start) (first : Option Anchor) (packets : List Packet) (rs : List ℕ) → StateAt limits p from first packets rs → IsNearAfter limits p from rs what
-    → StateAt limits p (start_after from t what) (anchor_after first t (event_of p what)) (accepted_after limits first packets t (event_of p what)) (reached_after limits p from rs t what)
-step_at limits p steady delay t (CopyOf n) None first packets rs a nearest = first_one limits p steady delay t n first packets rs a
-step_at limits p steady delay t (CopyOf n) (Some s) first packets rs a nearest = later_one limits p s steady t n first packets rs a nearest
-step_at limits p steady delay t NoCopy None first packets rs a nearest = a
-step_at limits p steady delay t NoCopy (Some s) first packets rs a nearest = a
+-- a copy of the only stream opens no other epoch
+single_with : (limits : Limits) (p : SentStream) (s : Start) → HasSteadyTimestamps p → (t n : ℕ) (epochs : List Epoch) (rs : List ℕ) → SingleAt limits p s epochs rs → IsNear p s.number (greatest_of rs) n
+    → SingleAt limits p s (epochs_after limits epochs t (Media (copy_of p n))) (cond (arrives_in_window limits p s rs t n) (n ∷ rs) rs)
+single_with limits p s steady t n epochs rs a nearest =
+    record {
+      epoch = epoch_with limits a.epoch t (copy_of p n);
+      is = ap (λ es. epochs_after limits es t (Media (copy_of p n))) a.is ∙ epochs_continued limits a.epoch [] t (copy_of p n) (opens_of_flow limits a.epoch t (copy_of p n) (sym (ap (λ (x : Anchor). x.flow) a.agrees.anchor)));
+      agrees = later_one limits p s steady t n a.epoch rs a.agrees nearest;
+    }
+
+single_first : (limits : Limits) (p : SentStream) → HasSteadyTimestamps p → 1 ≤ limits.playout_delay → (t n : ℕ) (epochs : List Epoch) (rs : List ℕ) → BlankAt epochs rs
+    → SingleAt limits p (record { number = n; time = t }) (epochs_after limits epochs t (Media (copy_of p n))) (cond (arrives_in_window limits p (record { number = n; time = t }) rs t n) (n ∷ rs) rs)
+single_first limits p steady delay t n epochs rs b =
+    subst (λ ns. SingleAt limits p (record { number = n; time = t }) (epochs_after limits epochs t (Media (copy_of p n))) (cond (arrives_in_window limits p (record { number = n; time = t }) ns t n) (n ∷ ns) ns)) (sym b.reached)
+    (record {
+      epoch = epoch_with limits (new_epoch t (copy_of p n)) t (copy_of p n);
+      is = ap (λ es. epochs_after limits es t (Media (copy_of p n))) b.is;
+      agrees = first_one limits p steady delay t n;
+    })
+
+step_at : (limits : Limits) (p : SentStream) → HasSteadyTimestamps p → 1 ≤ limits.playout_delay → (t : ℕ) (what : Content) (from : Option Start) (epochs : List Epoch) (rs : List ℕ) → StateAt limits p from epochs rs → IsNearAfter limits p from rs what
+    → StateAt limits p (start_after from t what) (epochs_after limits epochs t (event_of p what)) (reached_after limits p from rs t what)
+step_at limits p steady delay t (CopyOf n) None epochs rs a nearest = single_first limits p steady delay t n epochs rs a
+step_at limits p steady delay t (CopyOf n) (Some s) epochs rs a nearest = single_with limits p s steady t n epochs rs a nearest
+step_at limits p steady delay t NoCopy None epochs rs a nearest = a
+step_at limits p steady delay t NoCopy (Some s) epochs rs a nearest = a
 
 clock_is : (p : SentStream) (run : List Delivery) → effective_time (steps_of p run) ≡ run_time run
 clock_is p [] = refl
 clock_is p (d ∷ before) = ap (max d.tick) (clock_is p before)
 
-pub agrees : (limits : Limits) (p : SentStream) → HasSteadyTimestamps p → 1 ≤ limits.playout_delay → (run : List Delivery) → AreDeliveriesOf limits p run → StateAt limits p (start_of run) (anchor_of (steps_of p run)) (accepted_packets limits (steps_of p run)) (reached_numbers limits p run)
-agrees limits p steady delay [] h = record { anchor = refl; accepted = refl; reached = refl }
+agrees : (limits : Limits) (p : SentStream) → HasSteadyTimestamps p → 1 ≤ limits.playout_delay → (run : List Delivery) → AreDeliveriesOf limits p run → StateAt limits p (start_of run) (epochs_of limits (steps_of p run)) (reached_numbers limits p run)
+agrees limits p steady delay [] h = record { is = refl; reached = refl }
 agrees limits p steady delay (d ∷ before) h =
-    subst (λ t. StateAt limits p (start_of (d ∷ before)) (anchor_after (anchor_of (steps_of p before)) t (event_of p d.what)) (accepted_after limits (anchor_of (steps_of p before)) (accepted_packets limits (steps_of p before)) t (event_of p d.what)) (reached_numbers limits p (d ∷ before)))
+    subst (λ t. StateAt limits p (start_of (d ∷ before)) (epochs_after limits (epochs_of limits (steps_of p before)) t (event_of p d.what)) (reached_numbers limits p (d ∷ before)))
     (sym (clock_is p (d ∷ before)))
-    (step_at limits p steady delay (run_time (d ∷ before)) d.what (start_of before) (anchor_of (steps_of p before)) (accepted_packets limits (steps_of p before)) (reached_numbers limits p before) (agrees limits p steady delay before h.1) h.0)
+    (step_at limits p steady delay (run_time (d ∷ before)) d.what (start_of before) (epochs_of limits (steps_of p before)) (reached_numbers limits p before) (agrees limits p steady delay before h.1) h.0)
 
 -- ---- the release set
 
@@ -518,23 +560,34 @@ all_out ps [] sub = refl
 all_out ps (m ∷ ms) sub =
     and_from _ _ (out_at_end m ps (sub m.number (or_left _ _ (eq-eqb m.number m.number refl)))) (all_out ps ms (λ n e. sub n (or_right _ _ e)))
 
--- all that was kept, once the run has ended
-pub released_end : (limits : Limits) (history : List Step) → released_payloads limits (end_step ∷ history) ≡ map (λ (q : Packet). q.payload) (by_number (accepted_packets limits history))
-released_end limits history =
-    ap (map (λ (q : Packet). q.payload)) (filter_all (is_played_out (accepted_packets limits history) Ever) (by_number (accepted_packets limits history)) (all-by_number (is_played_out (accepted_packets limits history) Ever) (accepted_packets limits history) ∙ all_out (accepted_packets limits history) (accepted_packets limits history) (λ n e. e)))
+-- once the run has ended all that was kept is out
+pub playout_end : (epochs : List Epoch) → playout_of epochs Ever ≡ packets_over epochs
+playout_end [] = refl
+playout_end (current ∷ earlier) =
+    ap (λ ps. packets_over earlier ++ ps)
+    (filter_all (is_played_out current.accepted Ever) (by_number current.accepted) (all-by_number (is_played_out current.accepted Ever) current.accepted ∙ all_out current.accepted current.accepted (λ n e. e)))
 
-release_set_at : (limits : Limits) (p : SentStream) (from : Option Start) (first : Option Anchor) (packets : List Packet) (rs : List ℕ) → StateAt limits p from first packets rs → map (λ (q : Packet). q.payload) (by_number packets) ≡ map p.payload (rising_numbers rs)
-release_set_at limits p None first packets rs a = ap (λ ps. map (λ (q : Packet). q.payload) (by_number ps)) a.accepted ∙ sym (ap (λ ns. map p.payload (rising_numbers ns)) a.reached)
-release_set_at limits p (Some s) first packets rs a =
+pub released_end : (limits : Limits) (history : List Step) → released_payloads limits (end_step ∷ history) ≡ map (λ (q : Packet). q.payload) (packets_over (epochs_of limits history))
+released_end limits history = ap (map (λ (q : Packet). q.payload)) (playout_end (epochs_of limits history))
+
+-- of an epoch, by rising number
+pub epoch_payloads : (limits : Limits) (p : SentStream) (s : Start) (epoch : Epoch) (rs : List ℕ) → AgreesAt limits p s epoch rs → map (λ (q : Packet). q.payload) (by_number epoch.accepted) ≡ map p.payload (rising_numbers rs)
+epoch_payloads limits p s epoch rs a =
     ap (λ ps. map (λ (q : Packet). q.payload) (by_number ps)) a.accepted
     ∙ ap (map (λ (q : Packet). q.payload)) (ordered_packets limits p s rs a.counted)
     ∙ payloads limits p s (rising_numbers rs)
+
+release_set_at : (limits : Limits) (p : SentStream) (from : Option Start) (epochs : List Epoch) (rs : List ℕ) → StateAt limits p from epochs rs → map (λ (q : Packet). q.payload) (packets_over epochs) ≡ map p.payload (rising_numbers rs)
+release_set_at limits p None epochs rs a = ap (λ es. map (λ (q : Packet). q.payload) (packets_over es)) a.is ∙ sym (ap (λ ns. map p.payload (rising_numbers ns)) a.reached)
+release_set_at limits p (Some s) epochs rs a =
+    ap (λ es. map (λ (q : Packet). q.payload) (packets_over es)) a.is
+    ∙ epoch_payloads limits p s a.epoch rs a.agrees
 
 -- what is written in the end are the payloads of the numbers reached, by rising number
 pub release_set : (limits : Limits) (p : SentStream) (run : List Delivery) → HasSteadyTimestamps p → 1 ≤ limits.playout_delay → AreDeliveriesOf limits p run → released_payloads limits (end_step ∷ steps_of p run) ≡ map p.payload (rising_numbers (reached_numbers limits p run))
 release_set limits p run steady delay h =
     released_end limits (steps_of p run)
-    ∙ release_set_at limits p (start_of run) (anchor_of (steps_of p run)) (accepted_packets limits (steps_of p run)) (reached_numbers limits p run) (agrees limits p steady delay run h)
+    ∙ release_set_at limits p (start_of run) (epochs_of limits (steps_of p run)) (reached_numbers limits p run) (agrees limits p steady delay run h)
 
 -- ---- verdicts that never come
 
@@ -548,7 +601,7 @@ ordinary_chain false false false false false true g p q r = record { known = λ 
 ordinary_chain false false false false false false true p q r = record { known = λ h. cc; small = λ h. cc; ahead = λ h. cc }
 ordinary_chain false false false false false false false p q r = record { known = λ h. cc; small = λ h. cc; ahead = λ h. cc }
 
-ordinary_at : (limits : Limits) (p : SentStream) (s : Start) → HasSteadyTimestamps p → (t n : ℕ) (ns : List ℕ) → IsPlaced limits p s n ns
+pub ordinary_at : (limits : Limits) (p : SentStream) (s : Start) → HasSteadyTimestamps p → (t n : ℕ) (ns : List ℕ) → IsPlaced limits p s n ns
     → IsOrdinary (verdict_of limits (anchor_for p s) (packets_for limits p s ns) t (copy_of p n))
 ordinary_at limits p s steady t n ns f =
     let ks : List Packet = packets_for limits p s ns in
@@ -559,18 +612,28 @@ ordinary_at limits p s steady t n ns f =
     (lt-leb _ _ f.small)
     (λ e. is_behind_playout-floor ks (At t) q ∙ sym (is_played_out-floor ks (At t) q) ∙ out_not_past limits p s steady t n e ns f.low f.counted))
 
-ordinary_from : (limits : Limits) (p : SentStream) → HasSteadyTimestamps p → (t n : ℕ) (from : Option Start) (first : Option Anchor) (packets : List Packet) (rs : List ℕ) → StateAt limits p from first packets rs → IsNearAfter limits p from rs (CopyOf n)
-    → IsOrdinary (verdict_of limits (unwrap_or first (new_anchor t (copy_of p n))) packets t (copy_of p n))
-ordinary_from limits p steady t n None first packets rs a near =
-    subst (λ o. IsOrdinary (verdict_of limits (unwrap_or o (new_anchor t (copy_of p n))) packets t (copy_of p n))) (sym a.anchor)
-    (subst (λ ps. IsOrdinary (verdict_of limits (new_anchor t (copy_of p n)) ps t (copy_of p n))) (sym a.accepted)
-    (ordinary_at limits p (record { number = n; time = t }) steady t n [] (first_placed limits p t n)))
-ordinary_from limits p steady t n (Some s) first packets rs a near =
-    subst (λ o. IsOrdinary (verdict_of limits (unwrap_or o (new_anchor t (copy_of p n))) packets t (copy_of p n))) (sym a.anchor)
+-- on the first copy
+pub ordinary_first : (limits : Limits) (p : SentStream) → HasSteadyTimestamps p → (t n : ℕ) → IsOrdinary (verdict_in limits (new_epoch t (copy_of p n)) t (copy_of p n))
+ordinary_first limits p steady t n = ordinary_at limits p (record { number = n; time = t }) steady t n [] (first_placed limits p t n)
+
+-- on a later one
+pub ordinary_later : (limits : Limits) (p : SentStream) (s : Start) → HasSteadyTimestamps p → (t n : ℕ) (epoch : Epoch) (rs : List ℕ) → AgreesAt limits p s epoch rs → IsNear p s.number (greatest_of rs) n → IsOrdinary (verdict_in limits epoch t (copy_of p n))
+ordinary_later limits p s steady t n epoch rs a near =
+    subst (λ x. IsOrdinary (verdict_of limits x epoch.accepted t (copy_of p n))) (sym a.anchor)
     (subst (λ ps. IsOrdinary (verdict_of limits (anchor_for p s) ps t (copy_of p n))) (sym a.accepted)
-    (ordinary_at limits p s steady t n (firsts rs) (later_placed limits p s steady n first packets rs a near)))
+    (ordinary_at limits p s steady t n (firsts rs) (later_placed limits p s steady n epoch rs a near)))
+
+ordinary_from : (limits : Limits) (p : SentStream) → HasSteadyTimestamps p → (t n : ℕ) (from : Option Start) (epochs : List Epoch) (rs : List ℕ) → StateAt limits p from epochs rs → IsNearAfter limits p from rs (CopyOf n)
+    → IsOrdinary (verdict_in limits (epoch_at limits epochs t (copy_of p n)) t (copy_of p n))
+ordinary_from limits p steady t n None epochs rs a near =
+    subst (λ es. IsOrdinary (verdict_in limits (epoch_at limits es t (copy_of p n)) t (copy_of p n))) (sym a.is) (ordinary_first limits p steady t n)
+ordinary_from limits p steady t n (Some s) epochs rs a near =
+    subst (λ es. IsOrdinary (verdict_in limits (epoch_at limits es t (copy_of p n)) t (copy_of p n))) (sym a.is)
+    (subst (λ c. IsOrdinary (verdict_in limits (cond c (new_epoch t (copy_of p n)) a.epoch) t (copy_of p n)))
+    (sym (opens_of_flow limits a.epoch t (copy_of p n) (sym (ap (λ (x : Anchor). x.flow) a.agrees.anchor))))
+    (ordinary_later limits p s steady t n a.epoch rs a.agrees near))
 
 -- the verdict on a copy is none of the three
 pub ordinary : (limits : Limits) (p : SentStream) (tick n : ℕ) (before : List Delivery) → HasSteadyTimestamps p → 1 ≤ limits.playout_delay → AreDeliveriesOf limits p (record { tick = tick; what = CopyOf n } ∷ before) → IsOrdinary (verdict limits (steps_of p before) tick (copy_of p n))
 ordinary limits p tick n before steady delay h =
-    ordinary_from limits p steady (max tick (effective_time (steps_of p before))) n (start_of before) (anchor_of (steps_of p before)) (accepted_packets limits (steps_of p before)) (reached_numbers limits p before) (agrees limits p steady delay before h.1) h.0
+    ordinary_from limits p steady (max tick (effective_time (steps_of p before))) n (start_of before) (epochs_of limits (steps_of p before)) (reached_numbers limits p before) (agrees limits p steady delay before h.1) h.0

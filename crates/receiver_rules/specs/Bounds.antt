@@ -1,17 +1,19 @@
 -- Bounds under which no machine number wraps. They hold of each receiver, whatever comes.
 use Rattle.std.specs.Prelude.{ℕ, ◌*◌, ◌^◌, ◌<◌, ◌≤◌, Option, IsNone}
-use Rattle.receiver_rules.specs.declared.bounds.TheConstants.{MAX_DELAY, MAX_SPAN}
+use Rattle.receiver_rules.specs.declared.bounds.TheConstants.{MAX_DELAY, MAX_RESTART, MAX_SPAN}
 use Rattle.receiver_rules.specs.declared.limits.Limits.{Limits}
 use Rattle.receiver_rules.specs.declared.anchor.Anchor.{Anchor}
 use Rattle.receiver_rules.specs.declared.anchor.Highest.{Highest}
 use Rattle.receiver_rules.specs.Packets.{Packet}
 
--- a delay of at least a tick and at most the longest, and room for a packet at least and at most the widest span
+-- a delay of at least a tick and at most the longest, room for a packet at least and at most the widest span, and at
+-- most the longest restart time
 pub record AreInRange (limits : Limits) : Type 0 where
   pub some_delay : 1 ≤ limits.playout_delay
   pub delay : limits.playout_delay ≤ 90 * MAX_DELAY
   pub some : 1 ≤ limits.capacity
   pub capacity : limits.capacity ≤ MAX_SPAN
+  pub restart : limits.restart_time ≤ 90 * MAX_RESTART
 
 -- an anchor that came at the tick or before it
 pub record IsEarlyAnchor (now : ℕ) (anchor : Anchor) : Type 0 where

@@ -1,7 +1,11 @@
 pub mod Steps
 pub mod ReceiverSteps
 pub mod Packets
+pub mod Epochs
 pub mod History
+pub mod Playouts
+pub mod OneFlow
 pub mod Sent
+pub mod SentEpochs
 pub mod Seen
 pub mod Bounds

@@ -10,7 +10,8 @@ use Rattle.receiver_rules.specs.declared.anchor.Highest.{Highest}
 use Rattle.seq_unwrap.specs.Nearest.{cycle_of, nearest}
 use Rattle.receiver_rules.specs.Steps.{Arrival}
 
--- an arrival with its place in the flow: its extended sequence number and timestamp, when it is to be played out, and its payload
+-- an arrival with its place in the flow: its extended sequence number and timestamp, when it is to be played out, and
+-- its payload
 pub record Packet : Type 0 where
   pub number : ℕ
   pub timestamp : ℕ
@@ -39,7 +40,8 @@ abbrev pub timestamp_of : Option Highest → Arrival → ℕ
 timestamp_of None arrival = 2 ^ 40 + arrival.timestamp
 timestamp_of (Some highest) arrival = nearest 4294967296 highest.timestamp arrival.timestamp
 
--- when a packet is to be played out: as long after the anchor's arrival as its timestamp lies after the anchor's, and the playout delay more
+-- when a packet is to be played out: as long after the anchor's arrival as its timestamp lies after the anchor's, and
+-- the playout delay more
 abbrev pub deadline_of : Limits → Anchor → ℕ → ℤ
 deadline_of limits anchor timestamp = pos (anchor.time + timestamp + limits.playout_delay) -ℤ pos anchor.timestamp
 

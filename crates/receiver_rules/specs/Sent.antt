@@ -70,8 +70,8 @@ start_of (d ∷ before) = start_after (start_of before) (run_time (d ∷ before)
 abbrev pub number_deadline : Limits → SentStream → Start → ℕ → ℤ
 number_deadline limits p s n = pos (s.time + p.timestamp n + limits.playout_delay) -ℤ pos (p.timestamp s.number)
 
--- a copy arrives in its window: its deadline lies ahead, by at most twice the playout delay, and no number that was reached
--- before and is still to be played out lies the capacity or more away
+-- a copy arrives in its window: its deadline lies ahead, by at most twice the playout delay, and no number that was
+-- reached before and is still to be played out lies the capacity or more away
 abbrev pub arrives_in_window : Limits → SentStream → Start → List ℕ → ℕ → ℕ → Bool
 arrives_in_window limits p s reached t n =
     not (int_le (number_deadline limits p s n) (pos t))
@@ -94,8 +94,8 @@ abbrev pub greatest_of : List ℕ → ℕ
 greatest_of [] = 0
 greatest_of (n ∷ ns) = max n (greatest_of ns)
 
--- near enough to the greatest number reached for its words to tell it apart: less than half a cycle away, and its timestamp
--- likewise; and the number space has not ended
+-- near enough to the greatest number reached for its words to tell it apart: less than half a cycle away, and its
+-- timestamp likewise; and the number space has not ended
 pub record IsNear (p : SentStream) (first best n : ℕ) : Type 0 where
   pub low : best ≤ n + cycle_of p.width / 2
   pub high : n < best + cycle_of p.width / 2

@@ -1,4 +1,5 @@
-/// What the first media arrival of a flow fixes: from it numbers and deadlines count.
+/// What the media arrival that opens an epoch fixes: from it numbers and deadlines count. The first arrival opens the
+/// first epoch.
 #[derive(Clone, Copy, Debug, PartialEq, Eq)]
 pub struct Anchor {
     /// The SSRC with its lowest bit cleared.
@@ -11,7 +12,7 @@ pub struct Anchor {
     pub timestamp: u64,
 }
 
-/// The kept packet with the highest number: what later numbers and timestamps are unwrapped against.
+/// The packet with the highest number that an epoch has kept: what later numbers and timestamps are unwrapped against.
 #[derive(Clone, Copy, Debug, PartialEq, Eq)]
 pub struct Highest {
     /// The highest extended sequence number that was kept.

@@ -4,3 +4,6 @@ pub const MAX_SPAN: u64 = 16_384;
 
 /// The longest playout delay, in milliseconds (this profile).
 pub const MAX_DELAY: u64 = 30_000;
+
+/// The longest restart time, in milliseconds (this profile).
+pub const MAX_RESTART: u64 = 60_000;

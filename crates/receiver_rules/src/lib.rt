@@ -14,7 +14,7 @@ mod verdict;
 
 pub use anchor::{Anchor, Highest};
 pub use arrival::Arrival;
-pub use bounds::{MAX_DELAY, MAX_SPAN};
+pub use bounds::{MAX_DELAY, MAX_RESTART, MAX_SPAN};
 pub use limits::Limits;
 pub use tick::tick_of;
 pub use verdict::Verdict;

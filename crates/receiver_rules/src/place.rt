@@ -2,7 +2,7 @@ ghost use Rattle.std.specs.Prelude.{◌≡◌, ◌+◌, ◌^◌, ◌<◌};
 ghost use Rattle.std.specs.Option.{ForSome};
 ghost use Rattle.seq_unwrap.specs.Nearest.{cycle_of};
 ghost use Rattle.receiver_rules.specs.Packets.{number_of, timestamp_of, deadline_of, placed_packet, is_due_by};
-ghost use Rattle.receiver_rules.specs.History.{new_anchor as anchor_fixed};
+ghost use Rattle.receiver_rules.specs.Epochs.{new_anchor as anchor_fixed};
 ghost use Rattle.receiver_rules.specs.Seen.{seen, moment_of, highest_with, IsPlaceOf};
 ghost use Rattle.receiver_rules.specs.Bounds.{AreInRange, IsEarlyAnchor, IsMidHighest};
 
@@ -40,7 +40,7 @@ impl Position {
     }
 }
 
-/// What an arrival fixes where it is the first of its flow.
+/// What an arrival fixes where it opens an epoch.
 pub fn new_anchor(at: u64, arrival: &Arrival<'_>) -> Anchor
     requires clock { at < 2 ^ 61 }
     ensures value { result ≡ anchor_fixed at (seen arrival.now) }

@@ -3,7 +3,7 @@
 pub enum Verdict {
     /// Accepted: none of the tests below fits.
     Kept,
-    /// A packet of another flow.
+    /// A packet of another flow than the epoch's. One that opens an epoch is none.
     Stranger,
     /// The sequence numbers are used up: its number would be 2^62 or more.
     Exhausted,

@@ -1,14 +1,12 @@
 -- What one arrival changes of what a plain program knows.
-use Rattle.std.specs.Prelude.{◌≡◌, ◌<◌, ◌^◌, ◌∷◌, ◌++◌, [], List, if◌then◌else◌, Some, unwrap_or}
-use Rattle.std.specs.Option.{ForSome}
+use Rattle.std.specs.Prelude.{◌≡◌, ℕ, ◌∷◌, ◌++◌, [], List, Bool, true, if◌then◌else◌, Option, Some, None, unwrap_or}
 use Rattle.receiver_rules.specs.declared.limits.Limits.{Limits}
 use Rattle.receiver_rules.specs.declared.verdict.Verdict.{Verdict}
 use Rattle.receiver_rules.specs.declared.anchor.Anchor.{Anchor}
 use Rattle.receiver_plain.specs.declared.running.Run.{Run}
-use Rattle.receiver_rules.specs.Steps.{Arrival, Step, effective_time, has_ended}
-use Rattle.receiver_rules.specs.Packets.{Packet, placed_packet, higher, highest_of, verdict_of, is_kept, by_number, insert_by_number}
-use Rattle.receiver_rules.specs.History.{anchor_of, accepted_packets, new_anchor, verdicts_of}
-use Rattle.receiver_rules.specs.Bounds.{IsEarlyAnchor, IsMidHighest}
+use Rattle.receiver_rules.specs.Steps.{Arrival}
+use Rattle.receiver_rules.specs.Packets.{Packet, placed_packet, higher, highest_of, verdict_of, is_kept, insert_by_number}
+use Rattle.receiver_rules.specs.Epochs.{opens_next, new_anchor}
 use Rattle.receiver_plain.specs.Kept.{kept_packets}
 
 -- a packet before those that were kept, where its verdict keeps it
@@ -25,6 +23,7 @@ pub record SameButKept (old new : Run) : Type 0 where
   pub ended : new.has_ended ≡ old.has_ended
   pub anchor : new.anchor ≡ old.anchor
   pub verdicts : new.verdicts.items ≡ old.verdicts.items
+  pub over : new.over.items ≡ old.over.items
 
 -- one more packet is kept
 pub record IsKeptAfter (p : Packet) (old new : Run) : Type 0 where
@@ -32,6 +31,27 @@ pub record IsKeptAfter (p : Packet) (old new : Run) : Type 0 where
   pub highest : new.highest ≡ Some (higher p old.highest)
   pub kept : kept_packets new.kept.items ≡ p ∷ kept_packets old.kept.items
   pub ordered : kept_packets new.ordered.items ≡ insert_by_number p (kept_packets old.ordered.items)
+  pub last : new.last ≡ old.time
+
+-- an arrival opens an epoch, by what is known of the current one
+abbrev pub opens_here : Limits → Option Anchor → List Packet → ℕ → ℕ → Arrival → Bool
+opens_here limits None accepted last t arrival = true
+opens_here limits (Some anchor) accepted last t arrival = opens_next limits (record { anchor = anchor; accepted = accepted; last = last }) t arrival
+
+-- an arrival at the run's time opens an epoch
+abbrev pub opens_now : Limits → Run → Arrival → Bool
+opens_now limits run arrival = opens_here limits run.anchor (kept_packets run.kept.items) run.last run.time arrival
+
+-- what is known before an arrival is judged: where it opens an epoch nothing is kept yet, and the epoch before it is over
+pub record IsTurned (opens : Bool) (old new : Run) : Type 0 where
+  pub time : new.time ≡ old.time
+  pub ended : new.has_ended ≡ old.has_ended
+  pub verdicts : new.verdicts.items ≡ old.verdicts.items
+  pub anchor : new.anchor ≡ (if opens then None else old.anchor)
+  pub kept : kept_packets new.kept.items ≡ (if opens then [] else kept_packets old.kept.items)
+  pub ordered : kept_packets new.ordered.items ≡ (if opens then [] else kept_packets old.ordered.items)
+  pub last : new.last ≡ (if opens then old.time else old.last)
+  pub over : kept_packets new.over.items ≡ (if opens then kept_packets old.over.items ++ kept_packets old.ordered.items else kept_packets old.over.items)
 
 -- what an arrival at the run's time is judged by
 abbrev pub anchor_here : Run → Arrival → Anchor
@@ -53,3 +73,11 @@ pub record IsBrought (limits : Limits) (arrival : Arrival) (old new : Run) : Typ
   pub verdicts : new.verdicts.items ≡ old.verdicts.items ++ verdict_here limits old arrival ∷ []
   pub kept : kept_packets new.kept.items ≡ kept_with (verdict_here limits old arrival) (packet_here limits old arrival) (kept_packets old.kept.items)
   pub ordered : kept_packets new.ordered.items ≡ ordered_with (verdict_here limits old arrival) (packet_here limits old arrival) (kept_packets old.ordered.items)
+  pub last : new.last ≡ (if is_kept (verdict_here limits old arrival) then old.time else old.last)
+  pub over : new.over.items ≡ old.over.items
+
+-- one arrival, which may open an epoch
+pub record IsTaken (limits : Limits) (arrival : Arrival) (old new : Run) : Type 0 where
+  pub turned : Run
+  pub turns : IsTurned (opens_now limits old arrival) old turned
+  pub brings : IsBrought limits arrival turned new
