@@ -22,14 +22,14 @@ use Rattle.receiver_rules.specs.declared.anchor.Anchor.{Anchor}
 use Rattle.receiver_rules.specs.declared.anchor.Highest.{Highest}
 use Rattle.receiver_plain.specs.declared.kept.Kept.{Kept}
 use Rattle.receiver_rules.specs.Packets.{Packet, Moment, At, Ever, highest_of, higher}
-use Rattle.receiver_rules.specs.History.{anchor_of, accepted_packets}
+use Rattle.receiver_rules.specs.History.{anchor_of}
 use Rattle.receiver_rules.specs.Steps.{effective_time}
 use Rattle.receiver_rules.specs.Steps.{Step as BufferStep}
 use Rattle.request_plain.specs.declared.asking.Mark.{Mark}
 use Rattle.receiver_plain.specs.Kept.{kept_packet, kept_packets}
 use Rattle.request_plain.specs.declared.asking.Asking.{Asking}
 use Rattle.request_rules.specs.Steps.{Step, buffer_history, longest_rtt}
-use Rattle.request_rules.specs.Missing.{is_accepted, is_passed, lowest_wanted, numbers_up_to, missing_among, missing_numbers, moment_at, found_time}
+use Rattle.request_rules.specs.Missing.{is_accepted, is_passed, lowest_wanted, numbers_up_to, missing_among, missing_numbers, moment_at, accepted_before, found_time}
 use Rattle.request_rules.specs.Words.{IsRisingIn}
 use Rattle.request_rules.proofs.KeptLemmas.{passed_highest}
 use Rattle.request_rules.proofs.WordLemmas.{rising-filter, range-snoc, named, words-snoc}
@@ -118,9 +118,9 @@ due_here limits policy rtt t low a history anchor highest moment shows known fir
     let missing : filter (λ x. not (is_accepted accepted x)) (numbers_up_to low highest.number) ≡ missing_numbers limits (buffer_history history) t =
     ap (λ n. filter (λ x. not (is_accepted accepted x)) (numbers_up_to n highest.number)) lowest
     ∙ ap (λ m. missing_among limits (Some anchor) accepted m (Some highest)) (now ∙ ap (λ c. if c then Ever else At t) shows.run.ended)
-    ∙ ap (λ o. missing_among limits o accepted (moment_at (buffer_history history) t) (Some highest)) (sym first ∙ shows.run.anchor)
-    ∙ ap (λ o. missing_among limits (anchor_of (buffer_history history)) accepted (moment_at (buffer_history history) t) o) (sym top ∙ known)
-    ∙ ap (λ ps. missing_among limits (anchor_of (buffer_history history)) ps (moment_at (buffer_history history) t) (highest_of ps)) shows.run.kept in
+    ∙ ap (λ o. missing_among limits o accepted (moment_at (buffer_history history) t) (Some highest)) (sym first ∙ shows.run.epochs.anchor)
+    ∙ ap (λ o. missing_among limits (anchor_of limits (buffer_history history)) accepted (moment_at (buffer_history history) t) o) (sym top ∙ known)
+    ∙ ap (λ ps. missing_among limits (anchor_of limits (buffer_history history)) ps (moment_at (buffer_history history) t) (highest_of ps)) shows.run.epochs.kept in
     filter_both (λ x. not (is_accepted accepted x)) (test rtt (found_in a.marks.items) (requests_seen a.made.items)) (numbers_up_to low highest.number)
     ∙ ap (filter (test rtt (found_in a.marks.items) (requests_seen a.made.items))) missing
     ∙ ap (λ r. filter (test r (found_in a.marks.items) (requests_seen a.made.items)) (missing_numbers limits (buffer_history history) t)) rtts
@@ -150,10 +150,15 @@ below_all ks highest bound e lt =
     All-from_recursion (λ k. k.place.number < bound) ks (below_each ks bound (λ h f. let same : highest ≡ h = cc in subst (λ g. g.number < bound) same lt))
 
 -- one more mark
-pub mark_more : (limits : Limits) (s : BufferStep) (history : List BufferStep) (mark : Mark) (marks : List Mark) (x : ℕ) → mark.highest ≡ option_map (λ h. h.number) (highest_of (accepted_packets limits history))
+pub mark_more : (limits : Limits) (s : BufferStep) (history : List BufferStep) (mark : Mark) (marks : List Mark) (x : ℕ) → mark.highest ≡ option_map (λ h. h.number) (highest_of (accepted_before limits s history))
     → mark.time ≡ effective_time (s ∷ history) → found_in marks x ≡ found_time limits history x → found_in (mark ∷ marks) x ≡ found_time limits (s ∷ history) x
 mark_more limits s history mark marks x top time found =
     ap (λ o. if is_below_highest o x then found_in marks x else mark.time) top
-    ∙ ap (λ b. if b then found_in marks x else mark.time) (passed_highest (accepted_packets limits history) x)
-    ∙ ap (λ n. if is_passed (accepted_packets limits history) x then n else mark.time) found
-    ∙ ap (λ n. if is_passed (accepted_packets limits history) x then found_time limits history x else n) time
+    ∙ ap (λ b. if b then found_in marks x else mark.time) (passed_highest (accepted_before limits s history) x)
+    ∙ ap (λ n. if is_passed (accepted_before limits s history) x then n else mark.time) found
+    ∙ ap (λ n. if is_passed (accepted_before limits s history) x then found_time limits history x else n) time
+
+-- the highest number that was kept in the epoch before a step
+pub highest_before : (opens : Bool) (ps : List Packet) → (if opens then None else highest_of ps) ≡ highest_of (if opens then [] else ps)
+highest_before true ps = refl
+highest_before false ps = refl

@@ -1,10 +1,13 @@
 //! The words by which the rules ask after a list of steps, by a program that keeps every packet and every request.
-ghost use Rattle.std.specs.Prelude.{◌≡◌, ◌<◌, ◌≤◌, ◌^◌, ◌∷◌, ◌++◌, max, List, map, IfOk, OnOk, option_map};
+ghost use Rattle.std.specs.Prelude.{◌≡◌, ◌<◌, ◌≤◌, ◌^◌, [], ◌∷◌, ◌++◌, max, List, map, if◌then◌else◌, IfOk, OnOk, None, option_map};
 ghost use Rattle.std.specs.List.{All};
 ghost use Rattle.receiver_rules.specs.Bounds.{AreInRange};
 ghost use Rattle.receiver_rules.specs.ReceiverSteps.{buffer_event};
+ghost use Rattle.receiver_rules.specs.Steps.{Step as BufferRuleStep};
+ghost use Rattle.receiver_rules.specs.Epochs.{epochs_of, is_opening};
 ghost use Rattle.receiver_plain.specs.Told.{step_of as buffer_step_of, IsFit as IsFitBuffer};
-ghost use Rattle.request_rules.specs.Steps.{Step as RuleStep, longest_rtt, receiver_input, effective_time};
+ghost use Rattle.receiver_plain.specs.Run.{IsSmallRun, RunShows};
+ghost use Rattle.request_rules.specs.Steps.{Step as RuleStep, buffer_history, longest_rtt, receiver_input, effective_time};
 ghost use Rattle.request_rules.specs.Requests.{request_at, requests_of, requests_after, asked_words};
 ghost use Rattle.request_plain.specs.Told.{IsFit, input_of, IsSmallPolicy, step_of, history_of};
 ghost use Rattle.request_plain.specs.Inside.Asking.{requests_seen, IsSmallMade, AskingShows, IsSmallAsking};
@@ -104,26 +107,43 @@ fn take_step<'a>(
         → AskingShows limits.now policy.now asking.new (step_of step.now ∷ history)) }
 {
     let t = step.tick.max(asking.run.time);
-    let made = made_after(alloc, asking, limits, policy, rtt, t, &step.input)?;
+    let opens = opens_epoch(&asking.run, limits, t, &step.input);
+    let made = made_after(alloc, asking, limits, policy, rtt, t, opens, &step.input)?;
     asking.made = made;
     let mark = Mark {
-        highest: highest_number(asking.run.highest),
+        highest: highest_before(asking.run.highest, opens),
         time: t,
     };
     asking.marks.insert(0, mark)?;
     take(&mut asking.run, limits, &buffer_step(step))
 }
 
-fn highest_number(highest: Option<Highest>) -> Option<u64>
-    ensures { result ≡ option_map (λ h. h.number) highest }
+/// Whether what comes with a step opens an epoch.
+fn opens_epoch(run: &Run<'_>, limits: &Limits, t: u64, input: &Input<'_>) -> bool
+    requires limits { AreInRange limits.now }
+    requires small { IsSmallRun run.now }
+    requires time { t < 2 ^ 61 }
+    ensures { (history : List BufferRuleStep) → RunShows limits.now run.now history
+        → result ≡ is_opening limits.now (epochs_of limits.now history) t
+        (buffer_event (receiver_input (input_of input.now))) }
 {
-    match highest {
-        Some(highest) => Some(highest.number),
-        None => None,
+    match input {
+        Input::Media(arrival) => receiver_plain::opens_epoch(run, limits, t, arrival),
+        _ => false,
     }
 }
 
-/// All requests after what comes with a step: a tick asks.
+/// The highest number that was kept in the epoch before a step: none where it opens one.
+fn highest_before(highest: Option<Highest>, opens: bool) -> Option<u64>
+    ensures { result ≡ option_map (λ h. h.number) (if opens then None else highest) }
+{
+    match highest {
+        Some(highest) if !opens => Some(highest.number),
+        _ => None,
+    }
+}
+
+/// The epoch's requests after what comes with a step: a tick asks, and a packet that opens an epoch finds none.
 fn made_after(
     alloc: Global,
     asking: &Asking<'_>,
@@ -131,6 +151,7 @@ fn made_after(
     policy: &Policy,
     rtt: u64,
     t: u64,
+    opens: bool,
     input: &Input<'_>,
 ) -> Result<Vec<Made>, AllocError>
     requires limits { AreInRange limits.now }
@@ -141,6 +162,8 @@ fn made_after(
     ensures small { IfOk result (λ made. All IsSmallMade made.items) }
     ensures made { IfOk result (λ made. (history : List RuleStep)
         → AskingShows limits.now policy.now asking.now history → rtt ≡ longest_rtt 16 history
+        → opens ≡ is_opening limits.now (epochs_of limits.now (buffer_history history)) t
+        (buffer_event (receiver_input (input_of input.now)))
         → requests_seen made.items ≡ requests_after limits.now policy.now history
         (requests_of limits.now policy.now history) t (input_of input.now)) }
 {
@@ -149,8 +172,21 @@ fn made_after(
             let request = ask_at(alloc, limits, policy, rtt, t, asking)?;
             made_with(alloc, request.numbers.as_slice(), t, asking.made.as_slice())
         }
+        Input::Media(_) => made_unless(alloc, opens, asking.made.as_slice()),
         _ => Vec::from_slice(alloc, asking.made.as_slice()),
     }
+}
+
+/// The requests so far, or none where an epoch opens.
+fn made_unless(alloc: Global, opens: bool, made: &[Made]) -> Result<Vec<Made>, AllocError>
+    requires small { All IsSmallMade made.now }
+    ensures small { IfOk result (λ kept. All IsSmallMade kept.items) }
+    ensures made { IfOk result (λ kept. requests_seen kept.items ≡ (if opens then [] else requests_seen made.now)) }
+{
+    if opens {
+        return Ok(Vec::new(alloc));
+    }
+    Vec::from_slice(alloc, made)
 }
 
 /// Requests for some numbers at a time, and then those before.

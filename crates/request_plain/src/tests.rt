@@ -12,6 +12,7 @@ use std::test::Fail;
 const LIMITS: Limits = Limits {
     playout_delay: 90_000,
     capacity: 8,
+    restart_time: 180_000,
 };
 
 /// A tolerance of 25 ms, and at least 50 ms between two requests.

@@ -9,7 +9,7 @@ use Rattle.receiver_rules.specs.declared.limits.Limits.{Limits}
 use Rattle.request_rules.specs.declared.policy.NackKind.TheVariants.{Range, Mask}
 use Rattle.request_rules.specs.Steps.{Step, Keepalive, End, sample_at, rtt_of, longest_rtt}
 use Rattle.request_rules.specs.Words.{words_for, asked_numbers, masked_numbers}
-use Rattle.request_rules.specs.Rows.{usual, patient, comes, packet, clock, clock_on, sampled, word, words_at, odd_numbers}
+use Rattle.request_rules.specs.Rows.{usual, restarting, patient, comes, packet, other, clock, clock_on, sampled, word, words_at, odd_numbers}
 
 -- ---- when
 
@@ -138,7 +138,7 @@ one_alone = refl
 
 -- a run across 65,536 stays one word
 abbrev wide_span : Limits
-wide_span = record { playout_delay = 90000; capacity = 16 }
+wide_span = record { playout_delay = 90000; capacity = 16; restart_time = 0 }
 
 across : words_at wide_span (patient Range 8) (comes W16 0 65530 0 ∷ comes W16 0 4 900 ∷ []) 2250 ≡ word 65531 8 ∷ []
 unfolding nearest
@@ -211,3 +211,24 @@ less_the_delay = refl
 
 no_less_than_nothing : sample_at 5000 (echo 1000 4001) ≡ Some 0
 no_less_than_nothing = refl
+
+-- ---- a flow that restarts
+
+-- 11 to 14 were asked for once, and two seconds after 15 another flow's 12 opens an epoch
+abbrev restarted : List Step
+restarted = gap ++ clock 2350 ∷ other 180100 12 ∷ []
+
+-- numbers of the old epoch are asked for no more
+no_old_numbers : words_at restarting (patient Range 8) restarted 190000 ≡ []
+unfolding nearest
+no_old_numbers = refl
+
+-- 13 and 14 are missing from its 15 on, and not since the old one's
+found_anew : words_at restarting (patient Range 1) (restarted ++ other 180200 15 ∷ []) 182449 ≡ []
+unfolding nearest
+found_anew = refl
+
+-- they are asked for once each, though these numbers were asked for in the old epoch
+asked_anew : words_at restarting (patient Range 1) (restarted ++ other 180200 15 ∷ []) 182450 ≡ word 13 1 ∷ []
+unfolding nearest
+asked_anew = refl

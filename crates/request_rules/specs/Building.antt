@@ -9,7 +9,8 @@ use Rattle.request_rules.specs.Words.{is_masked}
 abbrev pub word_of : ℕ → AskWord
 word_of x = record { first = x; second = 0 }
 
--- a word with one more number, where it can name it: the next of a range, or one at most sixteen after the first of a mask
+-- a word with one more number, where it can name it: the next of a range, or one at most sixteen after the first of a
+-- mask
 abbrev pub extended : NackKind → AskWord → ℕ → Option AskWord
 extended Range word x =
     if x == word.first + word.second + 1 then Some (record { first = word.first; second = word.second + 1 }) else None
@@ -20,7 +21,8 @@ extended Mask word x =
 abbrev pub with_last : List AskWord → ℕ → List AskWord
 with_last words x = if nat_lt (length words) 64 then words ++ word_of x ∷ [] else words
 
--- the last word with one more number, or that number in a word of its own behind it, where there is room for so many more
+-- the last word with one more number, or that number in a word of its own behind it, where there is room for so many
+-- more
 abbrev pub last_with : ℕ → AskWord → ℕ → Option AskWord → List AskWord
 last_with room word x (Some longer) = longer ∷ []
 last_with zero word x None = word ∷ []

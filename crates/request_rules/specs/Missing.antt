@@ -1,4 +1,5 @@
--- Which packets are missing after a history, and since when (this profile). Histories are those of the buffer.
+-- Which packets are missing after a history, and since when (this profile). Histories are those of the buffer; only the
+-- current epoch's packets count.
 use Rattle.std.specs.Prelude.{ℕ, ◌+◌, ◌-◌, max, List, [], ◌∷◌, Bool, false, not, nat_lt, ◌==◌, if◌then◌else◌, Option, None, Some}
 use Rattle.std.specs.List.{filter, list_any, range_with_len}
 use Rattle.receiver_rules.specs.declared.limits.Limits.{Limits}
@@ -6,6 +7,7 @@ use Rattle.receiver_rules.specs.declared.anchor.Anchor.{Anchor}
 use Rattle.receiver_rules.specs.declared.anchor.Highest.{Highest}
 use Rattle.receiver_rules.specs.Steps.{Step, effective_time, has_ended}
 use Rattle.receiver_rules.specs.Packets.{Packet, Moment, At, Ever, highest_of, playout_floor}
+use Rattle.receiver_rules.specs.Epochs.{epochs_of, is_opening}
 use Rattle.receiver_rules.specs.History.{anchor_of, accepted_packets}
 
 -- a packet of this number was kept
@@ -47,11 +49,16 @@ moment_at history t = if has_ended history then Ever else At t
 abbrev pub missing_numbers : Limits → List Step → ℕ → List ℕ
 missing_numbers limits history t =
     let accepted = accepted_packets limits history in
-    missing_among limits (anchor_of history) accepted (moment_at history t) (highest_of accepted)
+    missing_among limits (anchor_of limits history) accepted (moment_at history t) (highest_of accepted)
 
--- since when a missing packet is known to be missing: the time at which a packet of a higher number was first kept. (Of a
--- number that isn't missing this says nothing.)
+-- the packets that were kept before a step, in the epoch that it comes in: none where it opens one
+abbrev pub accepted_before : Limits → Step → List Step → List Packet
+accepted_before limits step before =
+    if is_opening limits (epochs_of limits before) (effective_time (step ∷ before)) step.event then [] else accepted_packets limits before
+
+-- since when a missing packet is known to be missing: the time at which a packet of a higher number was first kept in
+-- the epoch. (Of a number that isn't missing this says nothing.)
 abbrev pub found_time : Limits → List Step → ℕ → ℕ
 found_time limits [] x = 0
 found_time limits (step ∷ before) x =
-    if is_passed (accepted_packets limits before) x then found_time limits before x else effective_time (step ∷ before)
+    if is_passed (accepted_before limits step before) x then found_time limits before x else effective_time (step ∷ before)

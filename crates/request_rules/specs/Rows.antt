@@ -13,21 +13,33 @@ use Rattle.request_rules.specs.Requests.{asked_words}
 
 -- a delay of one second, and a span of 8
 abbrev pub usual : Limits
-usual = record { playout_delay = 90000; capacity = 8 }
+usual = record { playout_delay = 90000; capacity = 8; restart_time = 0 }
+
+-- and a restart time of two seconds
+abbrev pub restarting : Limits
+restarting = record { playout_delay = 90000; capacity = 8; restart_time = 180000 }
 
 -- a tolerance of 25 ms, at least 50 ms between two requests, and so many of them
 abbrev pub patient : NackKind → ℕ → Policy
 patient kind tries = record { reorder_tolerance = 2250; retry_interval = 4500; retry_limit = tries; kind = kind }
 
 -- a packet of a flow on link 0, with a width and no payload
-abbrev pub comes : Width → ℕ → ℕ → ℕ → Step
-comes width tick word timestamp =
-    let arrival : Arrival = record { flow = 270544960; width = width; word = word; timestamp = timestamp; payload = [] } in
+abbrev pub comes_of : ℕ → Width → ℕ → ℕ → ℕ → Step
+comes_of flow width tick word timestamp =
+    let arrival : Arrival = record { flow = flow; width = width; word = word; timestamp = timestamp; payload = [] } in
     record { link = 0; tick = tick; input = Media arrival }
+
+-- the same of one flow
+abbrev pub comes : Width → ℕ → ℕ → ℕ → Step
+comes width tick word timestamp = comes_of 270544960 width tick word timestamp
 
 -- number n of a flow, 10 ms after the one before it
 abbrev pub packet : ℕ → ℕ → Step
 packet tick n = comes W16 tick n (900 * (n - 10))
+
+-- a packet of another flow, 10 ms after the one before it
+abbrev pub other : ℕ → ℕ → Step
+other tick n = comes_of 540029072 W16 tick n (900 * n)
 
 -- a tick of the clock on link 0; the moment in microseconds is that of the tick
 abbrev pub clock : ℕ → Step

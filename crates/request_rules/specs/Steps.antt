@@ -1,6 +1,6 @@
--- What a whole receiver is told, step by step, with what its control datagrams say (RFC 3550, section 6.1, for a compound;
--- the RTT echo is this profile's). A history is a list of steps, the newest first: in `step ∷ before`, `before` is all that
--- came before the step.
+-- What a whole receiver is told, step by step, with what its control datagrams say (RFC 3550, section 6.1, for a
+-- compound; the RTT echo is this profile's). A history is a list of steps, the newest first: in `step ∷ before`,
+-- `before` is all that came before the step.
 use Rattle.std.specs.Prelude.{ℕ, zero, suc, ◌-◌, max, List, [], ◌∷◌, map, Bool, not, ◌&&◌, nat_le, ◌==◌, if◌then◌else◌, Option, None, Some}
 use Rattle.std.specs.List.{find}
 use Rattle.receiver_rules.specs.Steps as buffer
@@ -10,10 +10,10 @@ use Rattle.rtcp_compound.specs.Compound.{Content}
 use Rattle.rist_rtt.specs.Echo.{EchoOf, echoes_in}
 use Rattle.rist_rtt.specs.Smoothed.{sample_of, smoothed}
 
--- what comes with a step: a media packet; a compound, of which the sample of the round-trip time that it gives counts, and
--- the RTT request that stands in it; a keepalive; a datagram that was refused; a tick of the receiver's own clock, at a
--- moment in microseconds; or the end of the stream. A compound or a tick whose answer couldn't be sealed (the pairs of
--- nonce and sequence number were used up) comes as a keepalive: it changes nothing but the time
+-- what comes with a step: a media packet; a compound, of which the sample of the round-trip time that it gives counts,
+-- and the RTT request that stands in it; a keepalive; a datagram that was refused; a tick of the receiver's own clock,
+-- at a moment in microseconds; or the end of the stream. A compound or a tick whose answer couldn't be sealed (the
+-- pairs of nonce and sequence number were used up) comes as a keepalive: it changes nothing but the time
 pub data Input : Type 0 where
   Media : Arrival → Input
   Control : Option ℕ → Option EchoOf → Input

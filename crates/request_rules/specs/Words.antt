@@ -1,5 +1,5 @@
--- The words of a request, which name missing numbers: range NACK (VSF TR-06-1) and generic NACK (RFC 4585, section 6.2.1).
--- Numbers are the extended ones: how many bits of them a word sends is no matter here.
+-- The words of a request, which name missing numbers: range NACK (VSF TR-06-1) and generic NACK (RFC 4585, section
+-- 6.2.1). Numbers are the extended ones: how many bits of them a word sends is no matter here.
 use Rattle.std.specs.Prelude.{ℕ, ◌≤◌, zero, suc, ◌+◌, ◌-◌, ◌^◌, List, [], ◌∷◌, map, take, Bool, nat_le, not, ◌==◌, if◌then◌else◌}
 use Rattle.std.specs.List.{filter, sum_by, range_with_len, flat_map}
 use Rattle.rist_nack.specs.Requests.{set_places}

@@ -1,5 +1,5 @@
--- The control datagrams that each step of a receiver makes (RFC 3550, sections 6.1, 6.4.2 and 6.5, for reports and source
--- descriptions; VSF TR-06-1; the round-trip time's echo, keepalives and all times are this profile's).
+-- The control datagrams that each step of a receiver makes (RFC 3550, sections 6.1, 6.4.2 and 6.5, for reports and
+-- source descriptions; VSF TR-06-1; the round-trip time's echo, keepalives and all times are this profile's).
 use Rattle.std.specs.Prelude.{ℕ, List, [], ◌∷◌, ◌++◌, Bool, true, false, ◌&&◌, ◌||◌, if◌then◌else◌, Option, None, Some, option_map}
 use Rattle.std.specs.Int.{w32, to_be_bytes}
 use Rattle.seq_unwrap.specs.declared.width.Width.{Width}
@@ -16,8 +16,8 @@ use Rattle.request_rules.specs.Requests.{asked_words}
 use Rattle.rist_control.specs.When.{is_report_due, is_keepalive_due}
 use Rattle.rist_control.specs.Nacks.{width_of, flow_nacks}
 
--- what a receiver is set to: its buffer's limits, when and how it asks, its own SSRC, whether it sends keepalives (the Main
--- Profile does), and whether it makes no datagrams at all
+-- what a receiver is set to: its buffer's limits, when and how it asks, its own SSRC, whether it sends keepalives (the
+-- Main Profile does), and whether it makes no datagrams at all
 pub record ControlSettings : Type 0 where
   pub limits : Limits
   pub policy : Policy
@@ -42,7 +42,8 @@ rtt_request false flow micros = []
 rtt_request true None micros = []
 rtt_request true (Some flow) micros = request flow micros ∷ []
 
--- the packets of a tick's compound, in order: the opening, the RTT request of a report, and the requests for retransmission
+-- the packets of a tick's compound, in order: the opening, the RTT request of a report, and the requests for
+-- retransmission
 abbrev pub tick_packets : NackKind → ℕ → Bool → Option ℕ → Width → List AskWord → ℕ → List Content
 tick_packets kind own is_report flow width words micros =
     opening own ++ (rtt_request is_report flow micros ++ flow_nacks kind own flow width words)
@@ -58,9 +59,9 @@ abbrev pub is_any : List AskWord → Bool
 is_any [] = false
 is_any (word ∷ words) = true
 
--- the flow of the first arrival
-abbrev pub flow_of : List Step → Option ℕ
-flow_of history = option_map (λ a. a.flow) (anchor_of (buffer_history history))
+-- the current epoch's flow, where a packet has come
+abbrev pub flow_of : Limits → List Step → Option ℕ
+flow_of limits history = option_map (λ a. a.flow) (anchor_of limits (buffer_history history))
 
 -- a tick's compound is made where a report is due or something is asked for
 abbrev pub tick_compound : NackKind → ℕ → Bool → Option ℕ → Width → List AskWord → ℕ → List Datagram
@@ -71,11 +72,11 @@ tick_compound kind own is_report flow width words micros =
 abbrev pub tick_keepalive : ℕ → Bool → List Datagram
 tick_keepalive own is_sent = if is_sent then Alive own ∷ [] else []
 
--- what a tick of a link makes at a time, at a moment of its clock in microseconds: a compound, and then, in the Main Profile,
--- a keepalive where one is due
+-- what a tick of a link makes at a time, at a moment of its clock in microseconds: a compound, and then, in the Main
+-- Profile, a keepalive where one is due
 abbrev pub tick_datagrams : ControlSettings → List Step → ℕ → ℕ → ℕ → List Datagram
 tick_datagrams settings before link t micros =
-    tick_compound settings.policy.kind settings.own (is_report_due link before t) (flow_of before)
+    tick_compound settings.policy.kind settings.own (is_report_due link before t) (flow_of settings.limits before)
     (width_of settings.limits before) (asked_words settings.limits settings.policy before t) micros
     ++ tick_keepalive settings.own (settings.has_keepalives && is_keepalive_due link before t)
 

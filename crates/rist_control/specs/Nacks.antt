@@ -1,5 +1,5 @@
--- The packets that ask for what is missing: range NACKs (VSF TR-06-1) or generic NACKs (RFC 4585, section 6.2.1), and where
--- numbers have 32 bits a sequence extension before them (this profile).
+-- The packets that ask for what is missing: range NACKs (VSF TR-06-1) or generic NACKs (RFC 4585, section 6.2.1), and
+-- where numbers have 32 bits a sequence extension before them (this profile).
 use Rattle.std.specs.Prelude.{ℕ, ◌/◌, ◌%◌, List, [], ◌∷◌, map, ◌==◌, if◌then◌else◌, Option, None, Some}
 use Rattle.std.specs.List.{flat_map}
 use Rattle.seq_unwrap.specs.declared.width.Width.{Width}

@@ -23,8 +23,8 @@ pub fn first_request<'a>(compound: &Compound<'a>) -> Option<Echo<'a>>
     None
 }
 
-/// The compound that answers an RTT request at once, whatever SSRC it names: its SSRC, its stamp and its further words are
-/// copied, and its delay isn't read.
+/// The compound that answers an RTT request at once, whatever SSRC it names: its SSRC, its stamp and its further words
+/// are copied, and its delay isn't read.
 pub fn answer_compound(own: u32, echo: &Echo<'_>) -> CompoundOut
     ensures packets { result.packets ≡ answer_packets own (echo_seen echo.now) }
     ensures begun { 0 < length result.octets }

@@ -1,5 +1,5 @@
-//! The control datagrams that a receiver makes: which, as a definition over the history of its steps, and the RTCP compounds,
-//! written in memory of a fixed size.
+//! The control datagrams that a receiver makes: which, as a definition over the history of its steps, and the RTCP
+//! compounds, written in memory of a fixed size.
 #![tactic(auto)]
 
 mod answer;

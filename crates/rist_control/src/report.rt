@@ -10,8 +10,8 @@ use rist_rtt::put_request;
 use rtcp_compound::CompoundOut;
 use seq_unwrap::Width;
 
-/// The most octets of a tick's compound: 24 of the opening, 24 of the RTT request, and two requests of 64 words in all, each
-/// behind an extension.
+/// The most octets of a tick's compound: 24 of the opening, 24 of the RTT request, and two requests of 64 words in all,
+/// each behind an extension.
 pub const REPORT_LEN: usize = 360;
 
 /// What a tick's compound says.
@@ -48,8 +48,8 @@ fn put_rtt_request(out: &mut CompoundOut, flow: u32, is_report: bool, micros: u6
     }
 }
 
-/// The compound of a tick: a receiver's report and a source description, an RTT request, and the requests for retransmission.
-/// All of it fits.
+/// The compound of a tick: a receiver's report and a source description, an RTT request, and the requests for
+/// retransmission. All of it fits.
 pub fn tick_compound(report: &Report<'_>) -> CompoundOut
     requires near { AreNear report.now.words.now }
     ensures packets { result.packets ≡ tick_packets report.now.kind report.now.own report.now.is_report report.now.flow

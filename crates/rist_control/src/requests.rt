@@ -144,8 +144,8 @@ fn put_extended(out: &mut CompoundOut, asker: &Asker, words: &[AskWord])
     }
 }
 
-/// Puts the requests for retransmission of some words, if there are any: in one packet where numbers have 16 bits, else each
-/// upper half's behind an extension.
+/// Puts the requests for retransmission of some words, if there are any: in one packet where numbers have 16 bits, else
+/// each upper half's behind an extension.
 pub(crate) fn put_nacks(out: &mut CompoundOut, asker: &Asker, width: Width, words: &[AskWord])
     requires begun { 0 < length out.old.octets }
     requires near { AreNear words.now }

@@ -1,5 +1,5 @@
-//! Compounds octet for octet: the report and the request of a known run, requests of wide numbers on both sides of a boundary,
-//! and an answer.
+//! Compounds octet for octet: the report and the request of a known run, requests of wide numbers on both sides of a
+//! boundary, and an answer.
 ghost use Rattle.std.specs.Prelude.{◌≡◌};
 
 use super::*;
