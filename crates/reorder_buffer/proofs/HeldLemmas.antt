@@ -37,6 +37,8 @@ sound-holding b p sound low high new nearest mid =
       rising = rising-insert b.floor p b.held low new sound.rising;
       within = within-insert b.limits.capacity p b.held sound.limits.some nearest sound.within;
       below = below-insert (2 ^ 62) p b.held high sound.below;
+      last = sound.last;
+      epoch = sound.epoch;
     }
 
 pub sound_after : (b after : State) (p : Packet) → after ≡ holding b p → IsSound b → b.floor ≤ p.number → p.number < 2 ^ 62 → list_any (λ q. q.number == p.number) b.held ≡ false → list_any (λ q. nat_le b.limits.capacity (distance q.number p.number)) b.held ≡ false → IsMid b.highest p → IsSound after
@@ -44,8 +46,8 @@ sound_after b after p e sound low high new nearest mid = subst IsSound (sym e) (
 
 -- the fields after one more was put into the ring
 pub after_hold : (fields : Inside) (b : State) → state_of fields ≡ b → (ring : Waiting) (p : Packet) (highest : Highest) → ring.packets ≡ insert_by_number p fields.ring.packets → highest ≡ higher p fields.highest
-    → state_of (record { limits = fields.limits; phase = fields.phase; time = fields.time; anchor = fields.anchor; highest = Some highest; floor = fields.floor; ring = ring }) ≡ holding b p
+    → state_of (record { limits = fields.limits; phase = fields.phase; time = fields.time; anchor = fields.anchor; highest = Some highest; floor = fields.floor; ring = ring; last = fields.last; epoch = fields.epoch }) ≡ holding b p
 after_hold fields b view ring p highest e high =
-    ap (λ ps. record { limits = fields.limits; phase = fields.phase; time = fields.time; anchor = fields.anchor; highest = Some highest; floor = fields.floor; held = ps }) e
-    ∙ ap (λ n. record { limits = fields.limits; phase = fields.phase; time = fields.time; anchor = fields.anchor; highest = Some n; floor = fields.floor; held = insert_by_number p fields.ring.packets }) high
+    ap (λ ps. record { limits = fields.limits; phase = fields.phase; time = fields.time; anchor = fields.anchor; highest = Some highest; floor = fields.floor; held = ps; last = fields.last; epoch = fields.epoch }) e
+    ∙ ap (λ n. record { limits = fields.limits; phase = fields.phase; time = fields.time; anchor = fields.anchor; highest = Some n; floor = fields.floor; held = insert_by_number p fields.ring.packets; last = fields.last; epoch = fields.epoch }) high
     ∙ ap (λ s. holding s p) view

@@ -10,3 +10,4 @@ mod WriteLemmas
 mod ReleaseLemmas
 mod ReceiveLemmas
 mod DueLemmas
+pub mod OpeningLemmas

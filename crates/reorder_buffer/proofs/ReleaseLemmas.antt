@@ -7,7 +7,8 @@ use Rattle.std.specs.List.{filter, concat}
 use Rattle.outside_io.specs.Told.{Appends, AppendsPart, Writes, WritesPart}
 use Rattle.receiver_rules.specs.Steps.{Step, effective_time, time_step, end_step}
 use Rattle.receiver_rules.specs.Packets.{Packet, Moment, At, Ever, is_played_out, is_buffered, playout_floor, by_number, IsRising, is_below, is_from}
-use Rattle.receiver_rules.specs.History.{accepted_packets, current_moment, released_payloads, released_bytes}
+use Rattle.receiver_rules.specs.Epochs.{Epoch, epochs_of, newest_accepted}
+use Rattle.receiver_rules.specs.History.{accepted_packets, current_moment, packets_over, playout_of, released_payloads, released_bytes}
 use Rattle.receiver_rules.proofs.PacketLemmas.{rising-filter, IsLater, later_At, later_Ever, floor_later, buffered_later, played_out_later}
 use Rattle.receiver_rules.proofs.HistoryLemmas.{now_open}
 use Rattle.reorder_buffer.specs.State.{State}
@@ -61,6 +62,8 @@ sound-raised b floor s =
       rising = rising-from floor b.floor b.held s.rising;
       within = within-filter (is_from floor) b.limits.capacity b.floor b.held s.rising s.within;
       below = below-filter (is_from floor) (2 ^ 62) b.held s.below;
+      last = s.last;
+      epoch = s.epoch;
     }
 
 -- rising numbers below a bound are no more than the numbers there
@@ -108,6 +111,16 @@ released_is b packets m later r =
     same : filter (is_below (floor_then b later)) b.held ≡ filter (is_below (playout_floor packets later)) (filter (is_buffered packets m) (by_number packets))
     same = ap (λ n. filter (is_below n) b.held) (floor_is b packets m later r) ∙ ap (filter (is_below (playout_floor packets later))) r.held
 
+-- and with all that was released of the epochs before
+released_of : (b : State) (epochs : List Epoch) (m later : Moment) → Rises b (newest_accepted epochs) m later
+    → map (λ (p : Packet). p.payload) (playout_of epochs later) ≡ map (λ (p : Packet). p.payload) (playout_of epochs m) ++ map (λ (p : Packet). p.payload) (filter (is_below (floor_then b later)) b.held)
+released_of b [] m later r = released_is b [] m later r
+released_of b (current ∷ earlier) m later r =
+    map-append (packets_over earlier) (filter (is_played_out current.accepted later) (by_number current.accepted))
+    ∙ ap (λ xs. map (λ (p : Packet). p.payload) (packets_over earlier) ++ xs) (released_is b current.accepted m later r)
+    ∙ sym (append_assoc (map (λ (p : Packet). p.payload) (packets_over earlier)) (map (λ (p : Packet). p.payload) (filter (is_played_out current.accepted m) (by_number current.accepted))) (map (λ (p : Packet). p.payload) (filter (is_below (floor_then b later)) b.held)))
+    ∙ ap (λ xs. xs ++ map (λ (p : Packet). p.payload) (filter (is_below (floor_then b later)) b.held)) (sym (map-append (packets_over earlier) (filter (is_played_out current.accepted m) (by_number current.accepted))))
+
 concat-append : (xs ys : List (List ℕ)) → concat (xs ++ ys) ≡ concat xs ++ concat ys
 concat-append [] ys = refl
 concat-append (x ∷ xs) ys = ap (λ zs. x ++ zs) (concat-append xs ys) ∙ sym (append_assoc x (concat xs) (concat ys))
@@ -115,7 +128,7 @@ concat-append (x ∷ xs) ys = ap (λ zs. x ++ zs) (concat-append xs ys) ∙ sym 
 -- a step that brings nothing to keep
 pub record Follows (b : State) (history : List Step) (step : Step) (later : Moment) : Type 0 where
   pub shows : Shows b history
-  pub same : accepted_packets b.limits (step ∷ history) ≡ accepted_packets b.limits history
+  pub same : epochs_of b.limits (step ∷ history) ≡ epochs_of b.limits history
   pub moment : current_moment (step ∷ history) ≡ later
   pub after : IsLater (current_moment history) later
 
@@ -124,9 +137,9 @@ rises b history step later f = record { floor = f.shows.floor; held = f.shows.he
 
 released_then : (b : State) (history : List Step) (step : Step) (later : Moment) → Follows b history step later → released_payloads b.limits (step ∷ history) ≡ released_payloads b.limits history ++ map (λ (p : Packet). p.payload) (filter (is_below (floor_then b later)) b.held)
 released_then b history step later f =
-    ap (λ ps. map (λ (p : Packet). p.payload) (filter (is_played_out ps (current_moment (step ∷ history))) (by_number ps))) f.same
-    ∙ ap (λ m. map (λ (p : Packet). p.payload) (filter (is_played_out (accepted_packets b.limits history) m) (by_number (accepted_packets b.limits history)))) f.moment
-    ∙ released_is b (accepted_packets b.limits history) (current_moment history) later (rises b history step later f)
+    ap (λ es. map (λ (p : Packet). p.payload) (playout_of es (current_moment (step ∷ history)))) f.same
+    ∙ ap (λ m. map (λ (p : Packet). p.payload) (playout_of (epochs_of b.limits history) m)) f.moment
+    ∙ released_of b (epochs_of b.limits history) (current_moment history) later (rises b history step later f)
 
 octets_then : (b : State) (history : List Step) (step : Step) (later : Moment) → Follows b history step later → released_bytes b.limits (step ∷ history) ≡ released_bytes b.limits history ++ octets_below (floor_then b later) b.held
 octets_then b history step later f = ap concat (released_then b history step later f) ∙ concat-append (released_payloads b.limits history) (map (λ (p : Packet). p.payload) (filter (is_below (floor_then b later)) b.held))
@@ -182,10 +195,10 @@ end_follows b history stands live =
     record { shows = stands (not_failed b.phase live); same = refl; moment = refl; after = later_Ever (current_moment history) }
 
 abbrev pub timed : State → ℕ → State
-timed b t = record { limits = b.limits; phase = b.phase; time = t; anchor = b.anchor; highest = b.highest; floor = b.floor; held = b.held }
+timed b t = record { limits = b.limits; phase = b.phase; time = t; anchor = b.anchor; highest = b.highest; floor = b.floor; held = b.held; last = b.last; epoch = b.epoch }
 
 abbrev pub ended : State → State
-ended b = record { limits = b.limits; phase = Ended; time = b.time; anchor = b.anchor; highest = b.highest; floor = b.floor; held = b.held }
+ended b = record { limits = b.limits; phase = Ended; time = b.time; anchor = b.anchor; highest = b.highest; floor = b.floor; held = b.held; last = b.last; epoch = b.epoch }
 
 pub shows_pass : (b : State) (history : List Step) (at floor : ℕ) → IsStateAfter b history → b.phase ≡ Open → b.time ≤ at → floor ≡ floor_then b (At at) → Shows (timed (raised b floor) at) (time_step at ∷ history)
 shows_pass b history at floor stands live later e =
@@ -199,6 +212,8 @@ shows_pass b history at floor stands live later e =
       highest = f.shows.highest;
       floor = e ∙ floor_is b (accepted_packets b.limits history) (current_moment history) (At at) r ∙ ap (playout_floor (accepted_packets b.limits history)) (sym f.moment);
       held = ap (λ n. filter (is_from n) b.held) e ∙ held_is b (accepted_packets b.limits history) (current_moment history) (At at) r ∙ ap (λ m. filter (is_buffered (accepted_packets b.limits history) m) (by_number (accepted_packets b.limits history))) (sym f.moment);
+      last = f.shows.last;
+      epoch = f.shows.epoch;
     }
 
 pub shows_end : (b : State) (history : List Step) (floor : ℕ) → IsStateAfter b history → b.phase ≡ Open → floor ≡ floor_then b Ever → Shows (ended (raised b floor)) (end_step ∷ history)
@@ -213,4 +228,6 @@ shows_end b history floor stands live e =
       highest = f.shows.highest;
       floor = e ∙ floor_is b (accepted_packets b.limits history) (current_moment history) Ever r;
       held = ap (λ n. filter (is_from n) b.held) e ∙ held_is b (accepted_packets b.limits history) (current_moment history) Ever r;
+      last = f.shows.last;
+      epoch = f.shows.epoch;
     }

@@ -1,22 +1,24 @@
 -- What a state shows of its history, before and after an arrival.
-use Rattle.std.proofs.Common.{◌≡◌, ◌||◌, ℕ, ◌+◌, ◌*◌, ◌^◌, ◌<◌, ◌≤◌, max, pos, Bool, true, false, cond, ◌&&◌, List, [], ◌∷◌, Option, Some, None, unwrap_or, refl, sym, ◌∙◌, ap, subst, arith}
-use Rattle.std.specs.Prelude.{nat_lt, nat_le, ◌==◌, int_le, int_lt, IsSome, IsNone, ◌-ℤ◌}
-use Rattle.std.proofs.lemmas.Bool.{ltb-false}
+use Rattle.std.proofs.Common.{◌≡◌, ◌||◌, ℕ, suc, ◌+◌, ◌-◌, ◌*◌, ◌^◌, ◌<◌, ◌≤◌, max, pos, Bool, true, false, cond, not, ◌&&◌, List, [], ◌∷◌, Option, Some, None, unwrap_or, length, refl, sym, ◌∙◌, ap, subst, arith}
+use Rattle.std.specs.Prelude.{nat_lt, nat_le, nat_eq, ◌==◌, int_le, int_lt, IsSome, IsNone, ◌-ℤ◌}
+use Rattle.std.proofs.lemmas.Bool.{ltb-false, and_parts, eqb-true, ne_eqb}
 use Rattle.std.specs.List.{filter, list_any}
 use Rattle.receiver_rules.specs.declared.verdict.Verdict.TheVariants.{Kept, Stranger, Exhausted, Late, Behind, Early, Twice, Span}
 use Rattle.receiver_rules.specs.declared.anchor.Anchor.{Anchor}
+use Rattle.receiver_rules.specs.declared.limits.Limits.{Limits}
 use Rattle.receiver_rules.specs.Steps.{Arrival, Event, Media, Step, effective_time, is_end, has_ended, media_step, time_step}
 use Rattle.receiver_rules.specs.Packets.{Packet, Moment, At, Ever, number_of, timestamp_of, deadline_of, placed_packet, distance, is_buffered, verdict_of, is_kept, playout_floor, by_number, highest_of, higher, insert_by_number, is_from}
-use Rattle.receiver_rules.specs.History.{new_anchor, anchor_of, anchor_after, accepted_packets, accepted_after, current_moment, verdict}
+use Rattle.receiver_rules.specs.Epochs.{Epoch, new_anchor, new_epoch, opens_next, opens_epoch, epoch_at, earlier_at, verdict_in, packet_in, epoch_with, epochs_after, epochs_of, newest_anchor, newest_accepted, newest_last}
+use Rattle.receiver_rules.specs.History.{accepted_packets, current_moment, verdict}
 use Rattle.receiver_rules.proofs.PacketLemmas.{any_same, filter_same, any-filter, any-by_number, is_behind_playout-floor, is_buffered-floor, buffered-cons}
-use Rattle.receiver_rules.proofs.HistoryLemmas.{chain as kept_chain, anchorless, now_open, IsKept, accepted_parts, buffered_when_accepted}
+use Rattle.receiver_rules.proofs.HistoryLemmas.{chain as kept_chain, now_open, IsKept, accepted_parts, buffered_when_accepted}
 use Rattle.std.proofs.lemmas.Int.{ints}
 use Rattle.receiver_rules.specs.declared.anchor.Highest.{Highest}
 use Rattle.receiver_rules.specs.Bounds.{AreInRange, IsEarlyAnchor, IsMid}
 use Rattle.reorder_buffer.specs.State.{State}
 use Rattle.reorder_buffer.specs.StateAfter.{Shows, IsStateAfter}
 use Rattle.reorder_buffer.specs.Inside.Tests.{verdict_here, anchor_at, placed_at, judged}
-use Rattle.reorder_buffer.specs.Inside.Changes.{holding, moved, taken}
+use Rattle.reorder_buffer.specs.Inside.Changes.{holding, moved, taken, is_opening, begun, opened_at}
 use Rattle.reorder_buffer.specs.declared.phase.Phase.TheVariants.{Open, Ended}
 use Rattle.reorder_buffer.proofs.PhaseLemmas.{not_failed}
 
@@ -31,26 +33,6 @@ still_open b history s e = open_phase _ (sym s.phase ∙ e)
 pub record IsAt (b : State) (packets : List Packet) (t : ℕ) : Type 0 where
   pub floor : b.floor ≡ playout_floor packets (At t)
   pub held : b.held ≡ filter (is_buffered packets (At t)) (by_number packets)
-
-at_any : (b : State) (packets : List Packet) (m : Moment) (t : ℕ) → packets ≡ [] → b.floor ≡ playout_floor packets m → b.held ≡ filter (is_buffered packets m) (by_number packets) → IsAt b packets t
-at_any b packets m t e floor held =
-    record {
-      floor = floor ∙ ap (λ ps. playout_floor ps m) e ∙ ap (λ ps. playout_floor ps (At t)) (sym e);
-      held = held ∙ ap (λ ps. filter (is_buffered ps m) (by_number ps)) e ∙ ap (λ ps. filter (is_buffered ps (At t)) (by_number ps)) (sym e);
-    }
-
-pub shows_at : (b : State) (history : List Step) (t : ℕ) → Shows b history → b.phase ≡ Open → (IsSome b.anchor → b.time ≡ t) → IsAt b (accepted_packets b.limits history) t
-shows_at b history t s live released =
-    let moment = now_open history (still_open b history s live) in
-    elim b.anchor as (λ o. b.anchor ≡ o → IsAt b (accepted_packets b.limits history) t) [
-      | None ↦ λ e. at_any b (accepted_packets b.limits history) (current_moment history) t (anchorless b.limits history (sym s.anchor ∙ e)) s.floor s.held
-      | Some a ↦ λ e.
-          let same : current_moment history ≡ At t = moment ∙ ap At (sym s.time ∙ released (subst IsSome (sym e) refl)) in
-          record {
-            floor = s.floor ∙ ap (λ m. playout_floor (accepted_packets b.limits history) m) same;
-            held = s.held ∙ ap (λ m. filter (is_buffered (accepted_packets b.limits history) m) (by_number (accepted_packets b.limits history))) same;
-          }
-    ] refl
 
 -- ---- the tests, on what is held and on all that was kept
 
@@ -108,7 +90,78 @@ mid_kept b a t arrival small early h e =
     high_stamp : (time from delay timestamp t : ℕ) → from < 2 ^ 41 → delay ≤ 2700000 → t < 2 ^ 61 → int_lt (pos (t + 2 * delay)) (pos (time + timestamp + delay) -ℤ pos from) ≡ false → timestamp < 2 ^ 62
     high_stamp time from delay timestamp t high small h nearest = grind (arith, ints)
 
--- ---- an arrival
+-- ---- an arrival of an epoch
+
+-- what a state shows of the epoch that an arrival comes in, and of those before it
+pub record Faces (b : State) (epoch : Epoch) (earlier : List Epoch) (t : ℕ) (arrival : Arrival) : Type 0 where
+  pub anchor : anchor_at b t arrival ≡ epoch.anchor
+  pub highest : b.highest ≡ highest_of epoch.accepted
+  pub at : IsAt b epoch.accepted t
+  pub last : b.last ≡ epoch.last
+  pub place : b.epoch ≡ length earlier
+
+-- what a state shows of the epochs at a moment
+pub record ShowsEpochs (b : State) (epochs : List Epoch) (m : Moment) : Type 0 where
+  pub anchor : b.anchor ≡ newest_anchor epochs
+  pub highest : b.highest ≡ highest_of (newest_accepted epochs)
+  pub floor : b.floor ≡ playout_floor (newest_accepted epochs) m
+  pub held : b.held ≡ filter (is_buffered (newest_accepted epochs) m) (by_number (newest_accepted epochs))
+  pub last : b.last ≡ newest_last epochs
+  pub epoch : b.epoch ≡ length epochs - 1
+
+pub judged_faced : (b : State) (epoch : Epoch) (earlier : List Epoch) (t : ℕ) (arrival : Arrival) → Faces b epoch earlier t arrival → judged b t arrival ≡ verdict_in b.limits epoch t arrival
+judged_faced b epoch earlier t arrival f =
+    ap (λ highest. verdict_here b (anchor_at b t arrival) t arrival.flow (number_of highest arrival) (deadline_of b.limits (anchor_at b t arrival) (timestamp_of highest arrival))) f.highest
+    ∙ ap (λ a. verdict_here b a t arrival.flow (number_of (highest_of epoch.accepted) arrival) (deadline_of b.limits a (timestamp_of (highest_of epoch.accepted) arrival))) f.anchor
+    ∙ verdict_same b epoch.accepted t epoch.anchor arrival f.at
+
+placed_faced : (b : State) (epoch : Epoch) (earlier : List Epoch) (t : ℕ) (arrival : Arrival) → Faces b epoch earlier t arrival → placed_at b t arrival ≡ packet_in b.limits epoch arrival
+placed_faced b epoch earlier t arrival f =
+    ap (λ a. placed_packet b.limits a b.highest arrival) f.anchor ∙ ap (λ highest. placed_packet b.limits epoch.anchor highest arrival) f.highest
+
+same_length : (n : ℕ) → n ≡ suc n - 1
+same_length n = omega arith
+
+-- an arrival that isn't kept
+moved_shows : (b : State) (epoch : Epoch) (earlier : List Epoch) (t : ℕ) (arrival : Arrival) → Faces b epoch earlier t arrival → ShowsEpochs (moved b t epoch.anchor false) (epoch ∷ earlier) (At t)
+moved_shows b epoch earlier t arrival f =
+    record { anchor = refl; highest = f.highest; floor = f.at.floor; held = f.at.held; last = f.last; epoch = f.place ∙ same_length (length earlier) }
+
+-- the epoch with one more packet
+abbrev kept_in : Limits → Epoch → ℕ → Arrival → Epoch
+kept_in limits epoch t arrival = record { anchor = epoch.anchor; accepted = packet_in limits epoch arrival ∷ epoch.accepted; last = t }
+
+-- an arrival that is kept
+holding_shows : (b : State) (epoch : Epoch) (earlier : List Epoch) (t : ℕ) (arrival : Arrival) → Faces b epoch earlier t arrival → is_kept (verdict_in b.limits epoch t arrival) ≡ true
+    → ShowsEpochs (moved (holding b (packet_in b.limits epoch arrival)) t epoch.anchor true) (kept_in b.limits epoch t arrival ∷ earlier) (At t)
+holding_shows b epoch earlier t arrival f kept =
+    let p : Packet = packet_in b.limits epoch arrival in
+    let parts : IsKept b.limits epoch.anchor epoch.accepted t arrival = accepted_parts b.limits epoch.anchor epoch.accepted t arrival kept in
+    record {
+      anchor = refl;
+      highest = ap (λ o. Some (higher p o)) f.highest;
+      floor = f.at.floor ∙ sym (ap (λ c. cond c (max (p.number + 1) (playout_floor epoch.accepted (At t))) (playout_floor epoch.accepted (At t))) parts.in_time);
+      held = ap (insert_by_number p) f.at.held ∙ sym (buffered-cons p epoch.accepted (At t) parts.in_time (buffered_when_accepted epoch.accepted (At t) p parts.ahead));
+      last = refl;
+      epoch = f.place ∙ same_length (length earlier);
+    }
+
+-- what an arrival leaves shows the epochs with it
+pub taken_shows : (b : State) (epoch : Epoch) (earlier : List Epoch) (t : ℕ) (arrival : Arrival) → Faces b epoch earlier t arrival → ShowsEpochs (taken b t arrival) (epoch_with b.limits epoch t arrival ∷ earlier) (At t)
+taken_shows b epoch earlier t arrival f =
+    let same : is_kept (judged b t arrival) ≡ is_kept (verdict_in b.limits epoch t arrival) = ap is_kept (judged_faced b epoch earlier t arrival f) in
+    let after = λ (c : Bool) (p : Packet) (a : Anchor). moved (cond c (holding b p) b) t a c in
+    let is : taken b t arrival ≡ after (is_kept (verdict_in b.limits epoch t arrival)) (packet_in b.limits epoch arrival) epoch.anchor =
+    ap (λ c. after c (placed_at b t arrival) (anchor_at b t arrival)) same
+    ∙ ap (λ p. after (is_kept (verdict_in b.limits epoch t arrival)) p (anchor_at b t arrival)) (placed_faced b epoch earlier t arrival f)
+    ∙ ap (λ a. after (is_kept (verdict_in b.limits epoch t arrival)) (packet_in b.limits epoch arrival) a) f.anchor in
+    subst (λ s. ShowsEpochs s (epoch_with b.limits epoch t arrival ∷ earlier) (At t)) (sym is)
+    (elim (is_kept (verdict_in b.limits epoch t arrival)) as (λ c. is_kept (verdict_in b.limits epoch t arrival) ≡ c → ShowsEpochs (after c (packet_in b.limits epoch arrival) epoch.anchor) (record { anchor = epoch.anchor; accepted = cond c (packet_in b.limits epoch arrival ∷ epoch.accepted) epoch.accepted; last = cond c t epoch.last } ∷ earlier) (At t)) [
+      | true ↦ λ e. holding_shows b epoch earlier t arrival f e
+      | false ↦ λ e. moved_shows b epoch earlier t arrival f
+    ] refl)
+
+-- ---- an arrival after a history
 
 -- what an arrival is told of before it is judged
 pub record Arrives (b : State) (history : List Step) (at : ℕ) : Type 0 where
@@ -120,75 +173,174 @@ pub record Arrives (b : State) (history : List Step) (at : ℕ) : Type 0 where
 time_is : (b : State) (history : List Step) (at : ℕ) → Arrives b history at → max at (effective_time history) ≡ at
 time_is b history at h = let e = h.shows.time in let l = h.later in omega arith
 
-anchor_is : (b : State) (history : List Step) (at : ℕ) (arrival : Arrival) → Arrives b history at → unwrap_or (anchor_of history) (new_anchor (max at (effective_time history)) arrival) ≡ anchor_at b at arrival
-anchor_is b history at arrival h =
-    ap (λ o. unwrap_or o (new_anchor (max at (effective_time history)) arrival)) (sym h.shows.anchor)
-    ∙ ap (λ t. unwrap_or b.anchor (new_anchor t arrival)) (time_is b history at h)
-
--- the verdict on the history is that on the packets that it kept
-verdict_is : (b : State) (history : List Step) (at : ℕ) (arrival : Arrival) → Arrives b history at → verdict b.limits history at arrival ≡ verdict_of b.limits (anchor_at b at arrival) (accepted_packets b.limits history) at arrival
-verdict_is b history at arrival h =
-    ap (λ a. verdict_of b.limits a (accepted_packets b.limits history) (max at (effective_time history)) arrival) (anchor_is b history at arrival h)
-    ∙ ap (λ t. verdict_of b.limits (anchor_at b at arrival) (accepted_packets b.limits history) t arrival) (time_is b history at h)
-
-pub verdict_after_steps : (b : State) (history : List Step) (at : ℕ) (arrival : Arrival) → Arrives b history at
-    → judged b at arrival ≡ verdict b.limits history at arrival
-verdict_after_steps b history at arrival h =
-    ap (λ highest. verdict_here b (anchor_at b at arrival) at arrival.flow (number_of highest arrival) (deadline_of b.limits (anchor_at b at arrival) (timestamp_of highest arrival))) h.shows.highest
-    ∙ verdict_same b (accepted_packets b.limits history) at (anchor_at b at arrival) arrival (shows_at b history at h.shows h.live h.released)
-    ∙ sym (verdict_is b history at arrival h)
-
 now_is : (b : State) (history : List Step) (at : ℕ) (arrival : Arrival) → Arrives b history at → current_moment (media_step at arrival ∷ history) ≡ At at
 now_is b history at arrival h =
     ap (λ c. cond c Ever (At (max at (effective_time history)))) (still_open b history h.shows h.live)
     ∙ ap At (time_is b history at h)
 
-kept_is : (b : State) (history : List Step) (at : ℕ) (arrival : Arrival) → Arrives b history at → accepted_packets b.limits (media_step at arrival ∷ history) ≡ cond (is_kept (verdict b.limits history at arrival)) (placed_packet b.limits (anchor_at b at arrival) (highest_of (accepted_packets b.limits history)) arrival ∷ accepted_packets b.limits history) (accepted_packets b.limits history)
-kept_is b history at arrival h = ap (λ a. cond (is_kept (verdict b.limits history at arrival)) (placed_packet b.limits a (highest_of (accepted_packets b.limits history)) arrival ∷ accepted_packets b.limits history) (accepted_packets b.limits history)) (anchor_is b history at arrival h)
+-- the epochs, at the time of the arrival
+pub record Meets (b : State) (epochs : List Epoch) (at : ℕ) : Type 0 where
+  pub anchor : b.anchor ≡ newest_anchor epochs
+  pub highest : b.highest ≡ highest_of (newest_accepted epochs)
+  pub here : IsSome b.anchor → IsAt b (newest_accepted epochs) at
+  pub floor : IsNone b.anchor → b.floor ≡ 0
+  pub held : IsNone b.anchor → b.held ≡ []
+  pub last : b.last ≡ newest_last epochs
+  pub epoch : b.epoch ≡ length epochs - 1
 
--- an arrival that isn't kept
-pub shows_moved : (b : State) (history : List Step) (at : ℕ) (arrival : Arrival) → Arrives b history at → is_kept (verdict b.limits history at arrival) ≡ false → Shows (moved b at (anchor_at b at arrival)) (media_step at arrival ∷ history)
-shows_moved b history at arrival h refused =
-    let is = shows_at b history at h.shows h.live h.released in
-    let same : accepted_packets b.limits (media_step at arrival ∷ history) ≡ accepted_packets b.limits history = kept_is b history at arrival h ∙ ap (λ c. cond c (placed_packet b.limits (anchor_at b at arrival) (highest_of (accepted_packets b.limits history)) arrival ∷ accepted_packets b.limits history) (accepted_packets b.limits history)) refused in
-    let moment : current_moment (media_step at arrival ∷ history) ≡ At at = now_is b history at arrival h in
+no_floor : (epochs : List Epoch) (m : Moment) → newest_anchor epochs ≡ None → playout_floor (newest_accepted epochs) m ≡ 0
+no_floor [] m e = refl
+no_floor (current ∷ earlier) m e = cc
+
+nothing_held : (epochs : List Epoch) (m : Moment) → newest_anchor epochs ≡ None → filter (is_buffered (newest_accepted epochs) m) (by_number (newest_accepted epochs)) ≡ []
+nothing_held [] m e = refl
+nothing_held (current ∷ earlier) m e = cc
+
+pub meets : (b : State) (history : List Step) (at : ℕ) → Arrives b history at → Meets b (epochs_of b.limits history) at
+meets b history at h =
+    let s = h.shows in
+    let moment = now_open history (still_open b history s h.live) in
     record {
-      phase = h.shows.phase;
-      time = sym (time_is b history at h);
-      anchor = ap Some (sym (anchor_is b history at arrival h));
-      highest = h.shows.highest ∙ ap highest_of (sym same);
-      floor = is.floor ∙ ap (λ ps. playout_floor ps (At at)) (sym same) ∙ ap (λ m. playout_floor (accepted_packets b.limits (media_step at arrival ∷ history)) m) (sym moment);
-      held = is.held ∙ ap (λ ps. filter (is_buffered ps (At at)) (by_number ps)) (sym same) ∙ ap (λ m. filter (is_buffered (accepted_packets b.limits (media_step at arrival ∷ history)) m) (by_number (accepted_packets b.limits (media_step at arrival ∷ history)))) (sym moment);
+      anchor = s.anchor;
+      highest = s.highest;
+      here = λ some.
+          let same : current_moment history ≡ At at = moment ∙ ap At (sym s.time ∙ h.released some) in
+          record {
+            floor = s.floor ∙ ap (λ m. playout_floor (accepted_packets b.limits history) m) same;
+            held = s.held ∙ ap (λ m. filter (is_buffered (accepted_packets b.limits history) m) (by_number (accepted_packets b.limits history))) same;
+          };
+      floor = λ none. s.floor ∙ no_floor (epochs_of b.limits history) (current_moment history) (sym s.anchor ∙ is_none b.anchor none);
+      held = λ none. s.held ∙ nothing_held (epochs_of b.limits history) (current_moment history) (sym s.anchor ∙ is_none b.anchor none);
+      last = s.last;
+      epoch = s.epoch;
     }
+  where
+    is_none : (o : Option Anchor) → IsNone o → o ≡ None
+    is_none None e = refl
+    is_none (Some a) e = cc
 
--- an arrival that is kept
-pub shows_holding : (b : State) (history : List Step) (at : ℕ) (arrival : Arrival) → Arrives b history at → is_kept (verdict b.limits history at arrival) ≡ true
-    → Shows (moved (holding b (placed_packet b.limits (anchor_at b at arrival) (highest_of (accepted_packets b.limits history)) arrival)) at (anchor_at b at arrival)) (media_step at arrival ∷ history)
-shows_holding b history at arrival h taken =
-    let packets : List Packet = accepted_packets b.limits history in
-    let p : Packet = placed_packet b.limits (anchor_at b at arrival) (highest_of packets) arrival in
-    let is = shows_at b history at h.shows h.live h.released in
-    let parts : IsKept b.limits (anchor_at b at arrival) packets at arrival = accepted_parts b.limits (anchor_at b at arrival) packets at arrival (ap is_kept (sym (verdict_is b history at arrival h)) ∙ taken) in
-    let same : accepted_packets b.limits (media_step at arrival ∷ history) ≡ p ∷ packets = kept_is b history at arrival h ∙ ap (λ c. cond c (p ∷ packets) packets) taken in
+-- whether it opens an epoch
+length_none : (f : Packet → Bool) (ps : List Packet) → nat_eq (length (filter f ps)) 0 ≡ not (list_any f ps)
+length_none f [] = refl
+length_none f (p ∷ ps) =
+    elim (f p) as (λ c. nat_eq (length (cond c (p ∷ filter f ps) (filter f ps))) 0 ≡ not (c || list_any f ps)) [ true ↦ ne_eqb (suc (length (filter f ps))) 0 (λ e. cc) | false ↦ length_none f ps ]
+
+pub opening_is : (b : State) (epochs : List Epoch) (at : ℕ) (arrival : Arrival) → Meets b epochs at → is_opening b b.anchor at arrival.flow ≡ opens_epoch b.limits epochs at arrival
+opening_is b [] at arrival m = ap (λ o. is_opening b o at arrival.flow) m.anchor
+opening_is b (current ∷ earlier) at arrival m =
+    let is = m.here (subst IsSome (sym m.anchor) refl) in
+    ap (λ o. is_opening b o at arrival.flow) m.anchor
+    ∙ ap (λ ps. not (arrival.flow == current.anchor.flow) && (nat_lt 0 b.limits.restart_time && (nat_eq (length ps) 0 && nat_le (b.last + b.limits.restart_time) at))) is.held
+    ∙ ap (λ c. not (arrival.flow == current.anchor.flow) && (nat_lt 0 b.limits.restart_time && (c && nat_le (b.last + b.limits.restart_time) at)))
+    (length_none (is_buffered current.accepted (At at)) (by_number current.accepted) ∙ ap not (any-by_number (is_buffered current.accepted (At at)) current.accepted))
+    ∙ ap (λ n. not (arrival.flow == current.anchor.flow) && (nat_lt 0 b.limits.restart_time && (not (list_any (is_buffered current.accepted (At at)) current.accepted) && nat_le (n + b.limits.restart_time) at))) m.last
+
+-- where it does, it finds a new one
+first_faces : (b : State) (at : ℕ) (arrival : Arrival) → Meets b [] at → Faces (begun b None at) (new_epoch at arrival) [] at arrival
+first_faces b at arrival m =
+    let none : IsNone b.anchor = subst IsNone (sym m.anchor) refl in
+    record { anchor = ap (λ o. unwrap_or o (new_anchor at arrival)) m.anchor; highest = m.highest; at = record { floor = m.floor none; held = m.held none }; last = refl; place = m.epoch }
+
+next_faces : (b : State) (at : ℕ) (arrival : Arrival) (a : Anchor) (epochs : List Epoch) → b.held ≡ [] → b.epoch + 1 ≡ length epochs → Faces (begun b (Some a) at) (new_epoch at arrival) epochs at arrival
+next_faces b at arrival a epochs empty place =
+    record { anchor = refl; highest = refl; at = record { floor = refl; held = empty }; last = refl; place = place }
+
+no_packets : (ps : List Packet) → nat_eq (length ps) 0 ≡ true → ps ≡ []
+no_packets [] e = refl
+no_packets (p ∷ ps) e = absurd (let none : suc (length ps) ≡ 0 = eqb-true _ _ e in cc)
+
+-- an epoch opens where nothing waits
+pub empty_at : (b : State) (a : Anchor) (at flow : ℕ) → is_opening b (Some a) at flow ≡ true → b.held ≡ []
+empty_at b a at flow e =
+    let some = and_parts (not (flow == a.flow)) (nat_lt 0 b.limits.restart_time && (nat_eq (length b.held) 0 && nat_le (b.last + b.limits.restart_time) at)) e in
+    let empty = and_parts (nat_lt 0 b.limits.restart_time) (nat_eq (length b.held) 0 && nat_le (b.last + b.limits.restart_time) at) some.1 in
+    no_packets b.held (and_parts (nat_eq (length b.held) 0) (nat_le (b.last + b.limits.restart_time) at) empty.1).0
+
+one_more : (n : ℕ) → suc n - 1 + 1 ≡ suc n
+one_more n = omega arith
+
+-- the state that the arrival finds
+found : (b : State) (epochs : List Epoch) (at : ℕ) (arrival : Arrival) → Meets b epochs at → (P : State → Epoch → List Epoch → Type 0)
+    → ((c : State) (e : Epoch) (es : List Epoch) → c.limits ≡ b.limits → Faces c e es at arrival → P c e es) → P (opened_at b at arrival.flow) (epoch_at b.limits epochs at arrival) (earlier_at b.limits epochs at arrival)
+found b [] at arrival m P given =
+    subst (λ c. P (cond c (begun b b.anchor at) b) (new_epoch at arrival) []) (sym (opening_is b [] at arrival m))
+    (subst (λ o. P (begun b o at) (new_epoch at arrival) []) (sym m.anchor)
+    (given (begun b None at) (new_epoch at arrival) [] refl (first_faces b at arrival m)))
+found b (current ∷ earlier) at arrival m P given =
+    let same = opening_is b (current ∷ earlier) at arrival m in
+    subst (λ c. P (cond c (begun b b.anchor at) b) (epoch_at b.limits (current ∷ earlier) at arrival) (earlier_at b.limits (current ∷ earlier) at arrival)) (sym same)
+    (elim (opens_next b.limits current at arrival) as (λ c. is_opening b b.anchor at arrival.flow ≡ c → P (cond c (begun b b.anchor at) b) (cond c (new_epoch at arrival) current) (cond c (current ∷ earlier) earlier)) [
+      | true ↦ λ e. subst (λ o. P (begun b o at) (new_epoch at arrival) (current ∷ earlier)) (sym m.anchor)
+          (given (begun b (Some current.anchor) at) (new_epoch at arrival) (current ∷ earlier) refl
+          (next_faces b at arrival current.anchor (current ∷ earlier) (empty_at b current.anchor at arrival.flow (sym (ap (λ o. is_opening b o at arrival.flow) m.anchor) ∙ e)) (ap (λ n. n + 1) m.epoch ∙ one_more (length earlier))))
+      | false ↦ λ e. given b current earlier refl
+          (record {
+            anchor = ap (λ o. unwrap_or o (new_anchor at arrival)) m.anchor;
+            highest = m.highest;
+            at = m.here (subst IsSome (sym m.anchor) refl);
+            last = m.last;
+            place = m.epoch ∙ sym (same_length (length earlier));
+          })
+    ] same)
+
+-- the verdict is that of the history
+pub verdict_after_steps : (b : State) (history : List Step) (at : ℕ) (arrival : Arrival) → Arrives b history at
+    → judged (opened_at b at arrival.flow) at arrival ≡ verdict b.limits history at arrival
+verdict_after_steps b history at arrival h =
+    found b (epochs_of b.limits history) at arrival (meets b history at h) (λ c e es. judged c at arrival ≡ verdict_in b.limits e at arrival)
+    (λ c e es same f. judged_faced c e es at arrival f ∙ ap (λ l. verdict_in l e at arrival) same)
+    ∙ sym (ap (λ t. verdict_in b.limits (epoch_at b.limits (epochs_of b.limits history) t arrival) t arrival) (time_is b history at h))
+
+-- what an arrival leaves of the rest
+pub record Keeps (b after : State) (at : ℕ) : Type 0 where
+  pub limits : after.limits ≡ b.limits
+  pub phase : after.phase ≡ b.phase
+  pub time : after.time ≡ at
+
+keeps_taken : (b c : State) (at : ℕ) (arrival : Arrival) → c.limits ≡ b.limits → c.phase ≡ b.phase → Keeps b (taken c at arrival) at
+keeps_taken b c at arrival limits phase =
+    elim (is_kept (judged c at arrival)) as (λ k. Keeps b (moved (cond k (holding c (placed_at c at arrival)) c) at (anchor_at c at arrival) k) at) [
+      | true ↦ record { limits = limits; phase = phase; time = refl }
+      | false ↦ record { limits = limits; phase = phase; time = refl }
+    ]
+
+keeps_begun : (b : State) (o : Option Anchor) (at : ℕ) → ((begun b o at).limits ≡ b.limits) × ((begun b o at).phase ≡ b.phase)
+keeps_begun b None at = (refl, refl)
+keeps_begun b (Some a) at = (refl, refl)
+
+keeps_opened : (b : State) (at flow : ℕ) → ((opened_at b at flow).limits ≡ b.limits) × ((opened_at b at flow).phase ≡ b.phase)
+keeps_opened b at flow =
+    elim (is_opening b b.anchor at flow) as (λ c. ((cond c (begun b b.anchor at) b).limits ≡ b.limits) × ((cond c (begun b b.anchor at) b).phase ≡ b.phase)) [ true ↦ keeps_begun b b.anchor at | false ↦ (refl, refl) ]
+
+pub keeps : (b : State) (at : ℕ) (arrival : Arrival) → Keeps b (taken (opened_at b at arrival.flow) at arrival) at
+keeps b at arrival =
+    let o = keeps_opened b at arrival.flow in
+    keeps_taken b (opened_at b at arrival.flow) at arrival o.0 o.1
+
+shown_history : (b after : State) (history : List Step) (at : ℕ) (arrival : Arrival) → Arrives b history at → Keeps b after at → ShowsEpochs after (epochs_of b.limits (media_step at arrival ∷ history)) (At at) → Shows after (media_step at arrival ∷ history)
+shown_history b after history at arrival h k s =
     let moment : current_moment (media_step at arrival ∷ history) ≡ At at = now_is b history at arrival h in
+    let own : ShowsEpochs after (epochs_of after.limits (media_step at arrival ∷ history)) (current_moment (media_step at arrival ∷ history)) =
+    subst (λ l. ShowsEpochs after (epochs_of l (media_step at arrival ∷ history)) (current_moment (media_step at arrival ∷ history))) (sym k.limits)
+    (subst (ShowsEpochs after (epochs_of b.limits (media_step at arrival ∷ history))) (sym moment) s) in
     record {
-      phase = h.shows.phase;
-      time = sym (time_is b history at h);
-      anchor = ap Some (sym (anchor_is b history at arrival h));
-      highest = ap (λ o. Some (higher p o)) h.shows.highest ∙ ap highest_of (sym same);
-      floor = is.floor ∙ sym (ap (λ c. cond c (max (p.number + 1) (playout_floor packets (At at))) (playout_floor packets (At at))) parts.in_time) ∙ ap (λ ps. playout_floor ps (At at)) (sym same) ∙ ap (λ m. playout_floor (accepted_packets b.limits (media_step at arrival ∷ history)) m) (sym moment);
-      held = ap (insert_by_number p) is.held ∙ sym (buffered-cons p packets (At at) parts.in_time (buffered_when_accepted packets (At at) p parts.ahead)) ∙ ap (λ ps. filter (is_buffered ps (At at)) (by_number ps)) (sym same) ∙ ap (λ m. filter (is_buffered (accepted_packets b.limits (media_step at arrival ∷ history)) m) (by_number (accepted_packets b.limits (media_step at arrival ∷ history)))) (sym moment);
+      phase = k.phase ∙ h.shows.phase;
+      time = k.time ∙ sym (time_is b history at h);
+      anchor = own.anchor;
+      highest = own.highest;
+      floor = own.floor;
+      held = own.held;
+      last = own.last;
+      epoch = own.epoch;
     }
 
 -- what an arrival leaves stands for the history with that arrival
-pub state_after_arrival : (b : State) (history : List Step) (at : ℕ) (arrival : Arrival) → Arrives b history at → Shows (taken b at arrival) (media_step at arrival ∷ history)
+pub state_after_arrival : (b : State) (history : List Step) (at : ℕ) (arrival : Arrival) → Arrives b history at → Shows (taken (opened_at b at arrival.flow) at arrival) (media_step at arrival ∷ history)
 state_after_arrival b history at arrival h =
-    let same : is_kept (judged b at arrival) ≡ is_kept (verdict b.limits history at arrival) = ap is_kept (verdict_after_steps b history at arrival h) in
-    subst (λ c. Shows (moved (cond c (holding b (placed_at b at arrival)) b) at (anchor_at b at arrival)) (media_step at arrival ∷ history)) (sym same)
-    (elim (is_kept (verdict b.limits history at arrival)) as (λ c. is_kept (verdict b.limits history at arrival) ≡ c → Shows (moved (cond c (holding b (placed_at b at arrival)) b) at (anchor_at b at arrival)) (media_step at arrival ∷ history)) [
-      | true ↦ λ e. subst (λ highest. Shows (moved (holding b (placed_packet b.limits (anchor_at b at arrival) highest arrival)) at (anchor_at b at arrival)) (media_step at arrival ∷ history)) (sym h.shows.highest) (shows_holding b history at arrival h e)
-      | false ↦ shows_moved b history at arrival h
-    ] refl)
+    shown_history b (taken (opened_at b at arrival.flow) at arrival) history at arrival h (keeps b at arrival)
+    (subst (λ t. ShowsEpochs (taken (opened_at b at arrival.flow) at arrival) (epochs_after b.limits (epochs_of b.limits history) t (Media arrival)) (At at)) (sym (time_is b history at h))
+    (found b (epochs_of b.limits history) at arrival (meets b history at h) (λ c e es. ShowsEpochs (taken c at arrival) (epoch_with b.limits e at arrival ∷ es) (At at))
+    (λ c e es same f. subst (λ l. ShowsEpochs (taken c at arrival) (epoch_with l e at arrival ∷ es) (At at)) same (taken_shows c e es at arrival f))))
 
 pub arrives : (b : State) (history : List Step) (at : ℕ) → IsStateAfter b history → b.phase ≡ Open → b.time ≤ at → (IsSome b.anchor → b.time ≡ at) → Arrives b history at
 arrives b history at s live later released = record { shows = s (not_failed b.phase live); live = live; later = later; released = released }
@@ -206,17 +358,17 @@ has_accepted b history number stands live low =
 record ShowsAt (b : State) (history : List Step) (event : Event) (t : ℕ) : Type 0 where
   phase : b.phase ≡ cond (is_end event || has_ended history) Ended Open
   time : b.time ≡ t
-  anchor : b.anchor ≡ anchor_after (anchor_of history) t event
-  highest : b.highest ≡ highest_of (accepted_after b.limits (anchor_of history) (accepted_packets b.limits history) t event)
-  floor : b.floor ≡ playout_floor (accepted_after b.limits (anchor_of history) (accepted_packets b.limits history) t event) (cond (is_end event || has_ended history) Ever (At t))
-  held : b.held ≡ filter (is_buffered (accepted_after b.limits (anchor_of history) (accepted_packets b.limits history) t event) (cond (is_end event || has_ended history) Ever (At t))) (by_number (accepted_after b.limits (anchor_of history) (accepted_packets b.limits history) t event))
+  epochs : ShowsEpochs b (epochs_after b.limits (epochs_of b.limits history) t event) (cond (is_end event || has_ended history) Ever (At t))
 
 to_time : (b : State) (history : List Step) (event : Event) (t : ℕ) (step : Step) → step.event ≡ event → max step.tick (effective_time history) ≡ t → Shows b (step ∷ history) → ShowsAt b history event t
 to_time b history event t step same time s =
-    subst (λ n. ShowsAt b history event n) time (subst (λ x. ShowsAt b history x (max step.tick (effective_time history))) same (record { phase = s.phase; time = s.time; anchor = s.anchor; highest = s.highest; floor = s.floor; held = s.held }))
+    subst (λ n. ShowsAt b history event n) time
+    (subst (λ x. ShowsAt b history x (max step.tick (effective_time history))) same
+    (record { phase = s.phase; time = s.time; epochs = record { anchor = s.anchor; highest = s.highest; floor = s.floor; held = s.held; last = s.last; epoch = s.epoch } }))
 
 from_time : (b : State) (history : List Step) (tick : ℕ) (event : Event) → ShowsAt b history event (max tick (effective_time history)) → Shows b (record { tick = tick; event = event } ∷ history)
-from_time b history tick event s = record { phase = s.phase; time = s.time; anchor = s.anchor; highest = s.highest; floor = s.floor; held = s.held }
+from_time b history tick event s =
+    record { phase = s.phase; time = s.time; anchor = s.epochs.anchor; highest = s.epochs.highest; floor = s.epochs.floor; held = s.epochs.held; last = s.epochs.last; epoch = s.epochs.epoch }
 
 -- a step at the effective time is the step at its own tick
 pub shows_told : (b : State) (history : List Step) (tick at : ℕ) (event : Event) → at ≡ max tick (effective_time history) → Shows b (record { tick = at; event = event } ∷ history) → Shows b (record { tick = tick; event = event } ∷ history)
@@ -227,4 +379,6 @@ shows_told b history tick at event e s =
 pub shows_arrival : (b : State) (history : List Step) (tick at : ℕ) (arrival : Arrival) → at ≡ max tick (effective_time history) → Shows b (media_step at arrival ∷ time_step at ∷ history) → Shows b (media_step tick arrival ∷ history)
 shows_arrival b history tick at arrival e s =
     let same : max at (max at (effective_time history)) ≡ max tick (effective_time history) = omega arith in
-    from_time b history tick (Media arrival) (subst (λ n. ShowsAt b history (Media arrival) n) same (record { phase = s.phase; time = s.time; anchor = s.anchor; highest = s.highest; floor = s.floor; held = s.held }))
+    from_time b history tick (Media arrival)
+    (subst (λ n. ShowsAt b history (Media arrival) n) same
+    (record { phase = s.phase; time = s.time; epochs = record { anchor = s.anchor; highest = s.highest; floor = s.floor; held = s.held; last = s.last; epoch = s.epoch } }))

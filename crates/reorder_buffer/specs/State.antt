@@ -7,19 +7,23 @@ use Rattle.receiver_rules.specs.Packets.{Packet}
 use Rattle.reorder_buffer.specs.declared.phase.Phase.{Phase}
 use Rattle.reorder_buffer.specs.declared.phase.Phase.TheVariants.{Failed}
 
--- a buffer: its limits, whether it takes arrivals, its flow's anchor, and the packets that wait
+-- a buffer: its limits, whether it takes arrivals, and what it keeps of the current epoch: its anchor, and the packets that wait
 pub record State : Type 0 where
   pub limits : Limits
   pub phase : Phase
   -- the effective time of the last step
   pub time : ℕ
   pub anchor : Option Anchor
-  -- the kept packet with the highest number
+  -- the packet with the highest number that was kept
   pub highest : Option Highest
   -- numbers below it are out, or can go out no more
   pub floor : ℕ
   -- the packets that wait, by rising number
   pub held : List Packet
+  -- the effective time at which a packet was last kept
+  pub last : ℕ
+  -- how often the flow has restarted
+  pub epoch : ℕ
 
 -- the number just below a floor
 abbrev pub number_below : ℕ → Option ℕ
@@ -27,7 +31,7 @@ number_below floor = if floor == 0 then None else Some (floor - 1)
 
 -- after a failed write all is as it was, but that nothing waits
 abbrev pub failed : State → State
-failed b = record { limits = b.limits; phase = Failed; time = b.time; anchor = b.anchor; highest = b.highest; floor = b.floor; held = [] }
+failed b = record { limits = b.limits; phase = Failed; time = b.time; anchor = b.anchor; highest = b.highest; floor = b.floor; held = []; last = b.last; epoch = b.epoch }
 
 -- the highest number is no lower than it was
 abbrev pub IsNoLower : Option Highest → Option Highest → Type 0

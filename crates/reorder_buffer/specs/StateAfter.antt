@@ -2,7 +2,8 @@
 use Rattle.std.specs.Prelude.{◌≡◌, ◌≢◌, List, if◌then◌else◌}
 use Rattle.receiver_rules.specs.Steps.{Step, effective_time, has_ended}
 use Rattle.receiver_rules.specs.Packets.{playout_floor, highest_of}
-use Rattle.receiver_rules.specs.History.{anchor_of, accepted_packets, buffered_packets, current_moment}
+use Rattle.receiver_rules.specs.Epochs.{epochs_of, newest_last}
+use Rattle.receiver_rules.specs.History.{anchor_of, accepted_packets, buffered_packets, current_moment, epoch_number}
 use Rattle.reorder_buffer.specs.State.{State}
 use Rattle.reorder_buffer.specs.declared.phase.Phase.TheVariants.{Open, Ended, Failed}
 
@@ -10,10 +11,12 @@ use Rattle.reorder_buffer.specs.declared.phase.Phase.TheVariants.{Open, Ended, F
 pub record Shows (b : State) (history : List Step) : Type 0 where
   pub phase : b.phase ≡ (if has_ended history then Ended else Open)
   pub time : b.time ≡ effective_time history
-  pub anchor : b.anchor ≡ anchor_of history
+  pub anchor : b.anchor ≡ anchor_of b.limits history
   pub highest : b.highest ≡ highest_of (accepted_packets b.limits history)
   pub floor : b.floor ≡ playout_floor (accepted_packets b.limits history) (current_moment history)
   pub held : b.held ≡ buffered_packets b.limits history
+  pub last : b.last ≡ newest_last (epochs_of b.limits history)
+  pub epoch : b.epoch ≡ epoch_number b.limits history
 
 -- after a failed write nothing is said but that the buffer has ended
 abbrev pub IsStateAfter : State → List Step → Type 0

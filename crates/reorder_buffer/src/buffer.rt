@@ -21,6 +21,8 @@ pub struct Buffer {
     highest: Option<Highest>,
     floor: u64,
     ring: Ring,
+    last: u64,
+    epoch: u64,
 }
 
 impl Model for Buffer {
@@ -52,17 +54,25 @@ impl Buffer {
     ghost use Rattle.reorder_buffer.specs.StateAfter.{IsStateAfter};
     ghost use Rattle.reorder_buffer.specs.OneMore.{StandsAfter, Judges, Releases, ReleasesPart, ReleasesNothing, Counts, IsKept};
     ghost use Rattle.reorder_buffer.specs.Inside.Release.{octets_below, floor_then};
-    ghost use Rattle.reorder_buffer.specs.Inside.Changes.{holding, moved, taken, raised};
+    ghost use Rattle.reorder_buffer.specs.Inside.Changes.{holding, moved, taken, raised, is_opening, next_epoch, begun, opened_at};
     ghost use Rattle.reorder_buffer.specs.Inside.Tests.{verdict_here, judged, anchor_at, IsAdmissible};
-    ghost use Rattle.receiver_rules.specs.declared.bounds.TheConstants.{MAX_DELAY, MAX_SPAN};
+    ghost use Rattle.receiver_rules.specs.declared.bounds.TheConstants.{MAX_DELAY, MAX_RESTART, MAX_SPAN};
 
     /// A buffer of `span` packets (1 to 16,384) that plays each out `delay_ms` milliseconds (1 to 30,000) after its
-    /// time. It takes the memory for all of them.
-    pub fn with_limits(alloc: Global, span: u64, delay_ms: u64) -> Result<Buffer, NoMemory>
+    /// time. Another flow takes the place of the current one once nothing waits and no packet was kept for `restart_ms`
+    /// milliseconds (up to 60,000); where that is 0 none ever does. It takes the memory for all packets.
+    pub fn with_limits(
+        alloc: Global,
+        span: u64,
+        delay_ms: u64,
+        restart_ms: u64,
+    ) -> Result<Buffer, NoMemory>
         requires span { (1 ≤ span) × (span ≤ MAX_SPAN) }
         requires delay { (1 ≤ delay_ms) × (delay_ms ≤ MAX_DELAY) }
+        requires restart { restart_ms ≤ MAX_RESTART }
         ensures delay { IfOk result (λ b. b.limits.playout_delay ≡ 90 * delay_ms) }
         ensures span { IfOk result (λ b. b.limits.capacity ≡ span) }
+        ensures restart { IfOk result (λ b. b.limits.restart_time ≡ 90 * restart_ms) }
         ensures running { IfOk result (λ b. b.phase ≡ Phase.Open) }
         ensures state { IfOk result (λ b. IsStateAfter b []) }
     {
@@ -71,6 +81,7 @@ impl Buffer {
             limits: Limits {
                 playout_delay: 90 * delay_ms,
                 capacity: span,
+                restart_time: 90 * restart_ms,
             },
             phase: Phase::Open,
             time: 0,
@@ -78,6 +89,8 @@ impl Buffer {
             highest: None,
             floor: 0,
             ring,
+            last: 0,
+            epoch: 0,
         })
     }
 
@@ -117,7 +130,11 @@ impl Buffer {
         ensures sink { OnOk result
             (Releases self.old (media_step at (seen arrival.now)) (K.contents sink.old) (K.contents sink.new)) }
         ensures time { OnOk result ((self.new.time ≡ at) × (self.new.phase ≡ Phase.Open)) }
-        ensures high { OnOk result (IsNoLower self.old.highest self.new.highest) }
+        // Unless an epoch opens the highest number is no lower than it was.
+        ensures high { OnOk result
+            (self.new.epoch ≡ self.old.epoch → IsNoLower self.old.highest self.new.highest) }
+        // And where one opens its first packet is kept.
+        ensures opens { OnOk result (self.new.epoch ≢ self.old.epoch → IsSome self.new.highest) }
         ensures limits { self.new.limits ≡ self.old.limits }
 
         ensures err { OnErr result (self.new ≡ failed self.old) }
@@ -184,7 +201,7 @@ impl Buffer {
         self.ring.count()
     }
 
-    /// The highest number that was played out.
+    /// The highest number of the epoch that was played out.
     pub fn floor(&self) -> Option<u64>
         ensures value { result ≡ number_below self.now.floor }
         ensures within { self.now.floor < 2 ^ 64 }
@@ -192,7 +209,7 @@ impl Buffer {
         self.floor.checked_sub(1)
     }
 
-    /// The highest number that was kept.
+    /// The highest number that was kept in the epoch.
     pub fn high(&self) -> Option<u64>
         ensures number { result ≡ option_map (λ h. h.number) self.now.highest }
         ensures within { ForSome result (λ n. n < 2 ^ 62) }
@@ -200,14 +217,22 @@ impl Buffer {
         self.highest.map(|highest| highest.number)
     }
 
-    /// The number of the first arrival.
+    /// The number of the epoch's first arrival.
     pub fn first(&self) -> Option<u64>
         ensures { result ≡ option_map (λ a. a.number) self.now.anchor }
     {
         self.anchor.map(|anchor| anchor.number)
     }
 
-    /// The flow of the first arrival: its SSRC with the lowest bit cleared.
+    /// How often the flow has restarted: the place of the current epoch, from 0 on. An arrival that opens an epoch, but the
+    /// very first, raises it.
+    pub fn epoch(&self) -> u64
+        ensures value { result ≡ self.now.epoch }
+    {
+        self.epoch
+    }
+
+    /// The flow of the epoch's first arrival: its SSRC with the lowest bit cleared.
     pub fn flow(&self) -> Option<u32>
         ensures { result ≡ option_map (λ a. a.flow) self.now.anchor }
     {
@@ -236,6 +261,67 @@ impl Buffer {
         requires clock { self.old.time ≤ at }
         requires word { arrival.now.word < cycle_of arrival.now.width }
         requires payload { length arrival.now.payload.now ≤ MAX_PAYLOAD }
+        ensures verdict { result ≡ judged (opened_at self.old at arrival.now.flow) at (seen arrival.now) }
+        ensures taken { self.new ≡ taken (opened_at self.old at arrival.now.flow) at (seen arrival.now) }
+    {
+        self.open_epoch(at, arrival.flow);
+        self.take_in_epoch(at, arrival)
+    }
+
+    /// Begins an epoch where a packet of this flow opens one.
+    fn open_epoch(&mut self, at: u64, flow: u32)
+        requires tick { at < 2 ^ 61 }
+        requires clock { self.old.time ≤ at }
+        ensures opened { self.new ≡ opened_at self.old at flow }
+        ensures clock { self.new.time ≤ at }
+    {
+        if self.is_opening(at, flow) {
+            self.begin_epoch(at);
+        }
+    }
+
+    /// Whether a packet of this flow opens an epoch: it is the first, or it is of another flow, nothing waits, and no packet
+    /// was kept for the restart time.
+    fn is_opening(&self, at: u64, flow: u32) -> bool
+        requires tick { at < 2 ^ 61 }
+        requires clock { self.now.time ≤ at }
+        ensures value { result ≡ is_opening self.now self.now.anchor at flow }
+        ensures fits { IsTrue result → next_epoch self.now.anchor self.now.epoch ≤ at }
+    {
+        match self.anchor {
+            None => true,
+            Some(anchor) => {
+                flow != anchor.flow
+                    && self.limits.restart_time > 0
+                    && self.ring.count() == 0
+                    && self.last + self.limits.restart_time <= at
+            }
+        }
+    }
+
+    /// Nothing has come yet in a new epoch.
+    fn begin_epoch(&mut self, at: u64)
+        requires tick { at < 2 ^ 61 }
+        requires clock { self.old.time ≤ at }
+        requires fits { next_epoch self.old.anchor self.old.epoch ≤ at }
+        ensures { self.new ≡ begun self.old self.old.anchor at }
+    {
+        if self.anchor.is_some() {
+            self.anchor = None;
+            self.highest = None;
+            self.floor = 0;
+            self.epoch += 1;
+        }
+        self.last = at;
+        self.time = at;
+    }
+
+    /// An arrival of the current epoch.
+    fn take_in_epoch(&mut self, at: u64, arrival: &Arrival<'_>) -> Verdict
+        requires tick { at < 2 ^ 61 }
+        requires clock { self.old.time ≤ at }
+        requires word { arrival.now.word < cycle_of arrival.now.width }
+        requires payload { length arrival.now.payload.now ≤ MAX_PAYLOAD }
         ensures verdict { result ≡ judged self.old at (seen arrival.now) }
         ensures taken { self.new ≡ taken self.old at (seen arrival.now) }
     {
@@ -245,11 +331,11 @@ impl Buffer {
         if verdict.is_kept() {
             self.hold(&place, arrival.payload);
         }
-        self.move_to(at, anchor);
+        self.move_to(at, anchor, verdict.is_kept());
         verdict
     }
 
-    /// What deadlines count from: the first arrival, which may be this one.
+    /// What deadlines count from: the epoch's first arrival, which may be this one.
     fn anchor_for(&self, at: u64, arrival: &Arrival<'_>) -> Anchor
         requires tick { at < 2 ^ 61 }
         requires clock { self.now.time ≤ at }
@@ -308,12 +394,14 @@ impl Buffer {
         self.highest = Some(highest_after(self.highest, place.number, place.timestamp));
     }
 
-    /// The first arrival fixes the anchor, and each moves the time.
-    fn move_to(&mut self, at: u64, anchor: Anchor)
-        requires { IsEarlyAnchor at anchor }
-        ensures { self.new ≡ moved self.old at anchor }
+    /// The epoch's first arrival fixes the anchor, each moves the time, and one that is kept is the last.
+    fn move_to(&mut self, at: u64, anchor: Anchor, kept: bool)
+        requires anchor { IsEarlyAnchor at anchor }
+        requires clock { self.old.time ≤ at }
+        ensures { self.new ≡ moved self.old at anchor kept }
     {
         self.anchor = Some(anchor);
+        self.last = if kept { at } else { self.last };
         self.time = at;
     }
 
@@ -327,6 +415,7 @@ impl Buffer {
             ≡ length (filter (is_below (floor_then self.old (moment_of until))) self.old.held)) }
         ensures err { OnErr result (self.new ≡ failed self.old) }
         ensures limits { self.new.limits ≡ self.old.limits }
+        ensures range { AreInRange self.old.limits }
         ensures part { OnErr result (AppendsPart (K.contents sink.old) (K.contents sink.new)
             (octets_below (floor_then self.old (moment_of until)) self.old.held)) }
         ensures complete { octets_below (floor_then self.old (moment_of until)) self.old.held ≡ []

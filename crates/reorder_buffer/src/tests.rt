@@ -1,6 +1,6 @@
 //! The worked runs on the buffer, and generated ones beside the plain programs of the rules. Each run is made with releases
 //! and arrivals apart, and with both as one step.
-ghost use Rattle.std.specs.Prelude.{◌<◌, ◌^◌, IfOk};
+ghost use Rattle.std.specs.Prelude.{◌<◌, ◌≤◌, ◌^◌, IfOk};
 ghost use Rattle.std.specs.List.{All};
 ghost use Rattle.receiver_plain.specs.Told.{IsFit};
 
@@ -26,10 +26,11 @@ struct Played {
 }
 
 /// Plays steps on a buffer: at each the release, and then its event. Without an end nothing is flushed.
-fn play(alloc: Global, steps: &[Step<'_>], sink: Store8) -> Result<Played, Fail>
-    requires { All IsFit steps.now }
+fn play(alloc: Global, restart_ms: u64, steps: &[Step<'_>], sink: Store8) -> Result<Played, Fail>
+    requires restart { restart_ms ≤ 2000 }
+    requires steps { All IsFit steps.now }
 {
-    let mut buffer = Buffer::with_limits(alloc, SPAN, DELAY_MS)?;
+    let mut buffer = Buffer::with_limits(alloc, SPAN, DELAY_MS, restart_ms)?;
     let mut played = Played {
         verdicts: Vec::new(alloc),
         sink,
@@ -60,10 +61,16 @@ fn play(alloc: Global, steps: &[Step<'_>], sink: Store8) -> Result<Played, Fail>
 }
 
 /// Plays the same steps with each arrival and what is due before it as one step.
-fn play_as_one(alloc: Global, steps: &[Step<'_>], sink: Store8) -> Result<Played, Fail>
-    requires { All IsFit steps.now }
+fn play_as_one(
+    alloc: Global,
+    restart_ms: u64,
+    steps: &[Step<'_>],
+    sink: Store8,
+) -> Result<Played, Fail>
+    requires restart { restart_ms ≤ 2000 }
+    requires steps { All IsFit steps.now }
 {
-    let mut buffer = Buffer::with_limits(alloc, SPAN, DELAY_MS)?;
+    let mut buffer = Buffer::with_limits(alloc, SPAN, DELAY_MS, restart_ms)?;
     let mut played = Played {
         verdicts: Vec::new(alloc),
         sink,
@@ -106,9 +113,24 @@ fn answers(
 ) -> Result<bool, Fail>
     requires { All IsFit steps.now }
 {
-    let played = play(alloc, steps, Store8::with(alloc, 64, &[])?)?;
+    answers_under(alloc, 0, steps, want, written)
+}
+
+/// The same under a restart time in milliseconds.
+fn answers_under(
+    alloc: Global,
+    restart_ms: u64,
+    steps: &[Step<'_>],
+    want: &[Verdict],
+    written: &[u8],
+) -> Result<bool, Fail>
+    requires restart { restart_ms ≤ 2000 }
+    requires steps { All IsFit steps.now }
+{
+    let played = play(alloc, restart_ms, steps, Store8::with(alloc, 64, &[])?)?;
     let bytes = played.sink.octets();
-    Ok(played.verdicts.as_slice() == want && bytes == written && agrees(alloc, steps)?)
+    let as_plain = agrees(alloc, restart_ms, steps)?;
+    Ok(played.verdicts.as_slice() == want && bytes == written && as_plain)
 }
 
 /// Whether a run gave these verdicts and octets.
@@ -117,15 +139,17 @@ fn gave(played: &Played, verdicts: &[Verdict], octets: &[u8]) -> bool {
 }
 
 /// Whether the buffer answers what the plain programs do, either way.
-fn agrees(alloc: Global, steps: &[Step<'_>]) -> Result<bool, Fail>
-    requires { All IsFit steps.now }
+fn agrees(alloc: Global, restart_ms: u64, steps: &[Step<'_>]) -> Result<bool, Fail>
+    requires restart { restart_ms ≤ 2000 }
+    requires steps { All IsFit steps.now }
 {
     let limits = Limits {
         playout_delay: 90 * DELAY_MS,
         capacity: SPAN,
+        restart_time: 90 * restart_ms,
     };
-    let apart = play(alloc, steps, Store8::with(alloc, 64, &[])?)?;
-    let as_one = play_as_one(alloc, steps, Store8::with(alloc, 64, &[])?)?;
+    let apart = play(alloc, restart_ms, steps, Store8::with(alloc, 64, &[])?)?;
+    let as_one = play_as_one(alloc, restart_ms, steps, Store8::with(alloc, 64, &[])?)?;
     let want = verdicts(alloc, &limits, steps)?;
     let payloads = released(alloc, &limits, steps)?;
     let mut bytes = Vec::new(alloc);
@@ -220,7 +244,7 @@ fn the_span_counts_against_what_is_buffered(rt: HostRuntime) -> Result<(), Fail>
             b"AB"
         )?
     );
-    let mut widest = Buffer::with_limits(alloc, 16_384, 30_000)?;
+    let mut widest = Buffer::with_limits(alloc, 16_384, 30_000, 60_000)?;
     let first = Arrival {
         flow: 7,
         width: Width::W16,
@@ -256,15 +280,15 @@ fn numbers_go_out_rising(rt: HostRuntime) -> Result<(), Fail> {
 fn a_failed_write_leaves_a_front_part_and_ends_the_buffer(rt: HostRuntime) -> Result<(), Fail> {
     let alloc = rt.alloc();
     let steps = [brings(0, 10, 0, b"A"), brings(0, 11, 900, b"B"), ends()];
-    let played = play(alloc, &steps, Store8::with(alloc, 64, &[1])?)?;
+    let played = play(alloc, 0, &steps, Store8::with(alloc, 64, &[1])?)?;
     assert!(rt; played.failed);
     assert_eq!(rt; played.sink.octets(), b"A".as_slice());
     // The second of two that are due fails in the step of a third.
     let steps = [steps[0], steps[1], brings(90_900, 12, 1800, b"C")];
-    let as_one = play_as_one(alloc, &steps, Store8::with(alloc, 64, &[1])?)?;
+    let as_one = play_as_one(alloc, 0, &steps, Store8::with(alloc, 64, &[1])?)?;
     assert!(rt; as_one.failed);
     assert!(rt; gave(&as_one, &[Verdict::Kept, Verdict::Kept], b"A"));
-    let mut buffer = Buffer::with_limits(alloc, SPAN, DELAY_MS)?;
+    let mut buffer = Buffer::with_limits(alloc, SPAN, DELAY_MS, 0)?;
     assert!(rt; buffer.flow().is_none() && buffer.first().is_none() && !buffer.ended());
     let arrival = Arrival {
         flow: 7,
@@ -286,7 +310,7 @@ fn a_failed_write_leaves_a_front_part_and_ends_the_buffer(rt: HostRuntime) -> Re
 #[test]
 fn nothing_waits_after_a_failed_write(rt: HostRuntime) -> Result<(), Fail> {
     let alloc = rt.alloc();
-    let mut buffer = Buffer::with_limits(alloc, SPAN, DELAY_MS)?;
+    let mut buffer = Buffer::with_limits(alloc, SPAN, DELAY_MS, 0)?;
     let first = Arrival {
         flow: 7,
         width: Width::W16,
@@ -311,12 +335,81 @@ fn nothing_waits_after_a_failed_write(rt: HostRuntime) -> Result<(), Fail> {
     Ok(())
 }
 
+#[test]
+fn another_flow_takes_over_once_nothing_waits_and_the_restart_time_has_passed(
+    rt: HostRuntime,
+) -> Result<(), Fail> {
+    let alloc = rt.alloc();
+    let first = brings(0, 10, 0, b"A");
+    let refused = [Verdict::Kept, Verdict::Stranger];
+    let kept = [Verdict::Kept, Verdict::Kept];
+    let (none, one, both): (&[u8], &[u8], &[u8]) = (b"", b"A", b"AB");
+    for (restart_ms, tick, want, before, written) in [
+        (2000, 179_999, &refused, one, one),
+        (2000, 180_000, &kept, one, both),
+        (500, 45_000, &refused, none, one),
+        (500, 90_000, &kept, one, both),
+        (0, 900_000, &refused, one, one),
+    ] {
+        let steps = [first, media(0x2030_4050, tick, 7, 0, b"B"), ends()];
+        assert!(rt;
+            answers_under(alloc, restart_ms, &steps[..2], want, before)?,
+            "at {tick}"
+        );
+        assert!(rt;
+            answers_under(alloc, restart_ms, &steps, want, written)?,
+            "at {tick}"
+        );
+    }
+    Ok(())
+}
+
+#[test]
+fn a_flow_that_was_there_before_opens_an_epoch_again(rt: HostRuntime) -> Result<(), Fail> {
+    let alloc = rt.alloc();
+    let mut buffer = Buffer::with_limits(alloc, SPAN, DELAY_MS, 500)?;
+    let mut sink = Store8::with(alloc, 64, &[])?;
+    let first = Arrival {
+        flow: 7,
+        width: Width::W16,
+        word: 60_000,
+        stamp: 900,
+        payload: b"A",
+    };
+    let other = Arrival {
+        flow: 9,
+        word: 3,
+        payload: b"B",
+        ..first
+    };
+    for (at, arrival, verdict, epoch) in [
+        (5, &first, Verdict::Kept, 0),
+        (90_004, &other, Verdict::Stranger, 0),
+        (90_005, &other, Verdict::Kept, 1),
+        (90_006, &first, Verdict::Stranger, 1),
+        (180_005, &first, Verdict::Kept, 2),
+    ] {
+        assert_eq!(rt;
+            buffer.receive(at, arrival, &mut sink),
+            Ok(verdict),
+            "at {at}"
+        );
+        assert_eq!(rt; buffer.epoch(), epoch, "at {at}");
+    }
+    assert!(rt; buffer.flow() == Some(7) && buffer.held() == 1 && buffer.floor().is_none());
+    assert!(rt; buffer.first() == Some((1 << 40) + 60_000) && buffer.high() == buffer.first());
+    assert!(rt; buffer.flush(&mut sink) == Ok(1));
+    assert_eq!(rt; sink.octets(), b"ABA".as_slice());
+    Ok(())
+}
+
 /// The next of a row of numbers that look random (Numerical Recipes' constants).
 fn next(seed: u32) -> u32 {
     seed.wrapping_mul(1_664_525).wrapping_add(1_013_904_223)
 }
 
-/// A step that a row of numbers gives: mostly near its time and its number, and sometimes far off.
+/// A step that a row of numbers gives: mostly near its time and its number, and sometimes far off. In the middle of a run
+/// comes a pause, after which the other flow's packets are the common ones.
 fn made(seed: u32, place: u64) -> Step<'static>
     requires { place < 2 ^ 20 }
     ensures { IsFit result }
@@ -324,8 +417,14 @@ fn made(seed: u32, place: u64) -> Step<'static>
     let kind = seed >> 29;
     let word = (65_530 + (seed >> 8) % 16) % 65_536;
     let stamp = (seed >> 8) % 16 * 9000 + (seed >> 24) % 3 * 45_000 * (kind / 6);
-    let tick = place * 15_000 + u64::from(seed >> 12) % 40_000;
-    let flow = if kind == 1 && place > 0 { 2 } else { 4 };
+    let pause = if place > 5 { 120_000 } else { 0 };
+    let tick = place * 15_000 + u64::from(seed >> 12) % 40_000 + pause;
+    let common = if place > 5 { 2 } else { 4 };
+    let flow = if kind == 1 && place > 0 {
+        6 - common
+    } else {
+        common
+    };
     let letter = (seed >> 8) as usize % 16;
     let letters = b"ABCDEFGHIJKLMNOP".as_slice();
     media(flow, tick, word, stamp, &letters[letter..letter + 1])
@@ -351,7 +450,11 @@ fn made_run(alloc: Global, case: u32) -> Result<Vec<Step<'static>>, AllocError>
 fn generated_runs_agree_with_the_plain_programs(rt: HostRuntime) -> Result<(), Fail> {
     for case in 0..3000_u32 {
         let steps = made_run(rt.alloc(), case)?;
-        assert!(rt; agrees(rt.alloc(), steps.as_slice())?, "case {case}");
+        let restart_ms = if case % 3 == 0 { 0 } else { 500 };
+        assert!(rt;
+            agrees(rt.alloc(), restart_ms, steps.as_slice())?,
+            "case {case}"
+        );
     }
     Ok(())
 }

@@ -1,5 +1,5 @@
 -- How one call changes the state.
-use Rattle.std.specs.Prelude.{ℕ, Some, if◌then◌else◌}
+use Rattle.std.specs.Prelude.{ℕ, ◌+◌, Bool, true, not, ◌&&◌, ◌==◌, nat_eq, nat_lt, nat_le, length, Option, Some, None, if◌then◌else◌}
 use Rattle.receiver_rules.specs.declared.anchor.Anchor.{Anchor}
 use Rattle.receiver_rules.specs.Packets.{Packet, insert_by_number, is_from, higher, is_kept}
 use Rattle.std.specs.List.{filter}
@@ -18,16 +18,87 @@ holding b p =
       floor = b.floor;
       highest = Some (higher p b.highest);
       held = insert_by_number p b.held;
+      last = b.last;
+      epoch = b.epoch;
     }
 
--- the first arrival fixes the anchor, and each moves the time
-abbrev pub moved : State → ℕ → Anchor → State
-moved b t a = record { limits = b.limits; phase = b.phase; time = t; anchor = Some a; highest = b.highest; floor = b.floor; held = b.held }
+-- the first arrival of an epoch fixes the anchor, each moves the time, and one that is kept is the last
+abbrev pub moved : State → ℕ → Anchor → Bool → State
+moved b t a kept =
+    record {
+      limits = b.limits;
+      phase = b.phase;
+      time = t;
+      anchor = Some a;
+      highest = b.highest;
+      floor = b.floor;
+      held = b.held;
+      last = if kept then t else b.last;
+      epoch = b.epoch;
+    }
 
--- what one arrival leaves
+-- what one arrival of the epoch leaves
 abbrev pub taken : State → ℕ → Arrival → State
-taken b t arrival = moved (if is_kept (judged b t arrival) then holding b (placed_at b t arrival) else b) t (anchor_at b t arrival)
+taken b t arrival =
+    let kept = is_kept (judged b t arrival) in
+    moved (if kept then holding b (placed_at b t arrival) else b) t (anchor_at b t arrival) kept
 
 -- the packets below the floor have gone out
 abbrev pub raised : State → ℕ → State
-raised b floor = record { limits = b.limits; phase = b.phase; time = b.time; anchor = b.anchor; highest = b.highest; floor = floor; held = filter (is_from floor) b.held }
+raised b floor =
+    record {
+      limits = b.limits;
+      phase = b.phase;
+      time = b.time;
+      anchor = b.anchor;
+      highest = b.highest;
+      floor = floor;
+      held = filter (is_from floor) b.held;
+      last = b.last;
+      epoch = b.epoch;
+    }
+
+-- ---- epochs
+
+-- a packet of this flow opens an epoch, where this was fixed by the first of the current one
+abbrev pub is_opening : State → Option Anchor → ℕ → ℕ → Bool
+is_opening b None t flow = true
+is_opening b (Some anchor) t flow =
+    not (flow == anchor.flow)
+    && (nat_lt 0 b.limits.restart_time && (nat_eq (length b.held) 0 && nat_le (b.last + b.limits.restart_time) t))
+
+-- the next epoch's place: the first arrival opens the first, and no other
+abbrev pub next_epoch : Option Anchor → ℕ → ℕ
+next_epoch None epoch = epoch
+next_epoch (Some anchor) epoch = epoch + 1
+
+-- a new epoch, in which nothing came yet, where this was fixed by the first of the one before
+abbrev pub begun : State → Option Anchor → ℕ → State
+begun b None t =
+    record {
+      limits = b.limits;
+      phase = b.phase;
+      time = t;
+      anchor = b.anchor;
+      highest = b.highest;
+      floor = b.floor;
+      held = b.held;
+      last = t;
+      epoch = b.epoch;
+    }
+begun b (Some anchor) t =
+    record {
+      limits = b.limits;
+      phase = b.phase;
+      time = t;
+      anchor = None;
+      highest = None;
+      floor = 0;
+      held = b.held;
+      last = t;
+      epoch = b.epoch + 1;
+    }
+
+-- what a packet of this flow finds: a new epoch, where it opens one
+abbrev pub opened_at : State → ℕ → ℕ → State
+opened_at b t flow = if is_opening b b.anchor t flow then begun b b.anchor t else b

@@ -24,4 +24,6 @@ state_of b =
       highest = b.highest;
       floor = b.floor;
       held = b.ring.packets;
+      last = b.last;
+      epoch = b.epoch;
     }

@@ -1,5 +1,5 @@
 -- What holds of each buffer's state, whatever came.
-use Rattle.std.specs.Prelude.{◌≡◌, ◌^◌}
+use Rattle.std.specs.Prelude.{◌≡◌, ◌≤◌, ◌^◌}
 use Rattle.std.specs.Option.{ForSome}
 use Rattle.receiver_rules.specs.Bounds.{AreInRange, IsEarlyAnchor, IsMidHighest}
 use Rattle.receiver_rules.specs.Packets.{IsRising}
@@ -8,7 +8,8 @@ use Rattle.reorder_buffer.specs.Inside.Span.{AllBelow, IsWithin}
 use Rattle.reorder_buffer.specs.Inside.Shown.{state_of}
 use Rattle.reorder_buffer.specs.declared.buffer.Buffer.TheInside.{Inside}
 
--- the buffered numbers rise strictly from the floor on, and lie within the capacity
+-- the buffered numbers rise strictly from the floor on, and lie within the capacity; and no more epochs were opened than ticks
+-- have passed
 pub record IsSound (b : State) : Type 0 where
   pub limits : AreInRange b.limits
   pub anchor : ForSome b.anchor (IsEarlyAnchor b.time)
@@ -16,6 +17,8 @@ pub record IsSound (b : State) : Type 0 where
   pub rising : IsRising b.floor b.held
   pub within : IsWithin b.limits.capacity b.held
   pub below : AllBelow (2 ^ 62) b.held
+  pub last : b.last ≤ b.time
+  pub epoch : b.epoch ≤ b.last
 
 -- the state is sound, and the ring has a place for each packet of the span
 pub record IsSoundInside (fields : Inside) : Type 0 where

@@ -4,7 +4,7 @@ use Rattle.std.specs.List.{list_any}
 use Rattle.receiver_rules.specs.declared.verdict.Verdict.{Verdict}
 use Rattle.receiver_rules.specs.declared.anchor.Anchor.{Anchor}
 use Rattle.receiver_rules.specs.Steps.{Arrival}
-use Rattle.receiver_rules.specs.History.{new_anchor}
+use Rattle.receiver_rules.specs.Epochs.{new_anchor}
 use Rattle.receiver_rules.specs.Packets.{Packet, Tests, first_verdict, distance, placed_packet}
 use Rattle.receiver_rules.specs.Bounds.{IsMid}
 use Rattle.reorder_buffer.specs.State.{State}
@@ -26,7 +26,7 @@ tests_here b anchor t flow number deadline =
 abbrev pub verdict_here : State → Anchor → ℕ → ℕ → ℕ → ℤ → Verdict
 verdict_here b anchor t flow number deadline = first_verdict (tests_here b anchor t flow number deadline)
 
--- what deadlines count from at an arrival, which may be the first
+-- what deadlines count from at an arrival, which may be the first of its epoch
 abbrev pub anchor_at : State → ℕ → Arrival → Anchor
 anchor_at b t arrival = unwrap_or b.anchor (new_anchor t arrival)
 

@@ -22,8 +22,8 @@ invariant_of-self g c =
     let m = moment_of c.args.until in
     let floor = floor_then b m in
     record {
-      state = subst (λ n. IsSound (record { limits = b.limits; phase = b.phase; time = b.time; anchor = b.anchor; highest = b.highest; floor = n; held = c.put_due.new.ring.packets })) (sym c.in-Ok.ensures.floor)
-          (subst (λ packets. IsSound (record { limits = b.limits; phase = b.phase; time = b.time; anchor = b.anchor; highest = b.highest; floor = floor; held = packets }))
+      state = subst (λ n. IsSound (record { limits = b.limits; phase = b.phase; time = b.time; anchor = b.anchor; highest = b.highest; floor = n; held = c.put_due.new.ring.packets; last = b.last; epoch = b.epoch })) (sym c.in-Ok.ensures.floor)
+          (subst (λ packets. IsSound (record { limits = b.limits; phase = b.phase; time = b.time; anchor = b.anchor; highest = b.highest; floor = floor; held = packets; last = b.last; epoch = b.epoch }))
           (sym c.in-Ok.ensures.rest)
           (sound-raised b floor c.self.invariant.state));
       places = c.put_due.ensures.capacity ∙ c.self.invariant.places;
