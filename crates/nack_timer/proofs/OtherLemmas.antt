@@ -4,10 +4,11 @@ use Rattle.std.specs.Prelude.{◌==◌, if◌then◌else◌}
 use Rattle.receiver_rules.specs.declared.limits.Limits.{Limits}
 use Rattle.receiver_rules.specs.declared.anchor.Anchor.{Anchor}
 use Rattle.receiver_rules.specs.declared.anchor.Highest.{Highest}
-use Rattle.receiver_rules.specs.Packets.{Packet, Moment, Ever, highest_of, playout_floor}
+use Rattle.receiver_rules.specs.Packets.{Packet, Moment, Ever, highest_of, is_kept, playout_floor}
 use Rattle.receiver_rules.specs.Steps.{Arrival, has_ended, effective_time}
 use Rattle.receiver_rules.specs.Steps.{Step as BufferStep}
-use Rattle.receiver_rules.specs.History.{new_anchor, anchor_of, accepted_packets, current_moment}
+use Rattle.receiver_rules.specs.Epochs.{new_anchor, verdict_in, packet_in}
+use Rattle.receiver_rules.specs.History.{anchor_of, accepted_packets, current_moment}
 use Rattle.receiver_rules.proofs.PacketLemmas.{floor_rises, later_Ever, IsLater}
 use Rattle.request_rules.specs.Steps.{Input, Media, Control, Keepalive, Refused, Tick, End, Step, buffer_history, receiver_input}
 use Rattle.request_rules.specs.Missing.{is_accepted, is_passed, found_time}
@@ -21,7 +22,8 @@ use Rattle.nack_timer.specs.Steps.{media_step, IsSilent}
 use Rattle.nack_timer.specs.TimerAfter.{highest_number, IsLookedFor, AreEntriesOf, IsTimerAfter}
 use Rattle.nack_timer.proofs.LiftLemmas.{entries_found}
 use Rattle.nack_timer.proofs.NoneLemmas.{none_of, none_kept, some_of}
-use Rattle.nack_timer.proofs.RaisedLemmas.{floor_more, later_moment, same_highest}
+use Rattle.nack_timer.proofs.RaisedLemmas.{floor_more, later_moment, same_highest, Continues, continues}
+use Rattle.nack_timer.specs.OneMore.{IsOfEpoch}
 
 -- what such a step changes
 record Stays (t : TimerState) (limits : Limits) (before : List Step) (step : Step) : Type 0 where
@@ -29,13 +31,11 @@ record Stays (t : TimerState) (limits : Limits) (before : List Step) (step : Ste
   order : AreRising 0 (high_or t.high) t.missing
   top : highest_number limits (buffer_history (step ∷ before)) ≡ t.high
   requests : requests_of limits t.policy (step ∷ before) ≡ requests_of limits t.policy before
-  anchors : (a : Anchor) → anchor_of (buffer_history before) ≡ Some a → anchor_of (buffer_history (step ∷ before)) ≡ Some a
-  started : t.high ≡ None → anchor_of (buffer_history (step ∷ before)) ≡ None
+  anchors : (a : Anchor) → anchor_of limits (buffer_history before) ≡ Some a → anchor_of limits (buffer_history (step ∷ before)) ≡ Some a
+  started : t.high ≡ None → anchor_of limits (buffer_history (step ∷ before)) ≡ None
+  found : (x : ℕ) → is_passed (accepted_packets limits (buffer_history before)) x ≡ true → found_time limits (buffer_history (step ∷ before)) x ≡ found_time limits (buffer_history before) x
   floor : playout_floor (accepted_packets limits (buffer_history before)) (current_moment (buffer_history before)) ≤ playout_floor (accepted_packets limits (buffer_history (step ∷ before))) (current_moment (buffer_history (step ∷ before)))
   accepted : (x : ℕ) → is_accepted (accepted_packets limits (buffer_history (step ∷ before))) x ≡ false → is_accepted (accepted_packets limits (buffer_history before)) x ≡ false
-
-found_same : (limits : Limits) (s : BufferStep) (bh : List BufferStep) (x : ℕ) → is_passed (accepted_packets limits bh) x ≡ true → found_time limits (s ∷ bh) x ≡ found_time limits bh x
-found_same limits s bh x passed = rw passed refl
 
 passed_under : (ps : List Packet) (o : Option ℕ) (x : ℕ) → o ≡ option_map (λ h. h.number) (highest_of ps) → x < high_or o → is_passed ps x ≡ true
 passed_under ps o x e lt = sym (passed_highest ps x) ∙ ap (λ q. is_below_highest q x) (sym e) ∙ by_high o lt
@@ -47,10 +47,6 @@ passed_under ps o x e lt = sym (passed_highest ps x) ∙ ap (λ q. is_below_high
 none_passed : (x : ℕ) → is_passed [] x ≡ true → ⊥
 none_passed x e = cc
 
--- the buffer's step of a step
-abbrev own_step : Step → BufferStep
-own_step step = buffer_step (record { link = step.link; tick = step.tick; input = receiver_input step.input })
-
 stays : (t : TimerState) (limits : Limits) (before : List Step) (step : Step) → Stays t limits before step → IsTimerAfter t limits (step ∷ before)
 stays t limits before step k =
     record {
@@ -59,7 +55,7 @@ stays t limits before step k =
       order = k.order;
       entries = subst (λ r. AreEntriesOf (found_time limits (buffer_history (step ∷ before))) r t.missing) (sym k.requests)
           (entries_found (found_time limits (buffer_history before)) (found_time limits (buffer_history (step ∷ before))) (requests_of limits t.policy before) 0 (high_or t.high) t.missing k.order
-          (λ x lt. found_same limits (own_step step) (buffer_history before) x (passed_under (accepted_packets limits (buffer_history before)) t.high x k.timer.high lt)) k.timer.entries);
+          (λ x lt. k.found x (passed_under (accepted_packets limits (buffer_history before)) t.high x k.timer.high lt)) k.timer.entries);
       keeps = λ x l. k.timer.keeps x (looked_for x l t.high refl);
       unasked = λ x le. ap (λ r. request_times r x) k.requests ∙ k.timer.unasked x le;
       started = k.started;
@@ -99,6 +95,7 @@ silent_stands t limits before link tick (Control sample request) silent order s 
       requests = refl;
       anchors = λ a e. e;
       started = s.started;
+      found = λ x passed. rw passed refl;
       accepted = λ x e. e;
       floor = floor_then limits (buffer_history before) (current_moment (buffer_history (record { link = link; tick = tick; input = Control sample request } ∷ before)))
           (later_moment (has_ended (buffer_history before)) (effective_time (buffer_history before)) (max tick (effective_time (buffer_history before))) (omega arith));
@@ -111,6 +108,7 @@ silent_stands t limits before link tick Keepalive silent order s = stays t limit
       requests = refl;
       anchors = λ a e. e;
       started = s.started;
+      found = λ x passed. rw passed refl;
       accepted = λ x e. e;
       floor = floor_then limits (buffer_history before) (current_moment (buffer_history (record { link = link; tick = tick; input = Keepalive } ∷ before)))
           (later_moment (has_ended (buffer_history before)) (effective_time (buffer_history before)) (max tick (effective_time (buffer_history before))) (omega arith));
@@ -123,6 +121,7 @@ silent_stands t limits before link tick Refused silent order s = stays t limits 
       requests = refl;
       anchors = λ a e. e;
       started = s.started;
+      found = λ x passed. rw passed refl;
       accepted = λ x e. e;
       floor = floor_then limits (buffer_history before) (current_moment (buffer_history (record { link = link; tick = tick; input = Refused } ∷ before)))
           (later_moment (has_ended (buffer_history before)) (effective_time (buffer_history before)) (max tick (effective_time (buffer_history before))) (omega arith));
@@ -135,6 +134,7 @@ silent_stands t limits before link tick End silent order s = stays t limits befo
       requests = refl;
       anchors = λ a e. e;
       started = s.started;
+      found = λ x passed. rw passed refl;
       accepted = λ x e. e;
       floor = floor_then limits (buffer_history before) Ever (later_Ever (current_moment (buffer_history before)));
     })
@@ -152,16 +152,24 @@ floor_if true p acc m later l = omega (arith, floor_rises m later l acc, floor_m
 floor_if false p acc m later l = floor_rises m later l acc
 
 pub media_stands : (t : TimerState) (limits : Limits) (before : List Step) (link tick high : ℕ) (arrival : Arrival) → AreRising 0 (high_or t.high) t.missing → IsTimerAfter t limits before
-    → t.high ≡ Some high → highest_number limits (buffer_history (media_step link tick arrival ∷ before)) ≡ Some high → IsTimerAfter t limits (media_step link tick arrival ∷ before)
-media_stands t limits before link tick high arrival order s is top = stays t limits before (media_step link tick arrival)
+    → IsOfEpoch limits before link tick arrival → t.high ≡ Some high → highest_number limits (buffer_history (media_step link tick arrival ∷ before)) ≡ Some high → IsTimerAfter t limits (media_step link tick arrival ∷ before)
+media_stands t limits before link tick high arrival order s of is top =
+    let c : Continues limits before link tick arrival = continues limits before link tick arrival of in
+    let now : ℕ = effective_time (buffer_history (media_step link tick arrival ∷ before)) in
+    let kept : Bool = is_kept (verdict_in limits c.epoch now arrival) in
+    let after : accepted_packets limits (buffer_history (media_step link tick arrival ∷ before)) ≡ (if kept then packet_in limits c.epoch arrival ∷ accepted_packets limits (buffer_history before) else accepted_packets limits (buffer_history before)) =
+    c.after ∙ ap (λ ps. if kept then packet_in limits c.epoch arrival ∷ ps else ps) (sym c.accepted) in
+    stays t limits before (media_step link tick arrival)
     (record {
       timer = s;
       order = order;
       top = top ∙ sym is;
-      requests = refl;
-      anchors = λ a e. ap (λ o. Some (unwrap_or o (new_anchor (max tick (effective_time (buffer_history before))) arrival))) e;
+      requests = c.requests t.policy;
+      anchors = λ a e. c.anchor ∙ ap Some (c.since ∙ ap (λ o. unwrap_or o (new_anchor now arrival)) e);
       started = λ e. let wrong : Some high ≡ None = sym is ∙ e in absurd cc;
-      accepted = λ x e. accepted_if _ _ (accepted_packets limits (buffer_history before)) x e;
-      floor = floor_if _ _ (accepted_packets limits (buffer_history before)) (current_moment (buffer_history before)) (current_moment (buffer_history (media_step link tick arrival ∷ before)))
-          (later_moment (has_ended (buffer_history before)) (effective_time (buffer_history before)) (max tick (effective_time (buffer_history before))) (omega arith));
+      found = c.found;
+      accepted = λ x e. accepted_if kept (packet_in limits c.epoch arrival) (accepted_packets limits (buffer_history before)) x (ap (λ ps. is_accepted ps x) (sym after) ∙ e);
+      floor = subst (λ ps. playout_floor (accepted_packets limits (buffer_history before)) (current_moment (buffer_history before)) ≤ playout_floor ps (current_moment (buffer_history (media_step link tick arrival ∷ before)))) (sym after)
+          (floor_if kept (packet_in limits c.epoch arrival) (accepted_packets limits (buffer_history before)) (current_moment (buffer_history before)) (current_moment (buffer_history (media_step link tick arrival ∷ before)))
+          (later_moment (has_ended (buffer_history before)) (effective_time (buffer_history before)) (max tick (effective_time (buffer_history before))) (omega arith)));
     })

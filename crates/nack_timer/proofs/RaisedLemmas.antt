@@ -6,10 +6,14 @@ use Rattle.circular_buffer.specs.Buffer.{keep_last}
 use Rattle.receiver_rules.specs.declared.limits.Limits.{Limits}
 use Rattle.receiver_rules.specs.declared.anchor.Anchor.{Anchor}
 use Rattle.receiver_rules.specs.declared.anchor.Highest.{Highest}
-use Rattle.receiver_rules.specs.Packets.{Packet, Moment, At, Ever, highest_of, higher, playout_floor, is_past_deadline, placed_packet, number_of}
+use Rattle.receiver_rules.specs.Packets.{Packet, Moment, At, Ever, highest_of, higher, playout_floor, is_past_deadline, is_kept, number_of}
 use Rattle.receiver_rules.specs.Steps.{Arrival, has_ended, effective_time}
 use Rattle.receiver_rules.specs.Steps.{Step as BufferStep}
-use Rattle.receiver_rules.specs.History.{new_anchor, anchor_of, accepted_packets, current_moment}
+use Rattle.receiver_rules.specs.Epochs.{Epoch, new_anchor, new_epoch, opens_epoch, verdict_in, packet_in, epoch_with, epochs_of, newest_anchor, newest_accepted}
+use Rattle.receiver_rules.specs.History.{anchor_of, accepted_packets, current_moment}
+use Rattle.receiver_rules.proofs.OpeningLemmas.{has_continued, has_opened}
+use Rattle.request_rules.specs.declared.policy.Policy.{Policy}
+use Rattle.nack_timer.specs.OneMore.{IsOfEpoch, OpensNext}
 use Rattle.receiver_rules.proofs.PacketLemmas.{floor_rises, later_At, IsLater}
 use Rattle.request_rules.specs.Steps.{Step, buffer_history}
 use Rattle.request_rules.specs.Missing.{is_accepted, is_passed, found_time}
@@ -19,12 +23,12 @@ use Rattle.request_rules.specs.Missing.{is_below_highest}
 use Rattle.request_rules.proofs.KeptLemmas.{passed_highest}
 use Rattle.nack_timer.specs.declared.entry.Missing.{Missing}
 use Rattle.nack_timer.specs.State.{TimerState, AreRising, high_or}
-use Rattle.nack_timer.specs.Inside.Raise.{new_entries, found_between, raised_to}
+use Rattle.nack_timer.specs.Inside.Raise.{new_entries, found_between, raised_to, renewed_to}
 use Rattle.nack_timer.specs.Steps.{media_step}
 use Rattle.nack_timer.specs.TimerAfter.{highest_number, IsLookedFor, has_entry, AreEntriesOf, IsTimerAfter}
 use Rattle.nack_timer.proofs.LiftLemmas.{entries_found}
 use Rattle.nack_timer.proofs.RaiseLemmas.{rising_found, rising_drop}
-use Rattle.nack_timer.proofs.NoneLemmas.{IsSomeOf, some_of, none_of}
+use Rattle.nack_timer.proofs.NoneLemmas.{IsSomeOf, some_of, none_of, none_requested}
 
 -- ---- the packet that raised it
 
@@ -133,6 +137,42 @@ highest_accepted : (ps : List Packet) (h : Highest) → highest_of ps ≡ Some h
 highest_accepted [] h e = absurd cc
 highest_accepted (p ∷ ps) h e = accepted_by p ps h.number (highest_of ps) (λ g f. highest_accepted ps g f) (same_highest (higher p (highest_of ps)) h e)
 
+-- ---- a packet that opens no epoch
+
+-- the epoch that it comes in
+pub record Continues (limits : Limits) (before : List Step) (link tick : ℕ) (arrival : Arrival) : Type 0 where
+  pub epoch : Epoch
+  pub after : accepted_packets limits (buffer_history (media_step link tick arrival ∷ before)) ≡ (epoch_with limits epoch (effective_time (buffer_history (media_step link tick arrival ∷ before))) arrival).accepted
+  pub accepted : accepted_packets limits (buffer_history before) ≡ epoch.accepted
+  pub anchor : anchor_of limits (buffer_history (media_step link tick arrival ∷ before)) ≡ Some epoch.anchor
+  pub since : epoch.anchor ≡ unwrap_or (anchor_of limits (buffer_history before)) (new_anchor (effective_time (buffer_history (media_step link tick arrival ∷ before))) arrival)
+  pub found : (x : ℕ) → is_passed (accepted_packets limits (buffer_history before)) x ≡ true → found_time limits (buffer_history (media_step link tick arrival ∷ before)) x ≡ found_time limits (buffer_history before) x
+  pub found_new : (x : ℕ) → is_passed (accepted_packets limits (buffer_history before)) x ≡ false → found_time limits (buffer_history (media_step link tick arrival ∷ before)) x ≡ effective_time (buffer_history (media_step link tick arrival ∷ before))
+  pub requests : (policy : Policy) → requests_of limits policy (media_step link tick arrival ∷ before) ≡ requests_of limits policy before
+
+pub continues : (limits : Limits) (before : List Step) (link tick : ℕ) (arrival : Arrival) → IsOfEpoch limits before link tick arrival → Continues limits before link tick arrival
+continues limits before link tick arrival of =
+    let bh : List BufferStep = buffer_history before in
+    let t : ℕ = effective_time (buffer_history (media_step link tick arrival ∷ before)) in
+    let h = has_continued limits (epochs_of limits bh) t arrival of in
+    let blank : opens_epoch limits (epochs_of limits bh) t arrival ≡ true → accepted_packets limits bh ≡ [] = λ e. ap newest_accepted (h.first e) in
+    record {
+      epoch = h.epoch;
+      after = ap newest_accepted h.is;
+      accepted = h.accepted;
+      anchor = ap newest_anchor h.is;
+      since = h.anchor;
+      found = λ x passed. elim (opens_epoch limits (epochs_of limits bh) t arrival) as (λ c. opens_epoch limits (epochs_of limits bh) t arrival ≡ c → (if is_passed (if c then [] else accepted_packets limits bh) x then found_time limits bh x else t) ≡ found_time limits bh x) [
+        | true ↦ λ e. absurd (let wrong : false ≡ true = ap (λ ps. is_passed ps x) (sym (blank e)) ∙ passed in cc)
+        | false ↦ λ e. rw passed refl
+      ] refl;
+      found_new = λ x passed. elim (opens_epoch limits (epochs_of limits bh) t arrival) as (λ c. (if is_passed (if c then [] else accepted_packets limits bh) x then found_time limits bh x else t) ≡ t) [ true ↦ refl | false ↦ rw passed refl ];
+      requests = λ policy. elim (opens_epoch limits (epochs_of limits bh) t arrival) as (λ c. opens_epoch limits (epochs_of limits bh) t arrival ≡ c → (if c then [] else requests_of limits policy before) ≡ requests_of limits policy before) [
+        | true ↦ λ e. sym (none_requested limits policy before (h.first e))
+        | false ↦ λ e. refl
+      ] refl;
+    }
+
 -- ---- after the packet
 
 pub record Raised (t : TimerState) (limits : Limits) (before : List Step) (link tick at high : ℕ) (arrival : Arrival) : Type 0 where
@@ -142,6 +182,7 @@ pub record Raised (t : TimerState) (limits : Limits) (before : List Step) (link 
   pub above : (old : ℕ) → t.high ≡ Some old → old < high
   pub some : 1 ≤ t.span
   pub order : AreRising 0 (high_or t.high) t.missing
+  pub of : IsOfEpoch limits before link tick arrival
 
 module _ (t : TimerState) (limits : Limits) (before : List Step) (link tick at high : ℕ) (arrival : Arrival) (k : Raised t limits before link tick at high arrival) where
   abbrev bh : List BufferStep
@@ -156,11 +197,21 @@ module _ (t : TimerState) (limits : Limits) (before : List Step) (link tick at h
   abbrev acc' : List Packet
   acc' = accepted_packets limits bh'
 
+  c : Continues limits before link tick arrival
+  c = continues limits before link tick arrival k.of
+
   abbrev packet : Packet
-  packet = placed_packet limits (unwrap_or (anchor_of bh) (new_anchor (effective_time bh') arrival)) (highest_of acc) arrival
+  packet = packet_in limits c.epoch arrival
+
+  acc_is : acc' ≡ (if is_kept (verdict_in limits c.epoch (effective_time bh') arrival) then packet ∷ acc else acc)
+  acc_is = c.after ∙ ap (λ ps. if is_kept (verdict_in limits c.epoch (effective_time bh') arrival) then packet ∷ ps else ps) (sym c.accepted)
 
   raised : Raising packet high acc acc'
-  raised = raising _ packet acc high k.top (λ old e. k.above old (k.timer.high ∙ e))
+  raised = subst (Raising packet high acc) (sym acc_is)
+      (raising (is_kept (verdict_in limits c.epoch (effective_time bh') arrival)) packet acc high (ap (λ ps. option_map (λ (h : Highest). h.number) (highest_of ps)) (sym acc_is) ∙ k.top) (λ old e. k.above old (k.timer.high ∙ e)))
+
+  first_number : anchor_of limits bh ≡ None → c.epoch.anchor.number ≡ number_of None arrival
+  first_number e = ap (λ (a : Anchor). a.number) c.since ∙ ap (λ (o : Option Anchor). (unwrap_or o (new_anchor (effective_time bh') arrival)).number) e
 
   high_le : high_or t.high ≤ high
   high_le = by_high t.high refl
@@ -185,10 +236,10 @@ module _ (t : TimerState) (limits : Limits) (before : List Step) (link tick at h
       by_high (Some old) l = le-ltb x old l
 
   found_old : (x : ℕ) → x < high_or t.high → found_time limits bh' x ≡ found_time limits bh x
-  found_old x lt = rw (passed_old x lt) refl
+  found_old x lt = c.found x (passed_old x lt)
 
   found_new : (x : ℕ) → high_or t.high ≤ x → at ≡ found_time limits bh' x
-  found_new x le = let no : is_passed acc x ≡ false = not_passed x le in sym k.time ∙ rw no refl
+  found_new x le = sym k.time ∙ sym (c.found_new x (not_passed x le))
 
   entries_found_between : AreEntriesOf (found_time limits bh') (requests_of limits t.policy before) (found_between t.high t.span at high)
   entries_found_between = by_high t.high refl
@@ -220,8 +271,8 @@ module _ (t : TimerState) (limits : Limits) (before : List Step) (link tick at h
         second true b e = absurd cc
         second false b e = e
 
-    first_before : (a : Anchor) → anchor_of bh ≡ Some a → a.number ≤ x
-    first_before a e = omega (arith, l.first (unwrap_or (anchor_of bh) (new_anchor (effective_time bh') arrival)) refl, ap (λ (o : Option Anchor). (unwrap_or o (new_anchor (effective_time bh') arrival)).number) e)
+    first_before : (a : Anchor) → anchor_of limits bh ≡ Some a → a.number ≤ x
+    first_before a e = omega (arith, l.first c.epoch.anchor c.anchor, ap (λ (b : Anchor). b.number) c.since, ap (λ (o : Option Anchor). (unwrap_or o (new_anchor (effective_time bh') arrival)).number) e)
 
     looked_for_before : (h : Highest) → highest_of acc ≡ Some h → x < h.number → IsLookedFor limits bh x
     looked_for_before h e lt =
@@ -240,9 +291,9 @@ module _ (t : TimerState) (limits : Limits) (before : List Step) (link tick at h
         by_high : (o : Option ℕ) → t.high ≡ o → has_entry (t.missing ++ found_between o t.span at high) x ≡ true
         by_high None e =
             let none : highest_of acc ≡ None = none_of (λ (h : Highest). h.number) (highest_of acc) (sym k.timer.high ∙ e) in
-            let number : number_of None arrival ≡ high = ap (λ o. number_of o arrival) (sym none) ∙ raised.number in
-            let first = l.first (unwrap_or (anchor_of bh) (new_anchor (effective_time bh') arrival)) refl in
-            let is = ap (λ (o : Option Anchor). (unwrap_or o (new_anchor (effective_time bh') arrival)).number) (k.timer.started e) in
+            let number : number_of None arrival ≡ high = ap (λ o. number_of o arrival) (sym (ap highest_of (sym c.accepted) ∙ none)) ∙ raised.number in
+            let first = l.first c.epoch.anchor c.anchor in
+            let is = first_number (k.timer.started e) in
             absurd (omega (arith, first, is, number, near.0))
         by_high (Some old) e =
             let h = some_of (λ (g : Highest). g.number) (highest_of acc) old (sym k.timer.high ∙ e) in
@@ -266,14 +317,43 @@ module _ (t : TimerState) (limits : Limits) (before : List Step) (link tick at h
     span = k.timer.span;
     high = sym k.top;
     order = rising_drop (length (t.missing ++ found_between t.high t.span at high) - t.span) 0 high (t.missing ++ found_between t.high t.span at high) (rising_found t.high t.span at high t.missing high_le k.order);
-    entries = entries_drop (found_time limits bh') (requests_of limits t.policy before) (length (t.missing ++ found_between t.high t.span at high) - t.span) (t.missing ++ found_between t.high t.span at high)
+    entries = subst (λ r. AreEntriesOf (found_time limits bh') r (keep_last t.span (t.missing ++ found_between t.high t.span at high))) (sym (c.requests t.policy))
+        (entries_drop (found_time limits bh') (requests_of limits t.policy before) (length (t.missing ++ found_between t.high t.span at high) - t.span) (t.missing ++ found_between t.high t.span at high)
         (entries_append (found_time limits bh') (requests_of limits t.policy before) t.missing (found_between t.high t.span at high)
-        (entries_found (found_time limits bh) (found_time limits bh') (requests_of limits t.policy before) 0 (high_or t.high) t.missing k.order found_old k.timer.entries) entries_found_between);
+        (entries_found (found_time limits bh) (found_time limits bh') (requests_of limits t.policy before) 0 (high_or t.high) t.missing k.order found_old k.timer.entries) entries_found_between));
     keeps = λ x l. kept_near t.span high x (t.missing ++ found_between t.high t.span at high) k.some (rising_found t.high t.span at high t.missing high_le k.order) (near x l).1 (in_all x l);
-    unasked = λ x le. k.timer.unasked x (omega (arith, high_le, le));
+    unasked = λ x le. ap (λ r. request_times r x) (c.requests t.policy) ∙ k.timer.unasked x (omega (arith, high_le, le));
     started = λ e. absurd cc;
   }
 
 pub some_above : (o : Option ℕ) (high : ℕ) → ((old : ℕ) → o ≡ Some old → old < high) → high_or o ≤ high
 some_above None high f = omega arith
 some_above (Some old) high f = omega (arith, f old refl)
+
+-- ---- a packet that opens the next epoch
+
+inside_some : {X : Type 0} (x y : X) → Some x ≡ Some y → x ≡ y
+inside_some x y e = cc
+
+one_kept : (c : Bool) (p : Packet) (h : Highest) → highest_of (if c then p ∷ [] else []) ≡ Some h → p.number ≡ h.number
+one_kept true p h e = ap (λ (g : Highest). g.number) (inside_some (higher p None) h e)
+one_kept false p h e = cc
+
+-- nothing is looked for yet
+pub renewed_stands : (t : TimerState) (limits : Limits) (before : List Step) (link tick high : ℕ) (arrival : Arrival) → IsTimerAfter t limits before → OpensNext limits before link tick arrival
+    → highest_number limits (buffer_history (media_step link tick arrival ∷ before)) ≡ Some high → IsTimerAfter (renewed_to t high) limits (media_step link tick arrival ∷ before)
+renewed_stands t limits before link tick high arrival s next top =
+    let now : ℕ = effective_time (buffer_history (media_step link tick arrival ∷ before)) in
+    let o = has_opened limits (epochs_of limits (buffer_history before)) now arrival next in
+    record {
+      span = s.span;
+      high = sym top;
+      order = tt;
+      entries = tt;
+      keeps = λ x l. absurd
+          (let h = some_of (λ (h : Highest). h.number) (highest_of (accepted_packets limits (buffer_history (media_step link tick arrival ∷ before)))) high top in
+          let number : number_of None arrival ≡ h.value.number = one_kept (is_kept (verdict_in limits (new_epoch now arrival) now arrival)) (packet_in limits (new_epoch now arrival) arrival) h.value (ap (λ es. highest_of (newest_accepted es)) (sym o.is) ∙ h.is) in
+          omega (arith, number, l.first (new_anchor now arrival) (ap newest_anchor o.is), (l.below h.value h.is).0));
+      unasked = λ x le. ap (λ c. request_times (if c then [] else requests_of limits t.policy before) x) o.opens;
+      started = λ e. absurd cc;
+    }

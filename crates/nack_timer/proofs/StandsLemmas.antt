@@ -99,7 +99,7 @@ module _ (t : TimerState) (b : State) (before : List Step) (link tick micros at 
   top_is : highest_of acc ≡ Some h
   top_is = sym shows.highest ∙ k.top
 
-  first_is : anchor_of bh ≡ Some a
+  first_is : anchor_of b.limits bh ≡ Some a
   first_is = sym shows.anchor ∙ k.first
 
   high_is : high_or t.high ≡ h.number
@@ -136,7 +136,7 @@ module _ (t : TimerState) (b : State) (before : List Step) (link tick micros at 
   missing_is =
       live_is
       ∙ ap (λ l. filter (λ x. not (is_accepted acc x)) (range_with_len l (h.number - l))) low_is
-      ∙ sym (ap (λ c. missing_among b.limits (anchor_of bh) acc (if c then Ever else At at) (highest_of acc)) going
+      ∙ sym (ap (λ c. missing_among b.limits (anchor_of b.limits bh) acc (if c then Ever else At at) (highest_of acc)) going
       ∙ ap (λ o. missing_among b.limits o acc (At at) (highest_of acc)) first_is ∙ ap (missing_among b.limits (Some a) acc (At at)) top_is)
     where
       low_is : low ≡ lowest_wanted b.limits a acc (At at) h

@@ -6,6 +6,7 @@ ghost use Rattle.request_rules.specs.Steps.{Input, Step, buffer_history};
 ghost use Rattle.nack_timer.specs.State.{TimerState};
 ghost use Rattle.nack_timer.specs.Steps.{media_step, IsSilent};
 ghost use Rattle.nack_timer.specs.TimerAfter.{IsTimerAfter, highest_number};
+ghost use Rattle.nack_timer.specs.OneMore.{IsOfEpoch};
 
 /// A step that is neither a media packet nor a tick.
 pub fn silent_steps_leave_a_timer()
@@ -14,10 +15,10 @@ pub fn silent_steps_leave_a_timer()
         → IsTimerAfter t limits (record { link = link; tick = tick; input = input } ∷ before) }
 {}
 
-/// A media packet after which the highest number is what it was.
+/// A media packet that opens no epoch and after which the highest number is what it was.
 pub fn packets_below_the_highest_leave_a_timer()
     ensures { (t : TimerState) (limits : Limits) (before : List Step) (link tick high : ℕ) (arrival : Arrival)
-        → IsTimerAfter t limits before → t.high ≡ Some high
+        → IsTimerAfter t limits before → IsOfEpoch limits before link tick arrival → t.high ≡ Some high
         → highest_number limits (buffer_history (media_step link tick arrival ∷ before)) ≡ Some high
         → IsTimerAfter t limits (media_step link tick arrival ∷ before) }
 {}

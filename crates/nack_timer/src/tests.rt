@@ -16,11 +16,12 @@ use seq_unwrap::Width;
 use std::alloc::{AllocError, Global};
 use std::test::Fail;
 
-/// When a run asks, in which span and with which delay.
+/// When a run asks, in which span and with which delay, and when another flow may take over.
 #[derive(Clone, Copy)]
 struct Setting {
     span: u64,
     delay_ms: u64,
+    restart_ms: u64,
     settings: Settings,
 }
 
@@ -62,6 +63,7 @@ fn fit<'a>(alloc: Global, steps: &[Step<'a>]) -> Result<Vec<Step<'a>>, Fail>
 fn play(alloc: Global, setting: &Setting, steps: &[Step<'_>]) -> Result<Vec<AskWord>, Fail>
     requires span { (1 ≤ setting.now.span) × (setting.now.span ≤ 16384) }
     requires delay { (1 ≤ setting.now.delay_ms) × (setting.now.delay_ms ≤ 30000) }
+    requires restart { setting.now.restart_ms ≤ 60000 }
     requires settings { IsInRange setting.now.settings }
 {
     let steps = fit(alloc, steps)?;
@@ -71,19 +73,26 @@ fn play(alloc: Global, setting: &Setting, steps: &[Step<'_>]) -> Result<Vec<AskW
 fn play_fit(alloc: Global, setting: &Setting, steps: &[Step<'_>]) -> Result<Vec<AskWord>, Fail>
     requires span { (1 ≤ setting.now.span) × (setting.now.span ≤ 16384) }
     requires delay { (1 ≤ setting.now.delay_ms) × (setting.now.delay_ms ≤ 30000) }
+    requires restart { setting.now.restart_ms ≤ 60000 }
     requires settings { IsInRange setting.now.settings }
     requires steps { All IsFit steps.now }
 {
     let mut sink = Store8::with(alloc, 64, &[])?;
-    let mut buffer = Buffer::with_limits(alloc, setting.span, setting.delay_ms)?;
+    let mut buffer = Buffer::with_limits(
+        alloc,
+        setting.span,
+        setting.delay_ms,
+        setting.restart_ms,
+    )?;
     let mut timer = Timer::with_span(alloc, setting.span, setting.settings)?;
     let mut known = None;
     let mut at = 0;
     let mut last = Vec::new(alloc);
     for (place, step) in steps.iter().enumerate() {
         at = at.max(step.tick);
+        let epoch = buffer.epoch();
         bring(&mut buffer, at, step, &mut sink)?;
-        known = tell(&mut timer, &buffer, known, at);
+        known = tell(&mut timer, &buffer, epoch, known, at);
         if matches!(step.input, Input::Tick) {
             let words = ask(
                 alloc,
@@ -122,8 +131,8 @@ fn bring(buffer: &mut Buffer, at: u64, step: &Step<'_>, sink: &mut Store8) -> Re
     }
 }
 
-/// Tells a timer of a highest number that has risen, and gives the one that it knows.
-fn tell(timer: &mut Timer, buffer: &Buffer, known: Option<u64>, at: u64) -> Option<u64>
+/// Tells a timer of a highest number that has risen, or of a new epoch, and gives the number that it knows.
+fn tell(timer: &mut Timer, buffer: &Buffer, epoch: u64, known: Option<u64>, at: u64) -> Option<u64>
     requires tick { at < 2 ^ 61 }
     requires known { timer.old.high ≡ known }
     ensures known { timer.new.high ≡ result }
@@ -132,6 +141,10 @@ fn tell(timer: &mut Timer, buffer: &Buffer, known: Option<u64>, at: u64) -> Opti
     let Some(high) = buffer.high() else {
         return known;
     };
+    if buffer.epoch() != epoch {
+        timer.renew(at, high);
+        return Some(high);
+    }
     let has_risen = match known {
         Some(known) => known < high,
         None => true,
@@ -156,6 +169,7 @@ fn ask(
 ) -> Result<Asked, Fail>
     requires range { (1 ≤ setting.now.span) × (setting.now.span ≤ 16384) }
     requires delay { (1 ≤ setting.now.delay_ms) × (setting.now.delay_ms ≤ 30000) }
+    requires restart { setting.now.restart_ms ≤ 60000 }
     requires settings { IsInRange setting.now.settings }
     requires before { All IsFit before.now }
     requires tick { at < 2 ^ 61 }
@@ -171,6 +185,7 @@ fn ask(
     let limits = Limits {
         playout_delay: 90 * setting.delay_ms,
         capacity: setting.span,
+        restart_time: 90 * setting.restart_ms,
     };
     let policy = setting.settings.policy();
     let rtt = tick_of(longest_rtt(before));
@@ -188,11 +203,13 @@ fn usual(nack: NackKind, tries: u64) -> Setting
     requires { tries ≤ 32 }
     ensures span { result.span ≡ 8 }
     ensures delay { result.delay_ms ≡ 1000 }
+    ensures restart { result.restart_ms ≡ 2000 }
     ensures settings { IsInRange result.settings }
 {
     Setting {
         span: 8,
         delay_ms: 1000,
+        restart_ms: 2000,
         settings: Settings {
             reorder: 25,
             least: 50,
@@ -204,8 +221,13 @@ fn usual(nack: NackKind, tries: u64) -> Setting
 
 /// A packet of 16 bits on link 0, without a payload.
 fn comes(tick: u64, word: u32, stamp: u32) -> Step<'static> {
+    comes_of(0x1020_3040, tick, word, stamp)
+}
+
+/// The same of a flow.
+fn comes_of(flow: u32, tick: u64, word: u32, stamp: u32) -> Step<'static> {
     let arrival = Arrival {
-        flow: 0x1020_3040,
+        flow,
         width: Width::W16,
         word,
         stamp,
@@ -253,6 +275,7 @@ fn asks(
 ) -> Result<bool, Fail>
     requires span { (1 ≤ setting.now.span) × (setting.now.span ≤ 16384) }
     requires delay { (1 ≤ setting.now.delay_ms) × (setting.now.delay_ms ≤ 30000) }
+    requires restart { setting.now.restart_ms ≤ 60000 }
     requires settings { IsInRange setting.now.settings }
 {
     let words = play(alloc, setting, steps)?;
@@ -354,6 +377,29 @@ fn only_what_lies_between_is_looked_for(rt: HostRuntime) -> Result<(), Fail> {
     Ok(())
 }
 
+#[test]
+fn a_new_epoch_asks_for_its_own_numbers(rt: HostRuntime) -> Result<(), Fail> {
+    let alloc = rt.alloc();
+    let once = usual(NackKind::Range, 1);
+    // 11 to 14 are asked for, and two seconds after 15 another flow begins with 12.
+    let (ten, fifteen, first) = (packet(0, 10), packet(100, 15), clock(2350));
+    let begins = comes_of(0x2030_4050, 180_100, 12, 900);
+    let goes_on = comes_of(0x2030_4050, 180_200, 15, 3600);
+    let (early, then) = (clock(182_449), clock(182_450));
+    assert!(rt;
+        asks(
+            alloc,
+            &once,
+            &[ten, fifteen, first, begins, clock(190_000)],
+            &[]
+        )?
+    );
+    let anew = [ten, fifteen, first, begins, goes_on, early, then];
+    assert!(rt; asks(alloc, &once, &anew[..6], &[])?);
+    assert!(rt; asks(alloc, &once, &anew, &[word(13, 1)])?);
+    Ok(())
+}
+
 /// Every second number from 10 on, with 66 gaps between them, and so many ticks.
 fn every_second(alloc: Global, ticks: u64) -> Result<Vec<Step<'static>>, AllocError>
     requires { ticks ≤ 10 }
@@ -399,14 +445,19 @@ fn next(seed: u32) -> u32 {
     seed.wrapping_mul(1_664_525).wrapping_add(1_013_904_223)
 }
 
-/// A step that a row of numbers gives: packets near their time and out of order, ticks, samples, and others.
+/// A step that a row of numbers gives: packets near their time and out of order, ticks, samples, and others. In the middle
+/// comes a pause, after which most packets are another flow's.
 fn made(seed: u32, place: u32) -> Step<'static>
     requires { place < 2 ^ 10 }
 {
     let number = place / 2 + (seed >> 8) % 6;
-    let tick = u64::from(place * 600 + (seed >> 16) % 1500);
+    let pause = if place > 11 { 20_000 } else { 0 };
+    let tick = u64::from(place * 600 + (seed >> 16) % 1500 + pause);
+    let is_other = (place > 11) != (seed % 8 == 0);
+    let flow = if is_other { 0x2030_4050 } else { 0x1020_3040 };
+    let first = if is_other { 65_520 } else { 65_530 };
     match seed >> 28 {
-        0..=8 => comes(tick, (65_530 + number) % 65_536, 1200 * number),
+        0..=8 => comes_of(flow, tick, (first + number) % 65_536, 1200 * number),
         9..=13 => other(u64::from(seed >> 4) % 3, tick, Input::Tick),
         14 => {
             let sample = u64::from(seed >> 4) % 60_000;
@@ -428,7 +479,7 @@ fn made_run(alloc: Global, case: u32) -> Result<Vec<Step<'static>>, AllocError> 
         seed = next(seed);
         steps.push(made(seed, place))?;
     }
-    steps.push(clock(18_000))?;
+    steps.push(clock(38_000))?;
     Ok(steps)
 }
 
@@ -444,6 +495,7 @@ fn generated_runs_agree_with_the_plain_program(rt: HostRuntime) -> Result<(), Fa
         let setting = Setting {
             span: 4 + u64::from(case) % 13,
             delay_ms: 100,
+            restart_ms: u64::from(case) / 2 % 3 * 100,
             settings: Settings {
                 reorder: u64::from(case) % 3 * 10,
                 least: 20,

@@ -14,7 +14,7 @@ use std::alloc::Global;
 use std::marker::Model;
 
 /// What is missing, and what was asked for. `raised` tells it of each packet that was kept and raises the highest number,
-/// and `due` asks, at ticks of the receiver's clock, for what the buffer misses then. Only `with_span` takes memory.
+/// `renew` of one that opened an epoch, and `due` asks, at ticks of the receiver's clock, for what the buffer misses then. Only `with_span` takes memory.
 #[derive(Drop)]
 pub struct Timer {
     policy: Policy,
@@ -41,8 +41,8 @@ impl Timer {
     ghost use Rattle.nack_timer.specs.State.{policy_of, IsInRange, high_or, AreRising};
     ghost use Rattle.request_rules.specs.Near.{AreNear};
     ghost use Rattle.nack_timer.specs.TimerAfter.{IsTimerAfter};
-    ghost use Rattle.nack_timer.specs.OneMore.{RaisesAt, AsksAt, StandsAfterTick, WouldAskAt};
-    ghost use Rattle.nack_timer.specs.Inside.Raise.{raised_to};
+    ghost use Rattle.nack_timer.specs.OneMore.{RaisesAt, RenewsAt, AsksAt, StandsAfterTick, WouldAskAt};
+    ghost use Rattle.nack_timer.specs.Inside.Raise.{raised_to, renewed_to};
     ghost use Rattle.nack_timer.specs.Inside.Pass.{words_of, entries_of};
     ghost use Rattle.receiver_rules.specs.declared.bounds.TheConstants.{MAX_SPAN};
 
@@ -75,6 +75,20 @@ impl Timer {
         ensures same { (self.new.policy ≡ self.old.policy) × (self.new.span ≡ self.old.span) }
     {
         self.raise(at, high);
+    }
+
+    /// A packet was kept, at a tick of the receiver's clock, that opened the next epoch, with this number. Nothing is missing
+    /// in it yet, and nothing was asked for. The number may be lower than the one told last.
+    pub fn renew(&mut self, at: u64, high: u64)
+        requires time { at < 2 ^ 61 }
+        requires small { high < 2 ^ 62 }
+
+        ensures state { RenewsAt self.old self.new at high }
+        ensures told { self.new.high ≡ Some high }
+        ensures same { (self.new.policy ≡ self.old.policy) × (self.new.span ≡ self.old.span) }
+    {
+        let _ = at;
+        self.begin(high);
     }
 
     /// The words by which to ask, at a tick of the receiver's clock to which its buffer has come, for what the buffer
@@ -138,6 +152,15 @@ impl Timer {
         } }
     {
         look_at_all(&mut self.missing, &self.policy, rtt, at, low, buffer)
+    }
+
+    /// Only the highest number is known.
+    fn begin(&mut self, high: u64)
+        requires small { high < 2 ^ 62 }
+        ensures { self.new ≡ renewed_to self.old high }
+    {
+        self.missing.clear();
+        self.high = Some(high);
     }
 
     /// The highest number has risen: the numbers between are missing from then on.

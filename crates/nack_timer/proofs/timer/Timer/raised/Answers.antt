@@ -12,8 +12,8 @@ pub returns : goal.returns
 returns c = record {
   told = ap (λ (t : TimerState). t.high) c.raise.ensures.value;
   same = (ap (λ (t : TimerState). t.policy) c.raise.ensures.value, ap (λ (t : TimerState). t.span) c.raise.ensures.value);
-  state = λ limits before link tick arrival s top time.
+  state = λ limits before link tick arrival s of top time.
       subst (λ (t : TimerState). IsTimerAfter t limits (media_step link tick arrival ∷ before)) (sym c.raise.ensures.value)
       (raised_stands c.args.self.now limits before link tick c.args.at c.args.high arrival
-      (record { timer = s; top = top; time = time; above = c.requires.above; some = c.raise.ensures.some; order = c.raise.ensures.order }));
+      (record { timer = s; top = top; time = time; above = c.requires.above; some = c.raise.ensures.some; order = c.raise.ensures.order; of = of }));
 }
