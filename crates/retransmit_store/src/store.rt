@@ -68,6 +68,15 @@ impl Store {
         self.packets.push_front(Stored { sent, mark: None });
     }
 
+    /// Forgets all packets, as another flow begins whose numbers are its own. The room stays.
+    pub fn empty(&mut self)
+        ensures value { self.new ≡ record { size = self.old.size; packets = [] } }
+        ensures next { (n : ℕ) → IsNext self.new.packets n }
+        ensures history { IsStoreAfter self.new [] }
+    {
+        self.packets.clear();
+    }
+
     /// The number of the stored packet that a word asks for, and `None` exactly where no stored number ends in it.
     pub fn find(&self, width: Width, word: u32) -> Option<u64>
         requires { word < cycle_of width }

@@ -101,3 +101,14 @@ fn a_mark_is_kept_with_its_packet_alone(rt: HostRuntime) -> Result<(), Fail> {
     assert_eq!(rt; store.marked(102), None);
     Ok(())
 }
+
+#[test]
+fn an_emptied_store_takes_any_number_next(rt: HostRuntime) -> Result<(), Fail> {
+    let mut store = filled(rt.alloc(), 4, 100, 3)?;
+    store.empty();
+    assert_eq!(rt; store.find(Width::W16, 102), None);
+    store.put(packet(7));
+    assert!(rt; copies(&store, 7) && !copies(&store, 102));
+    assert_eq!(rt; store.find(Width::W16, 7), Some(7));
+    Ok(())
+}
