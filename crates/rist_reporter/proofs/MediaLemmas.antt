@@ -8,12 +8,13 @@ use Rattle.receiver_rules.specs.declared.verdict.Verdict.TheVariants.{Kept, Stra
 use Rattle.receiver_rules.specs.declared.anchor.Highest.{Highest}
 use Rattle.seq_unwrap.specs.declared.width.Width.{Width}
 use Rattle.receiver_rules.specs.declared.limits.Limits.{Limits}
-use Rattle.receiver_rules.specs.declared.anchor.Anchor.{Anchor}
 use Rattle.receiver_rules.specs.Steps.{Arrival}
 use Rattle.receiver_rules.specs.Steps as buffer
-use Rattle.receiver_rules.specs.Packets.{Packet, highest_of, is_kept, verdict_of, placed_packet}
-use Rattle.receiver_rules.specs.History.{anchor_of, new_anchor, accepted_packets, accepted_after}
-use Rattle.receiver_rules.proofs.HistoryLemmas.{anchorless}
+use Rattle.receiver_rules.specs.Packets.{Packet, highest_of, is_kept, verdict_of}
+use Rattle.receiver_rules.specs.Epochs.{Epoch, new_anchor, new_epoch, packet_in, epoch_with, epochs_after, epochs_of, newest_anchor, newest_accepted}
+use Rattle.receiver_rules.specs.History.{anchor_of}
+use Rattle.receiver_rules.proofs.OpeningLemmas.{has_opened}
+use Rattle.reorder_buffer.proofs.OpeningLemmas.{first_is_kept}
 use Rattle.request_rules.specs.Steps.{Step, buffer_history}
 use Rattle.nack_timer.specs.State.{TimerState}
 use Rattle.nack_timer.specs.Steps.{media_step}
@@ -31,49 +32,41 @@ use Rattle.rist_reporter.specs.Reporter.{ReporterState, IsReporterAfter}
 use Rattle.rist_reporter.specs.OneMore.{IsReceived, control_step}
 use Rattle.rist_reporter.proofs.LinksLemmas.{links_same, links_heard}
 
--- ---- the first packet is kept
+-- ---- the first packet of an epoch
 
-late_never : (t d s : ℕ) → 1 ≤ d → int_le (pos (t + s + d) -ℤ pos s) (pos t) ≡ false
-late_never t d s some = grind (arith, ints)
-
-early_never : (t d s : ℕ) → int_lt (pos (t + 2 * d)) (pos (t + s + d) -ℤ pos s) ≡ false
-early_never t d s = grind (arith, ints)
-
-pub first_is_kept : (limits : Limits) (t : ℕ) (arrival : Arrival) → 1 ≤ limits.playout_delay → arrival.word < 2 ^ 32 → is_kept (verdict_of limits (new_anchor t arrival) [] t arrival) ≡ true
-first_is_kept limits t arrival some word =
-    let mine : not (arrival.flow == arrival.flow) ≡ false = ap not (eq-eqb arrival.flow arrival.flow refl) in
-    let small : nat_le (2 ^ 62) (2 ^ 40 + arrival.word) ≡ false = lt-leb (2 ^ 62) (2 ^ 40 + arrival.word) (omega (arith, word)) in
-    let late = late_never t limits.playout_delay (2 ^ 40 + arrival.timestamp) some in
-    let early = early_never t limits.playout_delay (2 ^ 40 + arrival.timestamp) in
-    λ i. is_kept (cond (mine i) Stranger (cond (small i) Exhausted (cond (late i) Late (cond (early i) Early Kept))))
-
--- so a number is known after any packet
-first_highest : (limits : Limits) (before : List Step) (link tick : ℕ) (arrival : Arrival) → 1 ≤ limits.playout_delay → arrival.word < 2 ^ 32 → anchor_of (buffer_history before) ≡ None
-    → highest_number limits (buffer_history (media_step link tick arrival ∷ before)) ≢ None
-first_highest limits before link tick arrival some word none lost =
-    let h = buffer_history before in
-    let t = max tick (buffer.effective_time h) in
-    let packet = placed_packet limits (new_anchor t arrival) None arrival in
-    let empty : accepted_packets limits h ≡ [] = anchorless limits h none in
-    let kept = first_is_kept limits t arrival some word in
-    let known : highest_number limits (buffer_history (media_step link tick arrival ∷ before)) ≡ Some packet.number =
-    ap (λ (o : Option Anchor). option_map (λ (g : Highest). g.number) (highest_of (accepted_after limits o (accepted_packets limits h) t (buffer.Media arrival)))) none
-    ∙ ap (λ (ps : List Packet). option_map (λ (g : Highest). g.number) (highest_of (accepted_after limits None ps t (buffer.Media arrival)))) empty
-    ∙ ap (λ (b : Bool). option_map (λ (g : Highest). g.number) (highest_of (if b then packet ∷ [] else []))) kept in
+-- so a number is known after a packet that opens an epoch
+opening_highest : (limits : Limits) (t : ℕ) (arrival : Arrival) (earlier : List Epoch) → 1 ≤ limits.playout_delay → arrival.word < 2 ^ 32
+    → option_map (λ (h : Highest). h.number) (highest_of (newest_accepted (epoch_with limits (new_epoch t arrival) t arrival ∷ earlier))) ≢ None
+opening_highest limits t arrival earlier some word lost =
+    let packet : Packet = packet_in limits (new_epoch t arrival) arrival in
+    let known : option_map (λ (h : Highest). h.number) (highest_of (newest_accepted (epoch_with limits (new_epoch t arrival) t arrival ∷ earlier))) ≡ Some packet.number =
+    ap (λ (b : Bool). option_map (λ (g : Highest). g.number) (highest_of (if b then packet ∷ [] else []))) (first_is_kept limits t arrival some word) in
     absurd (no_some (sym known ∙ lost))
   where
     no_some : {n : ℕ} → Some n ≡ None → ⊥
     no_some e = cc
 
+-- as after the first
+first_highest : (limits : Limits) (before : List Step) (link tick : ℕ) (arrival : Arrival) → 1 ≤ limits.playout_delay → arrival.word < 2 ^ 32 → anchor_of limits (buffer_history before) ≡ None
+    → highest_number limits (buffer_history (media_step link tick arrival ∷ before)) ≢ None
+first_highest limits before link tick arrival some word none lost =
+    let t : ℕ = max tick (buffer.effective_time (buffer_history before)) in
+    let blank = no_epochs (epochs_of limits (buffer_history before)) none in
+    opening_highest limits t arrival [] some word (ap (λ (es : List Epoch). option_map (λ (g : Highest). g.number) (highest_of (newest_accepted (epochs_after limits es t (buffer.Media arrival))))) (sym blank) ∙ lost)
+  where
+    no_epochs : (es : List Epoch) → newest_anchor es ≡ None → es ≡ []
+    no_epochs [] e = refl
+    no_epochs (current ∷ earlier) e = cc
+
 -- ---- a packet
 
 -- what a packet finds
-pub record AtMedia (r : ReporterState) (limits : Limits) (before : List Step) (link tick : ℕ) (arrival : Arrival) (at : ℕ) (bits : Width) (is_accepted : Bool) (highest : Option ℕ) : Type 0 where
+pub record AtMedia (r : ReporterState) (limits : Limits) (before : List Step) (link tick : ℕ) (arrival : Arrival) (at : ℕ) (bits : Width) (is_accepted opened : Bool) (highest : Option ℕ) : Type 0 where
   pub reporter : IsReporterAfter r limits before
-  pub received : IsReceived limits before link tick arrival at bits is_accepted highest
+  pub received : IsReceived limits before link tick arrival at bits is_accepted opened highest
 
-module _ (r : ReporterState) (limits : Limits) (before : List Step) (link tick : ℕ) (arrival : Arrival) (at : ℕ) (bits : Width) (is_accepted : Bool) (highest : Option ℕ)
-    (k : AtMedia r limits before link tick arrival at bits is_accepted highest) where
+module _ (r : ReporterState) (limits : Limits) (before : List Step) (link tick : ℕ) (arrival : Arrival) (at : ℕ) (bits : Width) (is_accepted opened : Bool) (highest : Option ℕ)
+    (k : AtMedia r limits before link tick arrival at bits is_accepted opened highest) where
   pub links_stand : AreLinksAfter r.links (media_step link tick arrival ∷ before)
   links_stand = links_same r.links before (media_step link tick arrival) refl (λ rtt. refl) k.reporter.links
 
@@ -88,9 +81,17 @@ module _ (r : ReporterState) (limits : Limits) (before : List Step) (link tick :
   known unknown lost =
       first_highest limits before link tick arrival k.received.delay k.received.word (k.reporter.timer.started unknown) (k.received.high ∙ lost)
 
+  -- nor does one that opens an epoch
+  pub known_opened : opened ≡ true → highest ≡ None → ⊥
+  known_opened o lost =
+      let t : ℕ = max tick (buffer.effective_time (buffer_history before)) in
+      let h = has_opened limits (epochs_of limits (buffer_history before)) t arrival (k.received.next o) in
+      opening_highest limits t arrival (epochs_of limits (buffer_history before)) k.received.delay k.received.word
+      (ap (λ (es : List Epoch). option_map (λ (g : Highest). g.number) (highest_of (newest_accepted es))) (sym h.is) ∙ k.received.high ∙ lost)
+
   -- the highest number is what it was
-  pub timer_stands : (high : ℕ) → r.timer.high ≡ Some high → highest ≡ Some high → IsTimerAfter r.timer limits (media_step link tick arrival ∷ before)
-  timer_stands high is top = media_stands r.timer limits before link tick high arrival k.reporter.timer.order k.reporter.timer is (k.received.high ∙ top)
+  pub timer_stands : opened ≡ false → (high : ℕ) → r.timer.high ≡ Some high → highest ≡ Some high → IsTimerAfter r.timer limits (media_step link tick arrival ∷ before)
+  timer_stands of high is top = media_stands r.timer limits before link tick high arrival k.reporter.timer.order k.reporter.timer (k.received.same of) is (k.received.high ∙ top)
 
 -- ---- a compound
 

@@ -77,7 +77,7 @@ module _ (r : ReporterState) (b : State) (before : List Step) (at link tick micr
   pub time_is : effective_time (tick_step link tick micros ∷ before) ≡ at
   time_is = sym shows.time ∙ k.clock
 
-  pub flow_is : option_map (λ (a : Anchor). a.flow) b.anchor ≡ flow_of before
+  pub flow_is : option_map (λ (a : Anchor). a.flow) b.anchor ≡ flow_of b.limits before
   flow_is = ap (option_map (λ (a : Anchor). a.flow)) shows.anchor
 
   pub rtt_is : longest_of 16 r.links.rtts ≡ longest_rtt 16 before

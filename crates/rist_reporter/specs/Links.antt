@@ -3,8 +3,8 @@ use Rattle.std.specs.Prelude.{◌≡◌, ℕ, zero, suc, ◌<◌, List, length, 
 use Rattle.request_rules.specs.Steps.{Step, rtt_of, longer}
 use Rattle.rist_control.specs.When.{report_interval, keepalive_interval, times_each}
 
--- of each of sixteen links the smoothed round-trip time in microseconds, and when it reported last and said last that it is
--- there, in ticks
+-- of each of sixteen links the smoothed round-trip time in microseconds, and when it reported last and said last that
+-- it is there, in ticks
 pub record LinksState : Type 0 where
   pub rtts : List (Option ℕ)
   pub reports : List (Option ℕ)

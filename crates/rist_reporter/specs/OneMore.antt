@@ -1,5 +1,5 @@
 -- What one more step makes of a reporter, for each history that it stands for.
-use Rattle.std.specs.Prelude.{◌≡◌, ◌≤◌, ◌<◌, ◌^◌, ℕ, zero, suc, Bool, false, List, [], ◌∷◌, length, nat_lt, Option, None, Some, Result, Ok, Err, is_err, IfOk}
+use Rattle.std.specs.Prelude.{◌≡◌, ◌≤◌, ◌<◌, ◌^◌, ℕ, zero, suc, Bool, true, false, List, [], ◌∷◌, length, nat_lt, Option, None, Some, Result, Ok, Err, is_err, IfOk}
 use Rattle.seq_unwrap.specs.declared.width.Width.{Width}
 use Rattle.receiver_rules.specs.declared.limits.Limits.{Limits}
 use Rattle.receiver_rules.specs.Steps.{Arrival}
@@ -16,6 +16,7 @@ use Rattle.request_rules.specs.declared.word.AskWord.{AskWord}
 use Rattle.request_rules.specs.Steps.{Step, Keepalive, buffer_history, effective_time, control_input}
 use Rattle.nack_timer.specs.Steps.{tick_step, media_step}
 use Rattle.nack_timer.specs.TimerAfter.{highest_number}
+use Rattle.nack_timer.specs.OneMore.{IsOfEpoch, OpensNext}
 use Rattle.rist_control.specs.Control.{ControlSettings, Datagram, datagrams_of, words_made}
 use Rattle.rist_reporter.specs.declared.out.Outs.{Outs}
 use Rattle.rist_reporter.specs.Made.{OutOf, IsOpened}
@@ -114,18 +115,21 @@ StandsAfterControl old new link us packets result =
     (limits : Limits) (before : List Step) (tick : ℕ) → IsReporterAfter old limits before
     → IsReporterAfter new limits (step_answered (control_step link tick us packets) result ∷ before)
 
--- a media packet that comes at a time, and is kept or not; after it this is the highest number
-pub record IsReceived (limits : Limits) (before : List Step) (link tick : ℕ) (arrival : Arrival) (at : ℕ) (bits : Width) (is_accepted : Bool) (highest : Option ℕ) : Type 0 where
+-- a media packet that comes at a time, is kept or not, and opens the next epoch or not; after it this is the highest
+-- number
+pub record IsReceived (limits : Limits) (before : List Step) (link tick : ℕ) (arrival : Arrival) (at : ℕ) (bits : Width) (is_accepted opened : Bool) (highest : Option ℕ) : Type 0 where
   pub delay : 1 ≤ limits.playout_delay
   pub word : arrival.word < 2 ^ 32
   pub time : effective_time (media_step link tick arrival ∷ before) ≡ at
   pub width : arrival.width ≡ bits
   pub kept : is_kept (verdict limits (buffer_history before) tick arrival) ≡ is_accepted
+  pub same : opened ≡ false → IsOfEpoch limits before link tick arrival
+  pub next : opened ≡ true → OpensNext limits before link tick arrival
   pub high : highest_number limits (buffer_history (media_step link tick arrival ∷ before)) ≡ highest
 
 -- after every history that the old reporter stands for, the new one stands for it with this media packet
-abbrev pub StandsAfterMedia : ReporterState → ReporterState → ℕ → Width → Bool → Option ℕ → Type 0
-StandsAfterMedia old new at bits is_accepted highest =
+abbrev pub StandsAfterMedia : ReporterState → ReporterState → ℕ → Width → Bool → Bool → Option ℕ → Type 0
+StandsAfterMedia old new at bits is_accepted opened highest =
     (limits : Limits) (before : List Step) (link tick : ℕ) (arrival : Arrival) → IsReporterAfter old limits before
-    → IsReceived limits before link tick arrival at bits is_accepted highest
+    → IsReceived limits before link tick arrival at bits is_accepted opened highest
     → IsReporterAfter new limits (media_step link tick arrival ∷ before)

@@ -12,8 +12,8 @@ use Rattle.rist_control.specs.Nacks.{width_of}
 use Rattle.rist_control.specs.Control.{ControlSettings}
 use Rattle.rist_reporter.specs.Links.{LinksState, AreLinksAfter}
 
--- its own SSRC, whether it makes nothing, what is missing and was asked for, what it keeps of its links, how many bits the
--- numbers of the last kept packet had, and what makes its session's datagrams
+-- its own SSRC, whether it makes nothing, what is missing and was asked for, what it keeps of its links, how many bits
+-- the numbers of the last kept packet had, and what makes its session's datagrams
 pub record ReporterState : Type 0 where
   pub own : ℕ
   pub is_muted : Bool

@@ -56,7 +56,7 @@ impl Model for Reporter {
 }
 
 impl Reporter {
-    ghost use Rattle.std.specs.Prelude.{◌≡◌, ◌≤◌, ◌<◌, ◌^◌, [], ℕ, None, false, length, is_err, IfOk, OnOk, option_map};
+    ghost use Rattle.std.specs.Prelude.{◌≡◌, ◌≤◌, ◌<◌, ◌^◌, [], ℕ, None, true, false, IsSome, length, is_err, IfOk, OnOk, option_map};
     ghost use Rattle.std.specs.Option.{ForSome};
     ghost use Rattle.rist_rtt.specs.Echo.{echoes_in};
     ghost use Rattle.request_rules.specs.Steps.{first_response};
@@ -116,21 +116,23 @@ impl Reporter {
         self.shutter.left()
     }
 
-    /// A media packet came at a time, and was kept or not; before it and after it these are the highest numbers that
-    /// were kept.
+    /// A media packet came at a time, and was kept or not. It opened the next epoch or not; before it and after it
+    /// these are the highest numbers that were kept in the current one.
     pub fn received(
         &mut self,
         at: u64,
         width: Width,
         is_kept: bool,
+        opened: bool,
         before: Option<u64>,
         after: Option<u64>,
     )
         requires time { at < 2 ^ 61 }
         requires small { ForSome after (λ n. n < 2 ^ 62) }
         requires told { before ≡ self.old.timer.high }
-        requires rises { IsNoLowerNumber before after }
-        ensures state { StandsAfterMedia self.old self.new at width is_kept after }
+        requires rises { opened ≡ false → IsNoLowerNumber before after }
+        requires opens { opened ≡ true → IsSome after }
+        ensures state { StandsAfterMedia self.old self.new at width is_kept opened after }
         ensures told { self.new.timer.high ≡ after }
         ensures same { IsSetAs self.old self.new }
         ensures shutter { self.new.shutter ≡ self.old.shutter }
@@ -139,6 +141,10 @@ impl Reporter {
         let Some(high) = after else {
             return;
         };
+        if opened {
+            self.timer.renew(at, high);
+            return;
+        }
         if before != after {
             self.timer.raised(at, high);
         }
