@@ -1,5 +1,7 @@
 -- What is told, as a step of the richer history.
-use Rattle.std.proofs.Common.{◌≡◌, ◌⊎◌, ℕ, ◌^◌, ◌<◌, ◌≤◌, true, List, ◌∷◌, Option, Some, None, refl, sym, ap, subst, ◌∙◌, arith, option_map, Bor, is_err, Result, Ok, Err, inl, inr}
+use Rattle.std.proofs.Common.{◌≡◌, ◌⊎◌, ℕ, ◌^◌, ◌<◌, ◌≤◌, Bool, true, false, List, ◌∷◌, Option, Some, None, refl, sym, ap, subst, ◌∙◌, arith, option_map, Bor, is_err, Result, Ok, Err, inl, inr}
+use Rattle.std.specs.Prelude.{IsSome, not, nat_eq}
+use Rattle.std.proofs.lemmas.Bool.{eq-eqb, eqb-true}
 use Rattle.seq_unwrap.specs.Nearest.{cycle_of}
 use Rattle.seq_unwrap.specs.declared.width.Width.{Width}
 use Rattle.seq_unwrap.specs.declared.width.Width.TheVariants.{W16, W32}
@@ -8,10 +10,14 @@ use Rattle.receiver_rules.specs.declared.anchor.Highest.{Highest}
 use Rattle.receiver_rules.specs.declared.verdict.Verdict.{Verdict}
 use Rattle.receiver_rules.specs.declared.arrival.Arrival.{Arrival as Offered}
 use Rattle.receiver_rules.specs.Steps.{tick_of}
+use Rattle.receiver_rules.specs.Steps.{Step as BufferStep}
 use Rattle.receiver_rules.specs.Seen.{seen}
 use Rattle.receiver_rules.specs.Packets.{is_kept}
-use Rattle.receiver_rules.specs.History.{verdict}
-use Rattle.reorder_buffer.specs.State.{State}
+use Rattle.receiver_rules.specs.Epochs.{epochs_of}
+use Rattle.receiver_rules.specs.History.{verdict, epoch_number}
+use Rattle.receiver_rules.proofs.OpeningLemmas.{one_more}
+use Rattle.reorder_buffer.specs.State.{State, IsNoLower}
+use Rattle.rist_reporter.specs.Inside.Due.{IsNoLowerNumber}
 use Rattle.reorder_buffer.specs.StateAfter.{Shows, IsStateAfter}
 use Rattle.reorder_buffer.specs.declared.phase.Phase.TheVariants.{Open, Ended}
 use Rattle.reorder_buffer.proofs.PhaseLemmas.{not_failed}
@@ -117,8 +123,9 @@ same_some e = cc
 pub is_received : (b : State) (told : Told) (arrival : Offered) (history : List Step) (v : Verdict) (at : ℕ) (high : Option ℕ) → told.what ≡ Media arrival → 1 ≤ b.limits.playout_delay → arrival.word < cycle_of arrival.width
     → b.phase ≡ Open → b.time ≡ at → IsStateAfter b (buffer_history (step_of told ∷ history)) → Some v ≡ Some (verdict b.limits (buffer_history history) (tick_of told.us) (seen arrival))
     → high ≡ option_map (λ (h : Highest). h.number) b.highest
-    → IsReceived b.limits history told.link (tick_of told.us) (seen arrival) at arrival.width (is_kept v) high
-is_received b told arrival history v at high what delay fits running clock stands says top =
+    → (place : ℕ) (opened : Bool) → place ≡ epoch_number b.limits (buffer_history history) → (opened ≡ false → b.epoch ≡ place) → (opened ≡ true → b.epoch ≡ place → ⊥)
+    → IsReceived b.limits history told.link (tick_of told.us) (seen arrival) at arrival.width (is_kept v) opened high
+is_received b told arrival history v at high what delay fits running clock stands says top place opened place_is same other =
     let is = media_told_step told arrival what in
     let here : IsStateAfter b (buffer_history (media_step told.link (tick_of told.us) (seen arrival) ∷ history)) = subst (λ (st : Step). IsStateAfter b (buffer_history (st ∷ history))) is stands in
     let shows : Shows b (buffer_history (media_step told.link (tick_of told.us) (seen arrival) ∷ history)) = here (not_failed b.phase running) in
@@ -128,15 +135,39 @@ is_received b told arrival history v at high what delay fits running clock stand
       time = sym shows.time ∙ clock;
       width = refl;
       kept = ap is_kept (sym (same_some says));
+      same = λ o. sym shows.epoch ∙ same o ∙ place_is;
+      next = λ o. one_more b.limits (epochs_of b.limits (buffer_history history)) (effective_time (media_step told.link (tick_of told.us) (seen arrival) ∷ history)) (seen arrival) (λ e. other o (shows.epoch ∙ e ∙ sym place_is));
       high = sym (ap (option_map (λ (h : Highest). h.number)) shows.highest) ∙ sym top;
     }
 
-pub high_number : (what : What) (old new : Option Highest) → IsHigh what old new → IsHighNumber what (option_map (λ (h : Highest). h.number) old) (option_map (λ (h : Highest). h.number) new)
-high_number (Media arrival) None new l = tt
-high_number (Media arrival) (Some h) None l = l
-high_number (Media arrival) (Some h) (Some g) l = l
-high_number (Control compound) old new l = ap (option_map (λ (h : Highest). h.number)) l
-high_number Keepalive old new l = ap (option_map (λ (h : Highest). h.number)) l
-high_number Refused old new l = ap (option_map (λ (h : Highest). h.number)) l
-high_number Tick old new l = ap (option_map (λ (h : Highest). h.number)) l
-high_number End old new l = tt
+pub high_number : (what : What) (old new : State) (place : ℕ) → place ≡ old.epoch → IsHigh what old new → IsHighNumber what place new.epoch (option_map (λ (h : Highest). h.number) old.highest) (option_map (λ (h : Highest). h.number) new.highest)
+high_number (Media arrival) old new place e l = (λ same. of_number old.highest new.highest (l.0 (same ∙ e)), λ other. some_number new.highest (l.1 (λ f. other (f ∙ sym e))))
+  where
+    of_number : (o n : Option Highest) → IsNoLower o n → IsNoLowerNumber (option_map (λ (h : Highest). h.number) o) (option_map (λ (h : Highest). h.number) n)
+    of_number None n l = tt
+    of_number (Some h) None l = l
+    of_number (Some h) (Some g) l = l
+
+    some_number : (o : Option Highest) → IsSome o → IsSome (option_map (λ (h : Highest). h.number) o)
+    some_number None some = some
+    some_number (Some h) some = refl
+high_number (Control compound) old new place e l = ap (option_map (λ (h : Highest). h.number)) l
+high_number Keepalive old new place e l = ap (option_map (λ (h : Highest). h.number)) l
+high_number Refused old new place e l = ap (option_map (λ (h : Highest). h.number)) l
+high_number Tick old new place e l = ap (option_map (λ (h : Highest). h.number)) l
+high_number End old new place e l = tt
+
+-- the place of the epoch before a step
+pub shown_epoch : (b : State) (history : List BufferStep) → b.phase ≡ Open → IsStateAfter b history → b.epoch ≡ epoch_number b.limits history
+shown_epoch b history running s = let shows : Shows b history = s (not_failed b.phase running) in shows.epoch
+
+-- whether two places are the same
+pub same_place : (a b : ℕ) (r : Bool) → r ≡ not (nat_eq a b) → r ≡ false → a ≡ b
+same_place a b r e f = eqb-true a b (unnot (nat_eq a b) (sym e ∙ f))
+  where
+    unnot : (c : Bool) → not c ≡ false → c ≡ true
+    unnot true e = refl
+    unnot false e = cc
+
+pub other_place : (a b : ℕ) (r : Bool) → r ≡ not (nat_eq a b) → r ≡ true → a ≡ b → ⊥
+other_place a b r e t same = let wrong : not true ≡ true = ap not (sym (eq-eqb a b same)) ∙ sym e ∙ t in cc

@@ -1,12 +1,13 @@
 -- A step at the effective time is the step at its own tick.
-use Rattle.std.proofs.Common.{◌≡◌, ◌≢◌, ◌⊎◌, ◌||◌, ℕ, max, Bool, cond, List, refl, ◌∷◌, ◌++◌, sym, ap, subst, ◌∙◌, map, arith, Option, [], append_assoc, unwrap_or, Bor}
+use Rattle.std.proofs.Common.{◌≡◌, ◌≢◌, ◌⊎◌, ◌||◌, ℕ, max, Bool, cond, List, refl, ◌∷◌, ◌++◌, sym, ap, subst, ◌∙◌, map, arith, Option, [], append_assoc, Bor}
 use Rattle.std.specs.Prelude.{IsTrue, ◌↔◌, false, Result, Ok, Err, OnErr}
-use Rattle.std.specs.List.{filter, concat}
+use Rattle.std.specs.List.{concat}
 use Rattle.outside_io.proofs.ToldLemmas.{appends_both}
 use Rattle.receiver_rules.specs.declared.limits.Limits.{Limits}
 use Rattle.receiver_rules.specs.Steps.{Arrival, Event, Step, effective_time, is_end, has_ended, time_step, end_step, TimeOnly, media_step, tick_of}
-use Rattle.receiver_rules.specs.Packets.{Packet, At, Ever, is_played_out, by_number, verdict_of}
-use Rattle.receiver_rules.specs.History.{new_anchor, anchor_of, accepted_packets, accepted_after, played_out_packets, released_bytes, verdict}
+use Rattle.receiver_rules.specs.Packets.{Packet, At, Ever}
+use Rattle.receiver_rules.specs.Epochs.{verdict_in, epoch_at, epochs_after, epochs_of}
+use Rattle.receiver_rules.specs.History.{playout_of, played_out_packets, released_bytes, verdict}
 use Rattle.receiver_rules.proofs.HistoryLemmas.{played_out_grows}
 use Rattle.reorder_buffer.specs.State.{State}
 use Rattle.reorder_buffer.specs.StateAfter.{Shows, IsStateAfter}
@@ -49,9 +50,7 @@ same_time : (b : State) (history : List Step) (now tick at : ℕ) → Goes b his
 same_time b history now tick at g = let e = at_told b history now tick at g in omega arith
 
 abbrev out_at : Limits → List Step → Event → ℕ → List Packet
-out_at limits history event t =
-    let packets = accepted_after limits (anchor_of history) (accepted_packets limits history) t event in
-    filter (is_played_out packets (cond (is_end event || has_ended history) Ever (At t))) (by_number packets)
+out_at limits history event t = playout_of (epochs_after limits (epochs_of limits history) t event) (cond (is_end event || has_ended history) Ever (At t))
 
 -- what is released depends on the effective time alone
 pub bytes_told : (b : State) (history : List Step) (now tick at : ℕ) (event : Event) → Goes b history now tick at
@@ -61,7 +60,7 @@ bytes_told b history now tick at event g =
 
 pub verdict_told : (b : State) (history : List Step) (now tick at : ℕ) (arrival : Arrival) → Goes b history now tick at → verdict b.limits history at arrival ≡ verdict b.limits history tick arrival
 verdict_told b history now tick at arrival g =
-    ap (λ t. verdict_of b.limits (unwrap_or (anchor_of history) (new_anchor t arrival)) (accepted_packets b.limits history) t arrival) (same_time b history now tick at g)
+    ap (λ t. verdict_in b.limits (epoch_at b.limits (epochs_of b.limits history) t arrival) t arrival) (same_time b history now tick at g)
 
 pub state_told : (b new : State) (history : List Step) (now tick at : ℕ) (event : Event) → Goes b history now tick at
     → IsStateAfter new (record { tick = at; event = event } ∷ history) → IsStateAfter new (record { tick = tick; event = event } ∷ history)
@@ -85,7 +84,7 @@ end_state b new history now tick at g s live =
     let shows : Shows new (end_step ∷ time_step at ∷ history) = s live in
     let time = shows.time in
     let e = same_time b history now tick at g in
-    record { phase = shows.phase; time = omega (arith, time, e); anchor = shows.anchor; highest = shows.highest; floor = shows.floor; held = shows.held }
+    record { phase = shows.phase; time = omega (arith, time, e); anchor = shows.anchor; highest = shows.highest; floor = shows.floor; held = shows.held; last = shows.last; epoch = shows.epoch }
 
 pub writes_both : (a b c : Option (List ℕ)) (first middle whole : List ℕ) → Writes a b first middle → Writes b c middle whole → Writes a c first whole
 writes_both a b c first middle whole v w = (

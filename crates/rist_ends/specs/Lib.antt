@@ -1,6 +1,7 @@
 pub mod Settings
 pub mod Counts
 pub mod Told
+pub mod Items
 pub mod Inside
 pub mod Outcome
 pub mod Receiver

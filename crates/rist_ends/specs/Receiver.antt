@@ -27,7 +27,8 @@ pub record ReceiverState : Type 0 where
 abbrev pub settings_of : ReceiverState → ControlSettings
 settings_of r = settings_with r.buffer.limits r.reporter
 
--- what it keeps is that of the history of its steps, the newest first. After a failed write nothing is said but that it has ended
+-- what it keeps is that of the history of its steps, the newest first. After a failed write nothing is said but that it
+-- has ended
 pub record IsReceiverAfter (r : ReceiverState) (history : List Step) : Type 0 where
   pub buffer : IsStateAfter r.buffer (buffer_history history)
   pub counts : r.buffer.phase ≢ Failed → AreCountsOf r.counts r.buffer.limits history

@@ -1,6 +1,6 @@
 -- What a receiver is set to.
 use Rattle.std.specs.Prelude.{ℕ, ◌≤◌, ◌*◌, true}
-use Rattle.receiver_rules.specs.declared.bounds.TheConstants.{MAX_DELAY, MAX_SPAN}
+use Rattle.receiver_rules.specs.declared.bounds.TheConstants.{MAX_DELAY, MAX_RESTART, MAX_SPAN}
 use Rattle.receiver_rules.specs.declared.limits.Limits.{Limits}
 use Rattle.nack_timer.specs.declared.settings.Settings.{Settings as TimerSettings}
 use Rattle.nack_timer.specs.State.{policy_of}
@@ -16,6 +16,7 @@ pub record IsInRange (settings : Settings) : Type 0 where
   pub delay : settings.delay ≤ MAX_DELAY
   pub some_span : 1 ≤ settings.span
   pub span : settings.span ≤ MAX_SPAN
+  pub restart : settings.restart ≤ MAX_RESTART
   pub reorder : settings.reorder ≤ 1000
   pub some_least : 5 ≤ settings.least
   pub least : settings.least ≤ 1000
@@ -23,7 +24,7 @@ pub record IsInRange (settings : Settings) : Type 0 where
 
 -- the limits of its buffer, in ticks and packets
 abbrev pub limits_of : Settings → Limits
-limits_of settings = record { playout_delay = 90 * settings.delay; capacity = settings.span }
+limits_of settings = record { playout_delay = 90 * settings.delay; capacity = settings.span; restart_time = 90 * settings.restart }
 
 -- when it asks
 abbrev pub timer_settings : Settings → TimerSettings
@@ -41,6 +42,6 @@ control_settings settings session =
     }
 
 -- a receiver that plays out and sends nothing back
-abbrev pub muted_settings : ℕ → ℕ → Settings
-muted_settings delay span =
-    record { delay = delay; span = span; reorder = 25; least = 50; tries = 0; nack = Range; own = 7; muted = true }
+abbrev pub muted_settings : ℕ → ℕ → ℕ → Settings
+muted_settings delay span restart =
+    record { delay = delay; span = span; restart = restart; reorder = 25; least = 50; tries = 0; nack = Range; own = 7; muted = true }

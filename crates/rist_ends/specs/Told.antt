@@ -42,6 +42,15 @@ IsFitWhat Refused = Unit {0}
 IsFitWhat Tick = Unit {0}
 IsFitWhat End = Unit {0}
 
+-- it is not the end
+abbrev pub IsNoEnd : What → Type 0
+IsNoEnd (Media arrival) = Unit {0}
+IsNoEnd (Control compound) = Unit {0}
+IsNoEnd Keepalive = Unit {0}
+IsNoEnd Refused = Unit {0}
+IsNoEnd Tick = Unit {0}
+IsNoEnd End = ⊥
+
 -- there are at most sixteen links
 pub record IsFit (told : Told) : Type 0 where
   pub link : told.link < 16

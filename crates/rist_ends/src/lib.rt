@@ -3,6 +3,7 @@
 #![tactic(auto)]
 
 mod counts;
+mod items;
 mod outcome;
 mod receiver;
 mod reporting;
@@ -13,6 +14,7 @@ mod tests;
 mod told;
 
 pub use counts::Counts;
+pub use items::what_of;
 pub use outcome::{Answer, Outcome};
 pub use receiver::Receiver;
 pub use rist_reporter::{Out, Outs};

@@ -63,7 +63,7 @@ impl Receiver {
         ensures running { IfOk result (λ r. r.buffer.phase ≡ Open) }
         ensures state { IfOk result (λ r. IsReceiverAfter r []) }
     {
-        let buffer = Buffer::with_limits(alloc, settings.span, settings.delay)?;
+        let buffer = Buffer::with_limits(alloc, settings.span, settings.delay, settings.restart)?;
         let reporter = Reporter::with(
             alloc,
             settings.span,
@@ -108,6 +108,7 @@ impl Receiver {
             return Answer::Stopped;
         }
         let before = self.buffer.high();
+        let epoch = self.buffer.epoch();
         match step_buffer(&mut self.buffer, self.time, told, sink) {
             Ok(stepped) => {
                 self.time = stepped.at;
@@ -118,6 +119,7 @@ impl Receiver {
                     told,
                     &stepped,
                     before,
+                    epoch,
                     outs,
                 )
             }

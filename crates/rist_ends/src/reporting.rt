@@ -87,13 +87,14 @@ fn answer_tick(
 }
 
 /// Tells the reporter of a step that the buffer has made, and says what it came to. Before it `before` was the highest
-/// number that was kept.
+/// number that was kept, and `epoch` the place of the current epoch.
 pub fn report(
     reporter: &mut Reporter,
     buffer: &Buffer,
     told: &Told<'_>,
     stepped: &Stepped,
     before: Option<u64>,
+    epoch: u64,
     outs: &mut Outs,
 ) -> Answer
     requires fits { IsFit told.now }
@@ -102,13 +103,15 @@ pub fn report(
     requires phase { buffer.now.phase ≡ ended_at told.now }
     requires judged { IsJudged told.now.what stepped.now.verdict }
     requires told { before ≡ reporter.old.timer.high }
-    requires high { IsHighNumber told.now.what before (option_map (λ h. h.number) buffer.now.highest) }
+    requires high { IsHighNumber told.now.what epoch buffer.now.epoch before
+        (option_map (λ h. h.number) buffer.now.highest) }
     requires span { buffer.now.limits.capacity ≡ reporter.old.timer.span }
     requires delay { 1 ≤ buffer.now.limits.playout_delay }
     ensures verdict { verdict_in (outcome_with result outs.new) ≡ stepped.now.verdict }
     ensures stepped { is_stepped (outcome_with result outs.new) ≡ true }
-    ensures made { ReportsStep reporter.old buffer.now told.now stepped.now.verdict (made_in result outs.new) }
-    ensures state { StandsAfterStep reporter.old reporter.new buffer.now told.now stepped.now.verdict
+    ensures made { ReportsStep reporter.old buffer.now told.now stepped.now.verdict epoch
+        (made_in result outs.new) }
+    ensures state { StandsAfterStep reporter.old reporter.new buffer.now told.now stepped.now.verdict epoch
         (made_in result outs.new) }
     ensures pairs { TakesPairs (answer_count (made_in result outs.new)) reporter.old.shutter reporter.new.shutter }
     ensures told { buffer.now.phase ≡ Open
@@ -126,6 +129,7 @@ pub fn report(
                 stepped.at,
                 arrival.width,
                 verdict.is_kept(),
+                buffer.epoch() != epoch,
                 before,
                 buffer.high(),
             );

@@ -11,6 +11,9 @@ pub struct Settings {
     pub delay: u64,
     /// How many packets there is room for, 1 to 16,384.
     pub span: u64,
+    /// How long no packet must have been kept before another flow takes over, in milliseconds: at most 60,000. Where it
+    /// is 0 none does.
+    pub restart: u64,
     /// How long a packet may be missing before it is asked for, in milliseconds: at most 1,000.
     pub reorder: u64,
     /// The least time between two requests for one packet, in milliseconds: 5 to 1,000. A longer round-trip time counts
@@ -27,13 +30,15 @@ pub struct Settings {
 }
 
 impl Settings {
-    /// Those of a receiver that plays out and sends nothing back: its delay in milliseconds, and its span in packets.
-    pub fn muted(delay: u64, span: u64) -> Settings
-        ensures value { result ≡ muted_settings delay span }
+    /// Those of a receiver that plays out and sends nothing back: its delay in milliseconds, its span in packets, and
+    /// its restart time in milliseconds.
+    pub fn muted(delay: u64, span: u64, restart: u64) -> Settings
+        ensures value { result ≡ muted_settings delay span restart }
     {
         Settings {
             delay,
             span,
+            restart,
             reorder: 25,
             least: 50,
             tries: 0,

@@ -1,5 +1,5 @@
 //! A receiver's steps on its buffer: at each first what is due is written, and then comes the event.
-ghost use Rattle.std.specs.Prelude.{◌≡◌, ◌<◌, ◌^◌, List, Some, None, true, is_some, IfOk, OnOk, OnErr};
+ghost use Rattle.std.specs.Prelude.{◌≡◌, ◌≢◌, IsSome, ◌<◌, ◌^◌, List, Some, None, true, is_some, IfOk, OnOk, OnErr};
 ghost use Rattle.outside_io.specs.Causes.{HasCause};
 ghost use Rattle.receiver_rules.specs.Steps.{Step, media_step, time_step, tick_of};
 ghost use Rattle.receiver_rules.specs.History.{verdict};
@@ -39,7 +39,7 @@ pub fn step_buffer<K: Sink>(
     ensures verdict { IfOk result (λ s. (history : List Step) → IsStateAfter buffer.old history
         → SaysVerdict s.verdict buffer.old.limits history (step_of told.now)) }
     ensures judged { IfOk result (λ s. IsJudged told.now.what s.verdict) }
-    ensures high { OnOk result (IsHigh told.now.what buffer.old.highest buffer.new.highest) }
+    ensures high { OnOk result (IsHigh told.now.what buffer.old buffer.new) }
     ensures state { OnOk result (StandsAfter buffer.old buffer.new (buffer_step (step_of told.now))) }
     ensures sink { OnOk result
         (Releases buffer.old (buffer_step (step_of told.now)) (K.contents sink.old) (K.contents sink.new)) }
@@ -75,7 +75,9 @@ fn step_media<K: Sink>(
     ensures verdict { IfOk result (λ s. (history : List Step) → IsStateAfter buffer.old history
         → s.verdict ≡ Some (verdict buffer.old.limits history tick (seen arrival.now))) }
     ensures judged { IfOk result (λ s. is_some s.verdict ≡ true) }
-    ensures high { OnOk result (IsNoLower buffer.old.highest buffer.new.highest) }
+    ensures high { OnOk result
+        (buffer.new.epoch ≡ buffer.old.epoch → IsNoLower buffer.old.highest buffer.new.highest) }
+    ensures opens { OnOk result (buffer.new.epoch ≢ buffer.old.epoch → IsSome buffer.new.highest) }
     ensures state { OnOk result (StandsAfter buffer.old buffer.new (media_step tick (seen arrival.now))) }
     ensures sink { OnOk result
         (Releases buffer.old (media_step tick (seen arrival.now)) (K.contents sink.old) (K.contents sink.new)) }

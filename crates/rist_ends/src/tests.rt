@@ -49,11 +49,11 @@ struct Played {
     sink: Store8,
 }
 
-/// Steps what is told on a receiver with a delay of one second and a span of 8.
+/// Steps what is told on a receiver with a delay of one second, a span of 8 and a restart time of two seconds.
 fn play(alloc: Global, steps: &[Told<'_>], sink: Store8) -> Result<Played, Fail>
     requires { All IsFit steps.now }
 {
-    let mut receiver = Receiver::with(alloc, &Settings::muted(1000, 8), &simple(), None)?;
+    let mut receiver = Receiver::with(alloc, &Settings::muted(1000, 8, 2000), &simple(), None)?;
     let mut outs = Outs::none();
     let mut answers = Vec::new(alloc);
     let mut sink = sink;
@@ -261,6 +261,27 @@ fn keepalives_and_refusals_move_the_time(rt: HostRuntime) -> Result<(), Fail> {
     Ok(())
 }
 
+#[test]
+fn another_flow_takes_over_after_the_restart_time(rt: HostRuntime) -> Result<(), Fail> {
+    let alloc = rt.alloc();
+    let ends = Told {
+        link: 0,
+        us: 0,
+        what: What::End,
+    };
+    let (one, both): (&[u8], &[u8]) = (b"A", b"AB");
+    for (us, second, written) in [(1_999_999, STRANGER, one), (2_000_000, KEPT, both)] {
+        let steps = [brings(0, 10, b"A"), media(0x2030_4050, us, 17, b"B")];
+        assert!(rt; answers(alloc, &steps, &[KEPT, second], one)?, "at {us}");
+        let steps = [steps[0], steps[1], ends];
+        assert!(rt;
+            answers(alloc, &steps, &[KEPT, second, Answer::Nothing], written)?,
+            "at {us}"
+        );
+    }
+    Ok(())
+}
+
 /// A receiver with SSRC 7, a delay of a second, a span of 8, a tolerance of 25 ms and eight tries.
 fn asking(nack: NackKind, least: u64) -> Settings
     requires { (5 ≤ least) × (least ≤ 1000) }
@@ -270,6 +291,7 @@ fn asking(nack: NackKind, least: u64) -> Settings
     Settings {
         delay: 1000,
         span: 8,
+        restart: 2000,
         reorder: 25,
         least,
         tries: 8,

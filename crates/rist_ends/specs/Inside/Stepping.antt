@@ -1,8 +1,7 @@
 -- What one step does to the buffer, and what it tells the reporter.
-use Rattle.std.specs.Prelude.{◌≡◌, ◌<◌, ◌^◌, ℕ, List, Option, None, Some, true, is_some}
+use Rattle.std.specs.Prelude.{◌≡◌, ◌≢◌, IsSome, ◌<◌, ◌^◌, ℕ, List, Option, None, Some, true, is_some}
 use Rattle.receiver_rules.specs.declared.limits.Limits.{Limits}
 use Rattle.receiver_rules.specs.declared.verdict.Verdict.{Verdict}
-use Rattle.receiver_rules.specs.declared.anchor.Highest.{Highest}
 use Rattle.receiver_rules.specs.Steps.{Step}
 use Rattle.receiver_rules.specs.History.{verdict}
 use Rattle.reorder_buffer.specs.State.{State, IsNoLower}
@@ -41,23 +40,23 @@ IsJudged whats.Refused v = v ≡ None
 IsJudged whats.Tick v = v ≡ None
 IsJudged whats.End v = v ≡ None
 
--- and a media packet alone may raise the highest number
-abbrev pub IsHigh : What → Option Highest → Option Highest → Type 0
-IsHigh (whats.Media arrival) old new = IsNoLower old new
-IsHigh (whats.Control compound) old new = new ≡ old
-IsHigh whats.Keepalive old new = new ≡ old
-IsHigh whats.Refused old new = new ≡ old
-IsHigh whats.Tick old new = new ≡ old
+-- and a media packet alone may raise the highest number, or open an epoch, in which it is known
+abbrev pub IsHigh : What → State → State → Type 0
+IsHigh (whats.Media arrival) old new = (new.epoch ≡ old.epoch → IsNoLower old.highest new.highest) × (new.epoch ≢ old.epoch → IsSome new.highest)
+IsHigh (whats.Control compound) old new = new.highest ≡ old.highest
+IsHigh whats.Keepalive old new = new.highest ≡ old.highest
+IsHigh whats.Refused old new = new.highest ≡ old.highest
+IsHigh whats.Tick old new = new.highest ≡ old.highest
 IsHigh whats.End old new = Unit {0}
 
--- likewise of the number alone
-abbrev pub IsHighNumber : What → Option ℕ → Option ℕ → Type 0
-IsHighNumber (whats.Media arrival) old new = IsNoLowerNumber old new
-IsHighNumber (whats.Control compound) old new = new ≡ old
-IsHighNumber whats.Keepalive old new = new ≡ old
-IsHighNumber whats.Refused old new = new ≡ old
-IsHighNumber whats.Tick old new = new ≡ old
-IsHighNumber whats.End old new = Unit {0}
+-- likewise of the number alone, from an epoch's place to another
+abbrev pub IsHighNumber : What → ℕ → ℕ → Option ℕ → Option ℕ → Type 0
+IsHighNumber (whats.Media arrival) place now old new = (now ≡ place → IsNoLowerNumber old new) × (now ≢ place → IsSome new)
+IsHighNumber (whats.Control compound) place now old new = new ≡ old
+IsHighNumber whats.Keepalive place now old new = new ≡ old
+IsHighNumber whats.Refused place now old new = new ≡ old
+IsHighNumber whats.Tick place now old new = new ≡ old
+IsHighNumber whats.End place now old new = Unit {0}
 
 -- a tick or a compound, which alone may be answered Spent
 abbrev pub IsQuiet : What → Type 0

@@ -1,5 +1,5 @@
 -- What the reporter says of its own calls, of what is told.
-use Rattle.std.proofs.Common.{◌∙◌, ◌∷◌, sym, subst, Bool}
+use Rattle.std.proofs.Common.{◌∙◌, ◌∷◌, refl, sym, subst, Bool, not, nat_eq}
 use Rattle.receiver_rules.specs.Steps.{tick_of}
 use Rattle.receiver_rules.specs.Seen.{seen}
 use Rattle.request_rules.specs.Steps.{Step, buffer_history}
@@ -9,7 +9,7 @@ use Rattle.rist_ends.specs.declared.told.What.{What}
 use Rattle.rist_ends.specs.Told.{IsFitWhat, input_of}
 use Rattle.rist_ends.specs.Inside.Stepping.{SaysVerdictOn}
 use Rattle.rist_ends.specs.Inside.Reporting.{made_in}
-use Rattle.rist_ends.proofs.ReportLemmas.{media_told_step, control_told_step, silent_told_stands, is_received}
+use Rattle.rist_ends.proofs.ReportLemmas.{media_told_step, control_told_step, silent_told_stands, is_received, same_place, other_place}
 use Rattle.rist_ends.proofs.reporting.report.Goals as goal
 
 pub returns-in-Some-clause-state : goal.returns-in-Some-clause-state
@@ -17,12 +17,14 @@ returns-in-Some-clause-state c history between running =
     let told = c.args.told.now in
     let b = c.args.buffer.now in
     let arrival = c.in-Media.arrival in
+    let opened : Bool = not (nat_eq c.epoch.result c.args.epoch) in
     let fits = subst IsFitWhat c.in-Media.is c.requires.fits.word in
     let says = subst (λ (w : What). SaysVerdictOn c.args.stepped.now.verdict b.limits (buffer_history history) (tick_of told.us) (input_of told.us w)) c.in-Media.is between.says in
-    let got = is_received b told arrival history c.in-Some.verdict c.args.stepped.now.at c.high.result c.in-Media.is c.requires.delay fits.word running (c.requires.clock running) between.buffer (sym c.in-Some.is ∙ says) c.high.ensures.number in
+    let got = is_received b told arrival history c.in-Some.verdict c.args.stepped.now.at c.high.result c.in-Media.is c.requires.delay fits.word running (c.requires.clock running) between.buffer (sym c.in-Some.is ∙ says) c.high.ensures.number c.args.epoch opened between.place_is
+    (λ o. sym c.epoch.ensures.value ∙ same_place c.epoch.result c.args.epoch opened refl o) (λ o same. other_place c.epoch.result c.args.epoch opened refl o (c.epoch.ensures.value ∙ same)) in
     subst (λ (st : Step). IsReporterAfter c.received.new.self b.limits (st ∷ history)) (sym (media_told_step told arrival c.in-Media.is))
     (c.received.ensures.state b.limits history told.link (tick_of told.us) (seen arrival) between.reporter
-    (subst (λ (k : Bool). IsReceived b.limits history told.link (tick_of told.us) (seen arrival) c.args.stepped.now.at arrival.width k c.high.result) (sym c.is_kept.ensures) got))
+    (subst (λ (k : Bool). IsReceived b.limits history told.link (tick_of told.us) (seen arrival) c.args.stepped.now.at arrival.width k opened c.high.result) (sym c.is_kept.ensures) got))
 
 pub returns-in-Control-clause-made : goal.returns-in-Control-clause-made
 returns-in-Control-clause-made c history between =

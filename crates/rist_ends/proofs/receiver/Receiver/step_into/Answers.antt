@@ -3,7 +3,7 @@ use Rattle.std.proofs.Common.{◌≡◌, ◌≢◌, ◌∷◌, ◌∙◌, List, 
 use Rattle.receiver_rules.specs.declared.limits.Limits.{Limits}
 use Rattle.receiver_rules.specs.Steps.{tick_of}
 use Rattle.receiver_rules.specs.Steps as buffer
-use Rattle.receiver_rules.specs.History.{released_bytes}
+use Rattle.receiver_rules.specs.History.{released_bytes, epoch_number}
 use Rattle.reorder_buffer.specs.State.{State}
 use Rattle.reorder_buffer.specs.StateAfter.{IsStateAfter}
 use Rattle.outside_io.specs.Told.{Writes, WritesPart}
@@ -21,7 +21,7 @@ use Rattle.rist_ends.specs.Told.{step_of, input_of}
 use Rattle.rist_ends.specs.Inside.Stepping.{SaysVerdict, SaysVerdictOn}
 use Rattle.rist_ends.specs.Inside.Reporting.{IsBetween}
 use Rattle.rist_ends.proofs.CountLemmas.{counted}
-use Rattle.rist_ends.proofs.ReportLemmas.{on_stepped, says_has, quiet_step, quiet_counts}
+use Rattle.rist_ends.proofs.ReportLemmas.{on_stepped, says_has, quiet_step, quiet_counts, shown_epoch}
 use Rattle.rist_ends.proofs.SteppingLemmas.{open_phase}
 use Rattle.rist_ends.proofs.StepLemmas.{stopped_work, not_stopped, not_failing, fault_not_stopped, set_as}
 use Rattle.rist_ends.proofs.receiver.Receiver.step_into.Goals as goal
@@ -44,10 +44,11 @@ returns-in-Ok-clause-work g c =
     let stepped = c.report.ensures.stepped in
     let running = open_phase inside.buffer.phase c.ended.result c.ended.ensures c.if-ended.false in
     let stands : (history : List Step) → IsReceiverAfter old history → IsReceiverAfter (record { buffer = inside.buffer; counts = inside.counts; reporter = inside.reporter }) history = λ history s. subst (λ (x : ReceiverState). IsReceiverAfter x history) (sym view) s in
-    let between : (history : List Step) → IsReceiverAfter old history → IsBetween inside.reporter new told verdict history = λ history s. record {
+    let between : (history : List Step) → IsReceiverAfter old history → IsBetween inside.reporter new told verdict c.epoch-epoch.result history = λ history s. record {
       reporter = subst (λ (l : Limits). IsReporterAfter inside.reporter l history) (sym limits) ((stands history s).reporter running);
       buffer = c.in-Ok.ensures.state (buffer_history history) (stands history s).buffer;
       says = subst (λ (l : Limits). SaysVerdict verdict l (buffer_history history) (step_of told)) (sym limits) (c.in-Ok.ensures.verdict (buffer_history history) (stands history s).buffer);
+      place_is = c.epoch-epoch.ensures.value ∙ shown_epoch inside.buffer (buffer_history history) running (stands history s).buffer ∙ ap (λ (l : Limits). epoch_number l (buffer_history history)) (sym limits);
     } in
     record {
       stopped = λ e. absurd (not_stopped outcome stepped e);
