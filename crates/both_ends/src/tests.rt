@@ -1,24 +1,25 @@
-//! What a sender sends comes out at a receiver, though some of it is lost and the rest comes in another order.
+//! What a sender sends comes out at a receiver, though some of it is lost, the rest comes in another order, and one
+//! flow follows another.
 ghost use Rattle.std.specs.Prelude.{◌≡◌, ◌≤◌, ◌<◌, length, is_some, vec_len};
 ghost use Rattle.sender_rules.specs.Bonding.{link_count};
 ghost use Rattle.rist_wire.specs.Session.{IsSession};
-ghost use Rattle.rist_ends.specs.Told.{IsFitArrival, IsFitWhat};
 
 use bond_links::Bond;
 use outside_io::{Channel, Store8, Words};
 use outside_net::ScriptLink;
 use psk_keys::Phrase;
 use psk_seal::Sealer;
-use receiver_rules::Arrival;
 use request_rules::NackKind;
-use rist_ends::{Outcome, Outs, Receiver, Told, What};
+use rist_ends::{Outcome, Outs, Receiver, Told, What, what_of};
 use rist_sender::{Sender, Settings};
-use rist_wire::{Item, Media, Opener, Profile, Session, WireBad};
+use rist_wire::{Item, Opener, Profile, Session};
 use seq_unwrap::Width;
 use std::alloc::Global;
 use std::test::Fail;
 
 const FLOW: u32 = 0x1020_3040;
+
+const NEXT_FLOW: u32 = 0x5060_7080;
 
 /// A sender and its link.
 #[derive(Drop)]
@@ -98,6 +99,11 @@ impl Near {
         }
     }
 
+    /// The next flow begins, at number 7.
+    fn renew(&mut self) {
+        self.sender.renew(NEXT_FLOW, 7);
+    }
+
     /// How many packets are sent again for a datagram that came back.
     fn feedback(&mut self, us: u64, channel: Channel, octets: &[u8]) -> Result<u32, Fail> {
         let mut datagram = [0; 2048];
@@ -116,31 +122,6 @@ impl Near {
     }
 }
 
-fn arrival_in<'a>(media: &Media<'a>, block: &'a mut [u8; 1500]) -> Arrival<'a>
-    ensures fits { IsFitArrival result }
-{
-    let len = media.content(block);
-    Arrival {
-        flow: media.flow,
-        width: media.width,
-        word: media.word,
-        stamp: media.stamp,
-        payload: &block[..len],
-    }
-}
-
-/// What a receiver is told of a datagram.
-fn what_of<'a>(item: &'a Result<Item<'a>, WireBad>, block: &'a mut [u8; 1500]) -> What<'a>
-    ensures fits { IsFitWhat result }
-{
-    match item {
-        Ok(Item::Media(media)) => What::Media(arrival_in(media, block)),
-        Ok(Item::Control(compound)) => What::Control(compound),
-        Ok(Item::Keepalive(_)) => What::Keepalive,
-        Err(_) => What::Refused,
-    }
-}
-
 impl Far {
     fn with(
         alloc: Global,
@@ -153,6 +134,7 @@ impl Far {
     {
         let settings = rist_ends::Settings {
             delay: 1000,
+            restart: 500,
             span: 64,
             reorder: 25,
             least: 50,
@@ -260,5 +242,47 @@ fn enciphered_all_payloads_come_out(rt: HostRuntime) -> Result<(), Fail> {
     let long = session(Some(Phrase::of(b"secret")), Width::W32);
     let sealers = (Some(sealer(alloc, 1)?), Some(sealer(alloc, 100)?));
     assert!(rt; recovers(alloc, &long, sealers, NackKind::Range)?);
+    Ok(())
+}
+
+/// Two payloads are sent, and two seconds later three of another flow, of which the second is lost and asked for.
+/// Whether those of one flow come out behind those of the other.
+fn restarts(
+    alloc: Global,
+    session: &Session,
+    sealers: (Option<Sealer>, Option<Sealer>),
+) -> Result<bool, Fail>
+    requires session { IsSession session.now }
+    requires sending { is_some sealers.0 ≡ is_some session.now.pass }
+    requires receiving { is_some sealers.1 ≡ is_some session.now.pass }
+{
+    let mut near = Near::with(alloc, session, sealers.0, 65_536)?;
+    let mut far = Far::with(alloc, session, sealers.1, NackKind::Range)?;
+    for letter in b"AB" {
+        near.send(0, &[*letter])?;
+    }
+    near.renew();
+    for letter in b"CDE" {
+        near.send(2_000_000, &[*letter])?;
+    }
+    for (place, us) in [(0, 30_000), (1, 30_000), (2, 2_030_000), (4, 2_030_000)] {
+        let (channel, octets) = near.links[0].taken(place).ok_or("a datagram")?;
+        far.take(us, channel, octets)?;
+    }
+    let outs = far.tick(2_060_000)?;
+    let count = near.feedback(2_070_000, outs.first.channel(), outs.first.octets())?;
+    // Behind the answer to the receiver's RTT request.
+    let (channel, octets) = near.links[0].taken(6).ok_or("what came back")?;
+    far.take(2_080_000, channel, octets)?;
+    far.end();
+    Ok(count == 1 && near.links[0].taken(7).is_none() && far.sink.octets() == b"ABCDE".as_slice())
+}
+
+#[test]
+fn a_flow_comes_out_behind_the_one_before_it(rt: HostRuntime) -> Result<(), Fail> {
+    let alloc = rt.alloc();
+    let secret = session(Some(Phrase::of(b"secret")), Width::W16);
+    let sealers = (Some(sealer(alloc, 1)?), Some(sealer(alloc, 100)?));
+    assert!(rt; restarts(alloc, &secret, sealers)?);
     Ok(())
 }

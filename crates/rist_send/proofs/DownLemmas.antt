@@ -12,7 +12,7 @@ use Rattle.rist_wire.specs.declared.session.Session.{Session}
 use Rattle.rist_sender.specs.declared.send_bad.SendBad.{SendBad}
 use Rattle.rist_sender.specs.declared.send_bad.SendBad.TheVariants as refusals
 use Rattle.rist_sender.specs.Links.{Line, Tried, is_failed}
-use Rattle.rist_sender.specs.History.{Event, Called, Sent, Wrote, Write, is_down, tried_as, tried_on}
+use Rattle.rist_sender.specs.History.{Event, Called, Sent, Wrote, Renewed, Write, is_down, tried_as, tried_on}
 use Rattle.rist_sender.specs.Calls.{IfElse, AreDown, IsAnswer}
 use Rattle.rist_send.specs.declared.fault.SendFault.{SendFault}
 use Rattle.rist_send.specs.declared.fault.SendFault.TheVariants as faults
@@ -131,6 +131,7 @@ down_failed flow session link (Sent packet ∷ before) down = down_failed flow s
 down_failed flow session link (Wrote write ∷ before) down =
     failed_more (tried_on (tried_as flow session) link before) (write.link == link) (is_failed write.answer) (is_down before link) (tried_as flow session write)
     (failed_as flow session write) down (λ d. down_failed flow session link before d)
+down_failed flow session link (Renewed other first ∷ before) down = down_failed flow session link before down
 
 rose_where : (p : Bool) (a b : ℕ) → p ≡ true → RisesWith p a b → Rose a b
 rose_where p a b is r = subst (λ (x : Bool). RisesWith x a b) is r

@@ -8,8 +8,8 @@ use Rattle.rist_send.specs.declared.fault.SendFault.TheVariants.{ReadFault, Link
 abbrev pub joined : List (List ℕ) → List ℕ
 joined pieces = flat_map (λ piece. piece) pieces
 
--- Which octets were read and not given, behind so many that were: where a read failed or the source was too long, those of
--- a piece that wasn't read whole; where no pair or no number was left for a piece, that piece; and else none.
+-- Which octets were read and not given, behind so many that were: where a read failed or the source was too long, those
+-- of a piece that wasn't read whole; where no pair or no number was left for a piece, that piece; and else none.
 abbrev pub Drops : SendFault → ℕ → List ℕ → List ℕ → Type 0
 Drops ReadFault given dropped rest = (length dropped < 1316) × (given + length dropped ≤ 2 ^ 40)
 Drops LinksDown given dropped rest = dropped ≡ []
@@ -17,7 +17,8 @@ Drops Spent given dropped rest = (dropped ≡ []) ⊎ (pieces_of (dropped ++ res
 Drops TooLong given dropped rest = (length dropped < 1316) × (2 ^ 40 < given + length dropped)
 Drops TurnsSpent given dropped rest = dropped ≡ []
 
--- A run that failed gave the first pieces: behind them are the octets that it dropped, and the rest, which the source has left.
+-- A run that failed gave the first pieces: behind them are the octets that it dropped, and the rest, which the source
+-- has left.
 pub record GivesFirst (fault : SendFault) (octets : List ℕ) (left : Option (List ℕ)) (given : List (List ℕ)) : Type 0 where
   pub dropped : List ℕ
   pub rest : List ℕ

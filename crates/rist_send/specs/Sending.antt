@@ -34,7 +34,8 @@ pub record IsSpent (setup : Setup) (count : ℕ) (result : Result Unit SendFault
   pub same : to ≡ from
   pub answer : result ≡ result_at_last from
 
--- A run from its first turn on. Of a source that tells its octets it gave its sender the first pieces, in order, each once.
+-- A run from its first turn on. Of a source that tells its octets it gave its sender the first pieces, in order, each
+-- once.
 pub record SendsSource (setup : Setup) (result : Result Unit SendFault) (from to : Run) : Type 0 where
   pub count : ℕ
   pub before : Run

@@ -21,8 +21,8 @@ abbrev pub RisesWith : Bool → ℕ → ℕ → Type 0
 RisesWith true before now = Rose before now
 RisesWith false before now = before ≤ now
 
--- One link was given the datagrams that its history gained, and no others: it took those that it took behind what it had
--- taken, where it tells that.
+-- One link was given the datagrams that its history gained, and no others: it took those that it took behind what it
+-- had taken, where it tells that.
 pub record IsServed {L : Type 0} (line : Line L) (had has : List Tried) (was is : L) : Type 0 where
   pub gained : List Tried
   pub more : has ≡ had ++ gained

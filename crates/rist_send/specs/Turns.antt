@@ -1,5 +1,5 @@
--- A turn of a run: one moment of the clock, the next piece where it is due, one read of each link, and one tick, in this
--- order (this profile).
+-- A turn of a run: one moment of the clock, the next piece where it is due, one read of each link, and one tick, in
+-- this order (this profile).
 use Rattle.std.specs.Prelude.{◌≡◌, ℕ, ◌+◌, nat_le, List, [], ◌∷◌, ◌++◌, length, set, slice_index_or, Bool, true, false, not, ◌&&◌, if◌then◌else◌, Option, None, Some, Result, Ok, Err}
 use Rattle.std.specs.List.{range_with_len}
 use Rattle.std.specs.Option.{option_map}

@@ -6,4 +6,5 @@ pub mod EventLemmas
 pub mod PutLemmas
 pub mod TurnLemmas
 pub mod LawLemmas
+pub mod FlowLemmas
 mod Rows

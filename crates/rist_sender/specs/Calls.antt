@@ -19,7 +19,7 @@ use Rattle.rist_sender.specs.declared.send_bad.SendBad.{SendBad}
 use Rattle.rist_sender.specs.declared.send_bad.SendBad.TheVariants.{Spent, LinksDown}
 use Rattle.rist_sender.specs.Links.{is_failed}
 use Rattle.rist_sender.specs.Messages.{Message, Original, Retransmission, Report, RttAnswer, Alive, Status, first_request}
-use Rattle.rist_sender.specs.History.{Write, Event, Called, Sent, Wrote, effective_time, sendings_of, packet_count, octet_count, again_count, is_down, is_report, is_alive, last_time}
+use Rattle.rist_sender.specs.History.{Write, Event, Called, Sent, Wrote, Renewed, effective_time, sendings_of, packet_count, octet_count, again_count, is_down, is_report, is_alive, last_time}
 
 -- what a sender did, the sealer that gives its pairs if it has one, and whether its last call came to a datagram for which there
 -- was no pair
@@ -35,6 +35,14 @@ with_event event work = record { history = event ∷ work.history; sealer = work
 -- a call begins
 abbrev pub called_at : ℕ → Work → Work
 called_at micros work = record { history = Called micros ∷ work.history; sealer = work.sealer; is_short = false }
+
+-- another flow begins: its numbers and counts are its own, and sealer, effective time and links are those of before
+abbrev pub renewed_as : ℕ → ℕ → Work → Work
+renewed_as flow first work = record {
+  history = Renewed flow first ∷ work.history;
+  sealer = work.sealer;
+  is_short = false;
+}
 
 -- a datagram has no pair
 abbrev pub without_pair : Work → Work

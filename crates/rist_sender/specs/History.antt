@@ -18,11 +18,13 @@ pub record Write : Type 0 where
   pub tick : ℕ
   pub answer : Answer
 
--- the sender was called, at a moment in microseconds; a payload was sent as this packet; a datagram was written
+-- the sender was called, at a moment in microseconds; a payload was sent as this packet; a datagram was written;
+-- another flow began, with this SSRC and this first number
 pub data Event : Type 0 where
   Called : ℕ → Event
   Sent : Packet → Event
   Wrote : Write → Event
+  Renewed : ℕ → ℕ → Event
 
 -- the effective time: the greatest tick so far. A clock may go back, and this does not
 abbrev pub effective_time : List Event → ℕ
@@ -30,6 +32,7 @@ effective_time [] = 0
 effective_time (Called micros ∷ before) = max (tick_of micros) (effective_time before)
 effective_time (Sent packet ∷ before) = effective_time before
 effective_time (Wrote write ∷ before) = effective_time before
+effective_time (Renewed flow first ∷ before) = effective_time before
 
 -- ---- what was sent
 
@@ -41,23 +44,26 @@ sending_as tick (Report status) before = before
 sending_as tick (RttAnswer status echo) before = before
 sending_as tick Alive before = before
 
--- the sendings of media, as the rules of storing and sending again see them
+-- The sendings of media of the flow that is sent now, as the rules of storing and sending again see them: those of the
+-- flows before it count no more, so nothing of them is stored or sent again.
 abbrev pub sendings_of : List Event → List Sending
 sendings_of [] = []
 sendings_of (Called micros ∷ before) = sendings_of before
 sendings_of (Sent packet ∷ before) = First packet ∷ sendings_of before
 sendings_of (Wrote write ∷ before) = sending_as write.tick write.message (sendings_of before)
+sendings_of (Renewed flow first ∷ before) = []
 
--- how many payloads were sent, each once
+-- how many payloads of this flow were sent, each once
 abbrev pub packet_count : List Event → ℕ
 packet_count history = length (sent_packets (sendings_of history))
 
--- how many octets of payload were sent, each once
+-- how many octets of payload of this flow were sent, each once
 abbrev pub octet_count : List Event → ℕ
 octet_count [] = 0
 octet_count (Called micros ∷ before) = octet_count before
 octet_count (Sent packet ∷ before) = octet_count before + length packet.payload
 octet_count (Wrote write ∷ before) = octet_count before
+octet_count (Renewed flow first ∷ before) = 0
 
 -- one for a retransmission that didn't fail
 abbrev pub counted_again : Message → Answer → ℕ
@@ -67,12 +73,13 @@ counted_again (Report status) answer = 0
 counted_again (RttAnswer status echo) answer = 0
 counted_again Alive answer = 0
 
--- how many packets were sent again
+-- how many packets of this flow were sent again
 abbrev pub again_count : List Event → ℕ
 again_count [] = 0
 again_count (Called micros ∷ before) = again_count before
 again_count (Sent packet ∷ before) = again_count before
 again_count (Wrote write ∷ before) = again_count before + counted_again write.message write.answer
+again_count (Renewed flow first ∷ before) = 0
 
 -- ---- what became of the links
 
@@ -82,6 +89,7 @@ is_down [] link = false
 is_down (Called micros ∷ before) link = is_down before link
 is_down (Sent packet ∷ before) link = is_down before link
 is_down (Wrote write ∷ before) link = (write.link == link && is_failed write.answer) || is_down before link
+is_down (Renewed flow first ∷ before) link = is_down before link
 
 -- a message is a report
 abbrev pub is_report : Message → Bool
@@ -106,6 +114,7 @@ last_time is_meant (Called micros ∷ before) link = last_time is_meant before l
 last_time is_meant (Sent packet ∷ before) link = last_time is_meant before link
 last_time is_meant (Wrote write ∷ before) link =
     if write.link == link && is_meant write.message then Some write.tick else last_time is_meant before link
+last_time is_meant (Renewed flow first ∷ before) link = last_time is_meant before link
 
 -- ---- what each link was given
 
@@ -123,3 +132,4 @@ tried_on seen link [] = []
 tried_on seen link (Called micros ∷ before) = tried_on seen link before
 tried_on seen link (Sent packet ∷ before) = tried_on seen link before
 tried_on seen link (Wrote write ∷ before) = tried_on seen link before ++ (if write.link == link then seen write ∷ [] else [])
+tried_on seen link (Renewed flow first ∷ before) = tried_on seen link before

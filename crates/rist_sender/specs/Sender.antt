@@ -10,9 +10,9 @@ use Rattle.rist_sender.specs.Links.{Line, Tried, Delivers}
 use Rattle.rist_sender.specs.History.{Event, effective_time, sendings_of, packet_count, octet_count, is_down, is_report, is_alive, last_time, tried_as, tried_on}
 use Rattle.rist_sender.specs.Calls.{Work, Rules}
 
--- what it is set to, its session and its sealer; and what it keeps of its calls: the packets that it stores, the effective time, how
--- many packets and, modulo 2^32, how many octets it sent, and of each link whether it is down and when it last had a report and a
--- keepalive
+-- what it is set to, its session and its sealer; and what it keeps of its calls: the packets that it stores, the
+-- effective time, how many packets and, modulo 2^32, how many octets of its flow it sent, and of each link whether it is
+-- down and when it last had a report and a keepalive
 pub record SenderState : Type 0 where
   pub flow : ℕ
   pub first : ℕ

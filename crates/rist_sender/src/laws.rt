@@ -1,5 +1,7 @@
-//! What the definitions of a sender's datagrams mean at the other end.
-ghost use Rattle.std.specs.Prelude.{◌≡◌, ◌%◌, ◌^◌, ◌<◌, ◌≤◌, ℕ, Bool, true, false, List, All, Option, Ok, is_some};
+//! What the definitions of a sender's datagrams mean at the other end, and what its history means where flows follow
+//! one another.
+ghost use Rattle.std.specs.Prelude.{◌≡◌, ◌%◌, ◌^◌, ◌<◌, ◌≤◌, ℕ, Bool, true, false, List, [], ◌∷◌, ◌++◌, All};
+ghost use Rattle.std.specs.Prelude.{Option, Ok, is_some};
 ghost use Rattle.std.specs.Prelude.{length, if◌then◌else◌};
 ghost use Rattle.ts_nulls.specs.Nulls.{blanking_of};
 ghost use Rattle.seq_unwrap.specs.declared.width.Width.{Width};
@@ -12,8 +14,11 @@ ghost use Rattle.rist_wire.specs.Media.{content_of};
 ghost use Rattle.rist_wire.specs.Item.{item_of};
 ghost use Rattle.rist_wire.specs.Writing.{IsPair};
 ghost use Rattle.rist_wire.specs.Packets.{media_value};
-ghost use Rattle.rist_sender.specs.Messages.{Original, Retransmission, media_of, message_channel, message_datagram};
-ghost use Rattle.rist_sender.specs.Calls.{packet_for};
+ghost use Rattle.rtcp_compound.specs.Compound.{Content};
+ghost use Rattle.rist_sender.specs.Messages.{Message, Original, Retransmission, media_of, message_channel};
+ghost use Rattle.rist_sender.specs.Messages.{message_datagram};
+ghost use Rattle.rist_sender.specs.History.{Event, Renewed, effective_time, sendings_of, is_down, last_time};
+ghost use Rattle.rist_sender.specs.Calls.{Rules, packet_for, packets_again, status_at};
 
 /// In its session the datagram of a payload is taken as media of the flow with its packet's number and timestamp, as an
 /// original or as a retransmission; and its content is the payload, each null packet that was deleted put back as the
@@ -38,4 +43,22 @@ pub fn each_payload_is_taken()
     ensures content { (width : Width) (nulls again : Bool) (flow number tick : ℕ) (payload : List ℕ)
         → content_of (media_value width (media_of flow again (packet_for nulls number tick payload)))
         ≡ (if nulls then blanking_of payload else payload) }
+{}
+
+/// Where a flow begins behind another, what is stored, sent again and counted in reports is that of its own packets,
+/// whatever was sent before it. The effective time, the links that are down, and when a link last had a report or a
+/// keepalive are those of both.
+pub fn a_flow_begins_anew()
+    ensures sendings { (flow first : ℕ) (since before : List Event)
+        → sendings_of (since ++ Renewed flow first ∷ before) ≡ sendings_of since }
+    ensures report { (flow first micros : ℕ) (since before : List Event)
+        → status_at micros (since ++ Renewed flow first ∷ before) ≡ status_at micros since }
+    ensures again { (rules : Rules) (compound : List Content) (flow first : ℕ) (before : List Event)
+        → packets_again rules (Renewed flow first ∷ before) compound ≡ [] }
+    ensures time { (flow first : ℕ) (since before : List Event)
+        → effective_time (since ++ Renewed flow first ∷ before) ≡ effective_time (since ++ before) }
+    ensures down { (flow first link : ℕ) (since before : List Event)
+        → is_down (since ++ Renewed flow first ∷ before) link ≡ is_down (since ++ before) link }
+    ensures last { (is_meant : Message → Bool) (flow first link : ℕ) (since before : List Event)
+        → last_time is_meant (since ++ Renewed flow first ∷ before) link ≡ last_time is_meant (since ++ before) link }
 {}

@@ -12,7 +12,7 @@ use std::marker::Model;
 
 /// The sending end of a flow. `send`, `feedback` and `tick` bring input, each at a moment of the caller's clock in
 /// microseconds, and write datagrams on the links that are handed in. Each call's moment counts as at least that of the
-/// calls before it. A link on which a write failed is down for good.
+/// calls before it. A link on which a write failed is down for good. `renew` begins another flow over the same links.
 #[derive(Drop)]
 pub struct Sender {
     pub(crate) flow: u32,
@@ -61,7 +61,7 @@ impl Sender {
     ghost use Rattle.sender_rules.specs.declared.bounds.TheConstants.{MAX_STORED, MAX_LINKS};
     ghost use Rattle.rist_wire.specs.Session.{IsSession};
     ghost use Rattle.rist_sender.specs.Sender.{IsSenderAfter, rules_of};
-    ghost use Rattle.rist_sender.specs.Calls.{Work, called_at, IsAnswer};
+    ghost use Rattle.rist_sender.specs.Calls.{Work, called_at, renewed_as, IsAnswer};
 
     /// A sender that was not called yet. All memory is taken here. A sealer is handed in exactly where the session has
     /// a passphrase.
@@ -99,6 +99,29 @@ impl Sender {
             reports: [None; 16],
             keepalives: [None; 16],
         })
+    }
+
+    /// Another flow begins: the next packet has this SSRC, which is even, and this number. Nothing that was sent before
+    /// is sent again, and reports count anew, as they do where an SSRC changes (RFC 3550, section 6.4.1). Sealer,
+    /// effective time and links go on: timestamps don't fall, a link that is down stays so, and its next report and
+    /// keepalive are due when they were. No memory is taken.
+    pub fn renew(&mut self, flow: u32, first: u32)
+        requires flow { flow % 2 ≡ 0 }
+        ensures value { self.new ≡ record self.old {
+          flow = flow;
+          first = first;
+          store = record { size = self.old.store.size; packets = [] };
+          count = 0;
+          octets = 0;
+        } }
+        ensures state { (from : Work) → IsSenderAfter self.old from
+            → IsSenderAfter self.new (renewed_as flow first from) }
+    {
+        self.flow = flow;
+        self.first = first;
+        self.store.empty();
+        self.count = 0;
+        self.octets = 0;
     }
 
     /// Whether a link isn't down: no write on it has failed.

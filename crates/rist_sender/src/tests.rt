@@ -236,3 +236,29 @@ fn a_request_for_the_round_trip_time_is_answered_first(rt: HostRuntime) -> Resul
     );
     Ok(())
 }
+
+#[test]
+fn a_flow_begins_behind_another_with_nothing_of_it(rt: HostRuntime) -> Result<(), Fail> {
+    let mut flow = alone(rt.alloc(), Profile::Simple, 100)?;
+    for letter in b"ABC" {
+        assert_eq!(rt; flow.send(0, &[*letter]), Ok(()));
+    }
+    flow.sender.renew(0x5060_7080, 7);
+    assert_eq!(rt; flow.feedback(0, 0, &ASKS_FOR_THREE)?, 0);
+    assert_eq!(rt; flow.send(0, b"DE"), Ok(()));
+    let next = [
+        0x80, 0x21, 0, 7, 0, 0, 0, 0, 0x50, 0x60, 0x70, 0x80, b'D', b'E',
+    ];
+    assert_eq!(rt; flow.took(0, 3), Some((Channel::Media, next.as_slice())));
+    assert_eq!(rt; flow.tick(1_500_000), Ok(()));
+    let report = [
+        0x80, 0xC8, 0, 6, 0x50, 0x60, 0x70, 0x80, 0, 0, 0, 1, 0x80, 0, 0, 0, 0, 2, 0x0F, 0x58, 0,
+        0, 0, 1, 0, 0, 0, 2, 0x81, 0xCA, 0, 3, 0x50, 0x60, 0x70, 0x80, 1, 4, 0x72, 0x69, 0x73,
+        0x74, 0, 0,
+    ];
+    assert_eq!(rt;
+        flow.took(0, 4),
+        Some((Channel::Control, report.as_slice()))
+    );
+    Ok(())
+}
