@@ -192,7 +192,7 @@ only-too-long : (at head kept body : ℕ) (kind : PcapKind) → head ≡ 16 → 
 only-too-long at head kept body kind a b c e = grind (arith, nat_tests)
 
 -- Where a test fails but the one of the offset, no record stands.
-no-record-at-fault : (order : ByteOrder) (at : ℕ) (kind : PcapKind) (rest : List ℕ) → fault_at order at rest ≡ Some kind → (kind ≡ TooLong → ⊥) → NoRecord order rest
+pub no-record-at-fault : (order : ByteOrder) (at : ℕ) (kind : PcapKind) (rest : List ℕ) → fault_at order at rest ≡ Some kind → (kind ≡ TooLong → ⊥) → NoRecord order rest
 unfolding head-of
 no-record-at-fault order at kind rest found other packet more f e =
     let head : List ℕ = head-of order packet in

@@ -213,8 +213,10 @@ fn a_frame_carries_its_datagram_to_its_port(rt: HostRuntime) -> Result<(), Fail>
             assert_eq!(rt; payload, &WORKED[68..]);
         }
     }
-    // An Ethernet header that is cut, and a packet that isn't UDP.
+    // An Ethernet header that is cut, an IPv4 header that is, and a packet that isn't UDP but TCP.
     assert!(rt; datagram_in(1, b"aaaaaabbbbbb\x08", Profile::Main, 1968).is_none());
     assert!(rt; datagram_in(101, b"E", Profile::Main, 1968).is_none());
+    let octets = joined(rt.alloc(), &[&WORKED[40..49], b"\x06", &WORKED[50..]])?;
+    assert!(rt; datagram_in(101, octets.as_slice(), Profile::Main, 1968).is_none());
     Ok(())
 }
