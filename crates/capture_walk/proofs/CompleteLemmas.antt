@@ -54,22 +54,8 @@ too_long_in b at fault (r ∷ rs) each whole bound =
     absurd (omega (arith, far, all, rest, fault.place, bound, length-append magic (flat_map spelling fault.done ++ fault.rest), length-append (flat_map spelling fault.done) fault.rest, length-append (spelling r) (flat_map spelling rs)))
 
 -- no record of a capture within the greatest offset is too long
-no_too_long : (b : List ℕ) (at : ℕ) (rs : List Record) → BadAt b TooLong at → IsCapture rs b → length b ≤ 2 ^ 40 → ⊥
+pub no_too_long : (b : List ℕ) (at : ℕ) (rs : List Record) → BadAt b TooLong at → IsCapture rs b → length b ≤ 2 ^ 40 → ⊥
 no_too_long b at rs (inl name) c bound = name.2 (ap (take 8) c.whole)
 no_too_long b at rs (inr fault) c bound =
     let o = behind fault.done rs fault.rest fault.each c.each (ap (drop 8) (sym fault.whole ∙ c.whole)) in
     too_long_in b at fault o.others o.each o.whole bound
-
--- a walk over a capture within the greatest offset, in which nothing failed and no memory was refused, came to the end
-pub walk_completes : (so_far whole : List Record → List ℕ) (ahead : ℕ) (p : Passage) (end : Result Unit WalkBad) (b : List ℕ) (rs : List Record) → p.had ≡ Some b → IsCapture rs b → length b ≤ 2 ^ 40
-    → (end ≡ Err bads.ReadFault → ⊥) → (end ≡ Err bads.WriteFault → ⊥) → (end ≡ Err bads.Memory → ⊥) → Leaves so_far whole ahead p end → end ≡ Ok tt
-walk_completes so_far whole ahead p (Ok x) b rs told c bound read write memory left = refl
-walk_completes so_far whole ahead p (Err (bads.BadCapture kind at)) b rs told c bound read write memory left =
-    let l = subst (λ o. IfSome o (λ b. (done : List Record) × EndsAfter 0 b p.left done (Err (bads.BadCapture kind at)) × Appends p.held p.holds (whole done))) told left in
-    absurd (no_capture b kind at rs l.1.1 l.1.0 c)
-walk_completes so_far whole ahead p (Err bads.TooLong) b rs told c bound read write memory left =
-    let l = subst (λ o. IfSome o (λ b. (done : List Record) × EndsAfter 0 b p.left done (Err bads.TooLong) × Appends p.held p.holds (whole done))) told left in
-    absurd (no_too_long b l.1.0 rs l.1.1 c bound)
-walk_completes so_far whole ahead p (Err bads.ReadFault) b rs told c bound read write memory left = absurd (read refl)
-walk_completes so_far whole ahead p (Err bads.WriteFault) b rs told c bound read write memory left = absurd (write refl)
-walk_completes so_far whole ahead p (Err bads.Memory) b rs told c bound read write memory left = absurd (memory refl)

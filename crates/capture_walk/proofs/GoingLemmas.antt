@@ -10,7 +10,7 @@ use Rattle.outside_io.proofs.ToldLemmas.{appends_none, appends_both, takes_none,
 use Rattle.capture_file.specs.Capture.{Record, Fits, magic, spelling}
 use Rattle.capture_file.specs.Reading.{ReadsNext, name_at, offset_at}
 use Rattle.capture_file.specs.Heads.{record_of}
-use Rattle.capture_file.specs.Reader.{ReaderState}
+use Rattle.capture_file.specs.Reader.{ReaderState, new_reader}
 use Rattle.capture_file.specs.declared.head.Head.{Head}
 use Rattle.capture_walk.specs.Inside.Sofar.{Rest, HasRead, Sofar}
 
@@ -91,16 +91,24 @@ left_of x taken (Some c) t = record { rest = c; told = refl; whole = some_same x
     some_same a b e = cc
 
 -- before the first record
-pub at_start : {V : Type 0} (so_far : List Record → List ℕ) (has_seen : V → List Record → Type 0) (reader : ReaderState) (u : Option (List ℕ)) (visitor : V)
-    → reader.at ≡ 0 → has_seen visitor [] → so_far [] ≡ [] → Sofar so_far has_seen reader.remaining reader visitor u u
-at_start so_far has_seen reader u visitor zero seen empty = record {
+at_start : (remaining : Option (List ℕ)) → HasRead remaining remaining 0 []
+at_start remaining = record {
+  each = All-nil Fits;
+  place = refl;
+  bound = omega arith;
+  rest = ([], takes_none remaining, refl);
+}
+
+-- a new reader has read nothing
+pub new_has_read : (remaining : Option (List ℕ)) (faults : ℕ) (reader : ReaderState) → reader ≡ new_reader remaining faults → HasRead reader.remaining reader.remaining reader.at []
+new_has_read remaining faults reader is = subst (λ (r : ReaderState). HasRead r.remaining r.remaining r.at []) (sym is) (at_start remaining)
+
+-- a walk begins with nothing written
+pub begins : {R V : Type 0} (so_far : List Record → List ℕ) (has_read : R → Option (List ℕ) → List Record → Type 0) (has_seen : V → List Record → Type 0) (first u : Option (List ℕ)) (reader : R) (visitor : V)
+    → has_read reader first [] → has_seen visitor [] → so_far [] ≡ [] → Sofar so_far has_read has_seen first reader visitor u u
+begins so_far has_read has_seen first u reader visitor read seen empty = record {
   done = [];
-  read = record {
-    each = All-nil Fits;
-    place = subst (λ n. offset_at n ≡ 8) (sym zero) refl;
-    bound = omega arith;
-    rest = subst (λ n. Rest reader.remaining reader.remaining n []) (sym zero) ([], takes_none reader.remaining, refl);
-  };
+  read = read;
   seen = seen;
   sink = subst (Appends u u) (sym empty) (appends_none u);
 }

@@ -16,4 +16,5 @@ walk_fault walks.Memory = NoFault
 walk_fault walks.ReadFault = Read
 walk_fault walks.WriteFault = Write
 walk_fault (walks.BadCapture kind at) = NoFault
+walk_fault (walks.BadPcap kind at) = NoFault
 walk_fault walks.TooLong = NoFault

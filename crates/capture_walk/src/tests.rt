@@ -1,7 +1,8 @@
-//! Walks with a visitor that copies: whole captures, cut ones, and each way to fail.
+//! Walks with a visitor that copies: whole captures and pcap files, cut ones, and each way to fail.
 use super::*;
 use capture_file::{CapKind, Head, Reader};
-use outside_io::{Bytes, Failed, Pieces, Sink, Source, Store8};
+use outside_io::{Bytes, Failed, Pieces, Profile, Sink, Source, Store8};
+use pcap_file::PcapKind;
 use std::alloc::Global;
 use std::test::Fail;
 
@@ -45,6 +46,7 @@ impl Visitor for Copier {
 }
 
 /// Whether a walk over the source ends so, and leaves these octets in the sink.
+#[tactic(auto, using(crate::proofs::GoingLemmas::new_has_read))]
 fn leaves<S: Source + Drop>(
     source: S,
     sink: Store8,
@@ -55,6 +57,78 @@ fn leaves<S: Source + Drop>(
     let mut sink = sink;
     let result = walk(&mut reader, &mut Copier, &mut sink);
     result == want && sink.octets() == written
+}
+
+/// A pcap file of raw IP packets to the UDP ports 1968, 1969 and 1970, each with one octet of data: `A`, `B` and `C`.
+const PACKETS: &[u8] = b"\xA1\xB2\xC3\xD4\0\x02\0\x04\0\0\0\0\0\0\0\0\0\0\0\0\0\0\0\x65\
+    \0\0\0\0\0\0\0\x01\0\0\0\x1D\0\0\0\x1D\
+    E\0\0\x1D\0\0\0\0\x40\x11\0\0\x0A\0\0\x01\x0A\0\0\x02\x07\xB0\x07\xB0\0\x09\0\0A\
+    \0\0\0\0\0\0\0\x02\0\0\0\x1D\0\0\0\x1D\
+    E\0\0\x1D\0\0\0\0\x40\x11\0\0\x0A\0\0\x01\x0A\0\0\x02\x07\xB0\x07\xB1\0\x09\0\0B\
+    \0\0\0\0\0\0\0\x03\0\0\0\x1D\0\0\0\x1D\
+    E\0\0\x1D\0\0\0\0\x40\x11\0\0\x0A\0\0\x01\x0A\0\0\x02\x07\xB0\x07\xB2\0\x09\0\0C";
+
+/// The same of a pcap file's datagrams to a UDP port.
+fn leaves_of_port<S: Source + Drop>(
+    source: S,
+    profile: Profile,
+    port: u16,
+    sink: Store8,
+    want: Result<(), WalkBad>,
+    written: &[u8],
+) -> bool {
+    let mut reader = PortReader::over(source, profile, port);
+    let mut sink = sink;
+    let result = walk(&mut reader, &mut Copier, &mut sink);
+    result == want && sink.octets() == written
+}
+
+#[test]
+fn the_datagrams_to_a_port_are_a_pcap_files_records(rt: HostRuntime) -> Result<(), Fail> {
+    let alloc = rt.alloc();
+    let cases: [(Profile, u16, &[u8]); 5] = [
+        (Profile::Simple, 1968, b"AB."),
+        (Profile::Simple, 1970, b"C."),
+        (Profile::Main, 1968, b"A."),
+        (Profile::Main, 1969, b"B."),
+        (Profile::Main, 1971, b"."),
+    ];
+    for (profile, port, written) in cases {
+        for cut in 1..PACKETS.len() {
+            let source = Pieces::with(alloc, PACKETS, &[cut], &[])?;
+            let sink = Store8::with(alloc, 8, &[])?;
+            assert!(rt; leaves_of_port(source, profile, port, sink, Ok(()), written));
+        }
+    }
+    Ok(())
+}
+
+#[test]
+fn a_pcap_file_that_breaks_off_is_ended_after_its_whole_frames(
+    rt: HostRuntime,
+) -> Result<(), Fail> {
+    let alloc = rt.alloc();
+    for len in 0..PACKETS.len() {
+        let (want, written): (Result<(), WalkBad>, &[u8]) = match len {
+            0..4 => (Err(WalkBad::BadPcap(PcapKind::Magic, 0)), b"."),
+            4..24 => (Err(WalkBad::BadPcap(PcapKind::Truncated, 0)), b"."),
+            24 => (Ok(()), b"."),
+            25..69 => (Err(WalkBad::BadPcap(PcapKind::Truncated, 24)), b"."),
+            69 => (Ok(()), b"A."),
+            70..114 => (Err(WalkBad::BadPcap(PcapKind::Truncated, 69)), b"A."),
+            114 => (Ok(()), b"AB."),
+            _ => (Err(WalkBad::BadPcap(PcapKind::Truncated, 114)), b"AB."),
+        };
+        let source = Bytes::with(alloc, &PACKETS[..len], &[])?;
+        let sink = Store8::with(alloc, 8, &[])?;
+        assert!(rt; leaves_of_port(source, Profile::Simple, 1968, sink, want, written));
+    }
+    // A read fails behind the first record.
+    let source = Pieces::with(alloc, PACKETS, &[69], &[1])?;
+    let sink = Store8::with(alloc, 8, &[])?;
+    let fault = Err(WalkBad::ReadFault);
+    assert!(rt; leaves_of_port(source, Profile::Simple, 1968, sink, fault, b"A."));
+    Ok(())
 }
 
 #[test]
@@ -139,6 +213,10 @@ fn each_end_has_its_text(rt: HostRuntime) -> Result<(), Fail> {
         (
             WalkBad::BadCapture(CapKind::Truncated, 33),
             "bad capture: truncated at 33",
+        ),
+        (
+            WalkBad::BadPcap(PcapKind::LinkType, 0),
+            "bad pcap: link type at 0",
         ),
         (WalkBad::TooLong, "input too long"),
     ] {

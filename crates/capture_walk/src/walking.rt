@@ -3,35 +3,36 @@ ghost use Rattle.std.specs.Prelude.{◌≡◌, ◌≤◌, ◌<◌, ◌⊎◌, �
 ghost use Rattle.outside_io.specs.Causes.{HasReadCause, HasWriteCause, fault_by};
 ghost use Rattle.capture_walk.specs.Causes.{walk_fault};
 ghost use Rattle.capture_walk.specs.Leaves.{Leaves, passage};
-ghost use Rattle.capture_walk.specs.Inside.Turns.{IfOn, IfOver, TakesOneOrSpent};
+ghost use Rattle.capture_walk.specs.Inside.Turns.{IfOn, IfOver};
 ghost use Rattle.capture_walk.specs.Inside.Sofar.{Sofar};
 ghost use Rattle.capture_walk.specs.declared.walk_bad.WalkBad.TheVariants.{ReadFault, WriteFault, Memory};
 
+use crate::records::Records;
 use crate::visitor::{VisitBad, Visitor};
 use crate::walk_bad::WalkBad;
-use capture_file::Reader;
-use outside_io::{Sink, Source};
+use outside_io::Sink;
 
-/// Brings each record of a capture to a visitor, and then the end: after the last record, and also where no record stands
+/// Brings each record of a file to a visitor, and then the end: after the last record, and also where no record stands
 /// at an offset, where a read fails, or where a record ends past 2^40 octets. No more than one record is kept.
-pub fn walk<S: Source, V: Visitor, K: Sink>(
-    reader: &mut Reader<S>,
+pub fn walk<R: Records, V: Visitor, K: Sink>(
+    reader: &mut R,
     visitor: &mut V,
     sink: &mut K,
 ) -> Result<(), WalkBad>
-    requires start { reader.old.at ≡ 0 }
-    requires running { reader.old.spent ≡ false }
+    requires start { R.has_read reader.old (R.remaining reader.old) [] }
+    requires running { R.spent reader.old ≡ false }
     requires fresh { V.has_seen visitor.old [] }
     requires empty { V.so_far visitor.old [] ≡ [] }
-    ensures work { Leaves (V.so_far visitor.old) (V.whole visitor.old) 0
-        (passage reader.old reader.new (K.contents sink.old) (K.contents sink.new)) result }
+    ensures work { Leaves (R.form reader.old) (V.so_far visitor.old) (V.whole visitor.old) 0
+        (passage (R.remaining reader.old) (R.remaining reader.new) (K.contents sink.old) (K.contents sink.new))
+        result }
     // Where a write fails before the capture has come to an end, no read has failed.
     ensures stopped { IsErrOf result WriteFault
-        → (reader.new.faults ≡ reader.old.faults) ⊎ (reader.new.spent ≡ true) }
+        → (R.faults reader.new ≡ R.faults reader.old) ⊎ (R.spent reader.new ≡ true) }
     // Memory is the answer only of a visitor that wants some.
     ensures memory { IsErrOf result Memory → IsTrue V.wants_memory }
-    ensures ahead { IsErrOf result ReadFault → reader.new.ahead ≡ [] }
-    ensures read { HasReadCause (fault_by walk_fault result) reader.old.faults reader.new.faults }
+    ensures ahead { IsErrOf result ReadFault → R.ahead reader.new ≡ [] }
+    ensures read { HasReadCause (fault_by walk_fault result) (R.faults reader.old) (R.faults reader.new) }
     ensures write { HasWriteCause (fault_by walk_fault result) (K.faults sink.old) (K.faults sink.new) }
 {
     let mut block = [0; 2048];
@@ -45,33 +46,35 @@ pub fn walk<S: Source, V: Visitor, K: Sink>(
 }
 
 /// Reads a record and brings it to the visitor; says whether there was one. Else brings the end.
-fn visit_next<S: Source, V: Visitor, K: Sink>(
-    reader: &mut Reader<S>,
+fn visit_next<R: Records, V: Visitor, K: Sink>(
+    reader: &mut R,
     visitor: &mut V,
     block: &mut [u8; 2048],
     sink: &mut K,
 ) -> Result<bool, WalkBad>
-    requires fresh { reader.old.spent ≡ false }
+    requires running { R.spent reader.old ≡ false }
     ensures on { IfOn result ((first u : Option (List ℕ))
-        → Sofar (V.so_far visitor.old) V.has_seen first reader.old visitor.old u (K.contents sink.old)
-        → Sofar (V.so_far visitor.old) V.has_seen first reader.new visitor.new u (K.contents sink.new)) }
+        → Sofar (V.so_far visitor.old) R.has_read V.has_seen first reader.old visitor.old u (K.contents sink.old)
+        → Sofar (V.so_far visitor.old) R.has_read V.has_seen first reader.new visitor.new u (K.contents sink.new)) }
     ensures over { IfOver result (λ end. (first u : Option (List ℕ))
-        → Sofar (V.so_far visitor.old) V.has_seen first reader.old visitor.old u (K.contents sink.old)
-        → Leaves (V.so_far visitor.old) (V.whole visitor.old) 0
-        (record { had = first; left = reader.new.remaining; held = u; holds = K.contents sink.new }) end) }
+        → Sofar (V.so_far visitor.old) R.has_read V.has_seen first reader.old visitor.old u (K.contents sink.old)
+        → Leaves (R.form reader.old) (V.so_far visitor.old) (V.whole visitor.old) 0
+        (passage first (R.remaining reader.new) u (K.contents sink.new)) end) }
     ensures same { IfOn result ((V.so_far visitor.new ≡ V.so_far visitor.old)
         × (V.whole visitor.new ≡ V.whole visitor.old)) }
-    ensures progress { IfOn result ((reader.old.at < reader.new.at)
-        × (reader.new.at ≤ 2 ^ 40) × (reader.new.spent ≡ false)) }
-    // After a failed write no further record was taken.
-    ensures stopped { IsErrOf result WriteFault → TakesOneOrSpent reader.old reader.new }
+    ensures form { R.form reader.new ≡ R.form reader.old }
+    ensures progress { IfOn result ((R.at reader.old < R.at reader.new)
+        × (R.at reader.new ≤ 2 ^ 40) × (R.spent reader.new ≡ false)) }
+    // Where the write of a record failed, no read has.
+    ensures stopped { IsErrOf result WriteFault
+        → (R.faults reader.new ≡ R.faults reader.old) ⊎ (R.spent reader.new ≡ true) }
     // Memory is the answer only of a visitor that wants some.
     ensures memory { IsErrOf result Memory → IsTrue V.wants_memory }
-    ensures ahead { IsErrOf result ReadFault → reader.new.ahead ≡ [] }
-    ensures read { HasReadCause (fault_by walk_fault result) reader.old.faults reader.new.faults }
+    ensures ahead { IsErrOf result ReadFault → R.ahead reader.new ≡ [] }
+    ensures read { HasReadCause (fault_by walk_fault result) (R.faults reader.old) (R.faults reader.new) }
     ensures write { HasWriteCause (fault_by walk_fault result) (K.faults sink.old) (K.faults sink.new) }
 {
-    match reader.next(block) {
+    match reader.next_record(block) {
         Ok(Some(head)) => {
             let octets = &mut block[..head.length as usize];
             match visitor.record(&head, octets, sink) {
@@ -85,7 +88,7 @@ fn visit_next<S: Source, V: Visitor, K: Sink>(
             Err(_) => Err(WalkBad::WriteFault),
         },
         Err(bad) => match visitor.finish(sink) {
-            Ok(()) => Err(WalkBad::from(bad)),
+            Ok(()) => Err(bad),
             Err(_) => Err(WalkBad::WriteFault),
         },
     }

@@ -3,7 +3,6 @@ use Rattle.std.specs.Prelude.{◌≡◌, ◌+◌, ◌^◌, ◌≤◌, ℕ, List,
 use Rattle.outside_io.specs.Told.{Appends, Takes}
 use Rattle.capture_file.specs.Capture.{Record, Fits, magic, spelling}
 use Rattle.capture_file.specs.Reading.{name_at, offset_at}
-use Rattle.capture_file.specs.Reader.{ReaderState}
 
 -- of the octets that were told first, these records were read by a reader that stands at this offset
 abbrev pub Rest : Option (List ℕ) → Option (List ℕ) → ℕ → List Record → Type 0
@@ -17,9 +16,9 @@ pub record HasRead (first remaining : Option (List ℕ)) (at : ℕ) (done : List
   pub rest : Rest first remaining at done
 
 -- records were read and taken, and the sink holds what was written of them
-pub record Sofar {V : Type 0} (so_far : List Record → List ℕ) (has_seen : V → List Record → Type 0)
-    (first : Option (List ℕ)) (reader : ReaderState) (visitor : V) (held holds : Option (List ℕ)) : Type 0 where
+pub record Sofar {R V : Type 0} (so_far : List Record → List ℕ) (has_read : R → Option (List ℕ) → List Record → Type 0)
+    (has_seen : V → List Record → Type 0) (first : Option (List ℕ)) (reader : R) (visitor : V) (held holds : Option (List ℕ)) : Type 0 where
   pub done : List Record
-  pub read : HasRead first reader.remaining reader.at done
+  pub read : has_read reader first done
   pub seen : has_seen visitor done
   pub sink : Appends held holds (so_far done)

@@ -1,9 +1,5 @@
 -- What one turn of a walk came to.
-use Rattle.std.specs.Prelude.{◌≡◌, ◌⊎◌, Bool, true, false, ◌++◌, Result, Ok, Err}
-use Rattle.outside_io.specs.Told.{Takes}
-use Rattle.capture_file.specs.Capture.{Record, Fits, spelling}
-use Rattle.capture_file.specs.Reader.{ReaderState}
-use Rattle.capture_file.specs.Reading.{name_at}
+use Rattle.std.specs.Prelude.{Bool, true, false, Result, Ok, Err}
 use Rattle.capture_walk.specs.declared.walk_bad.WalkBad.{WalkBad}
 
 -- P holds where a record was taken
@@ -17,14 +13,3 @@ abbrev pub IfOver : Result Bool WalkBad → (Result Unit WalkBad → Type 0) →
 IfOver (Ok true) P = Unit {0}
 IfOver (Ok false) P = P (Ok tt)
 IfOver (Err bad) P = P (Err bad)
-
--- a reader took one record, and no read failed
-pub record TakesOne (old new : ReaderState) : Type 0 where
-  pub one : Record
-  pub fits : Fits one
-  pub taken : Takes old.remaining new.remaining (name_at old.at ++ spelling one)
-  pub sound : new.faults ≡ old.faults
-
--- it took one, or is spent
-abbrev pub TakesOneOrSpent : ReaderState → ReaderState → Type 0
-TakesOneOrSpent old new = TakesOne old new ⊎ (new.spent ≡ true)

@@ -1,6 +1,7 @@
 -- The last turn says what the whole walk leaves.
 use Rattle.std.proofs.Common.{sym, subst}
 use Rattle.std.specs.Prelude.{Ok}
+use Rattle.capture_walk.specs.Form.{Form}
 use Rattle.capture_walk.specs.Leaves.{Leaves, passage}
 use Rattle.capture_walk.specs.Inside.Sofar.{Sofar}
 use Rattle.capture_walk.proofs.walking.walk.Goals as goal
@@ -9,6 +10,7 @@ pub returns-in-Ok-false-clause-work : goal.returns-in-Ok-false-clause-work
 returns-in-Ok-false-clause-work g c =
     let over = rw c.in-Ok-false.field-0-test at c.in-Ok-false.ensures.over in
     let i = c.loop-bad.invariant in
-    let left = over c.args.reader.now.remaining (g.K.Sink.contents c.args.sink.now)
-    (subst (λ f. Sofar f g.V.Visitor.has_seen c.args.reader.now.remaining c.loop-bad.reader c.loop-bad.visitor (g.K.Sink.contents c.args.sink.now) (g.K.Sink.contents c.loop-bad.sink)) (sym i.so_far) i.sofar) in
-    subst (λ w. Leaves (g.V.Visitor.so_far c.args.visitor.now) w 0 (passage c.args.reader.now c.visit_next.new.reader (g.K.Sink.contents c.args.sink.now) (g.K.Sink.contents c.visit_next.new.sink)) (Ok tt)) i.whole left
+    let left = over (g.R.Records.remaining c.args.reader.now) (g.K.Sink.contents c.args.sink.now)
+    (subst (λ f. Sofar f g.R.Records.has_read g.V.Visitor.has_seen (g.R.Records.remaining c.args.reader.now) c.loop-bad.reader c.loop-bad.visitor (g.K.Sink.contents c.args.sink.now) (g.K.Sink.contents c.loop-bad.sink)) (sym i.so_far) i.sofar) in
+    subst (λ (f : Form). Leaves f (g.V.Visitor.so_far c.args.visitor.now) (g.V.Visitor.whole c.args.visitor.now) 0 (passage (g.R.Records.remaining c.args.reader.now) (g.R.Records.remaining c.visit_next.new.reader) (g.K.Sink.contents c.args.sink.now) (g.K.Sink.contents c.visit_next.new.sink)) (Ok tt)) i.form
+    (subst (λ w. Leaves (g.R.Records.form c.loop-bad.reader) (g.V.Visitor.so_far c.args.visitor.now) w 0 (passage (g.R.Records.remaining c.args.reader.now) (g.R.Records.remaining c.visit_next.new.reader) (g.K.Sink.contents c.args.sink.now) (g.K.Sink.contents c.visit_next.new.sink)) (Ok tt)) i.whole left)

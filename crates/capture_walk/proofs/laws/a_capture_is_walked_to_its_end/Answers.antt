@@ -1,5 +1,0 @@
-use Rattle.capture_walk.proofs.CompleteLemmas.{walk_completes}
-use Rattle.capture_walk.proofs.laws.a_capture_is_walked_to_its_end.Goals as goal
-
-pub returns : goal.returns
-returns c = walk_completes

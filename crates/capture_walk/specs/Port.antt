@@ -1,0 +1,10 @@
+-- What a contract sees of a reader of the datagrams that a pcap file's frames carry to a UDP port.
+use Rattle.std.specs.Prelude.{ℕ}
+use Rattle.outside_io.specs.declared.profile.Profile.{Profile}
+use Rattle.pcap_file.specs.Reader.{ReaderState}
+
+-- the reader of frames, and which datagrams are taken
+pub record PortState : Type 0 where
+  pub frames : ReaderState
+  pub profile : Profile
+  pub port : ℕ
