@@ -14,8 +14,8 @@ use Rattle.rist_pack.specs.declared.bad.PackBad.TheVariants.{ReadFault, WriteFau
 abbrev pub Reads : Option (List ℕ) → Option (List ℕ) → (List ℕ → Type 0) → Type 0
 Reads had left P = (b : List ℕ) × Takes had left b × P b
 
--- A write failed: of the name, before anything was read, or of the record of the last piece that was read. What stands before
--- it is written, and a front part of it.
+-- A write failed: of the name, before anything was read, or of the record of the last piece that was read. What stands
+-- before it is written, and a front part of it.
 abbrev pub FailsAtWrite : (ℕ → List ℕ → Record) → Passage → List ℕ → Type 0
 FailsAtWrite record_of p b =
     ((b ≡ []) × AppendsPart p.held p.holds magic)

@@ -1,5 +1,5 @@
-//! Packing: the octets of a source become the media datagrams of one flow, in a capture. A contract sees the octets that
-//! were read of the source, where it tells them, and what its capture gained.
+//! Packing: the octets of a source become the media datagrams of one flow, in a capture. A contract sees the octets
+//! that were read of the source, where it tells them, and what its capture gained.
 #![tactic(auto)]
 
 mod bad;

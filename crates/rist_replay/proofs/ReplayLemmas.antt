@@ -33,7 +33,8 @@ use Rattle.rist_ends.specs.declared.outcome.Answer.{Answer}
 use Rattle.rist_ends.specs.declared.outcome.Answer.TheVariants as answers
 use Rattle.rist_ends.specs.Outcome.{IfStepped, outcome_with}
 use Rattle.rist_ends.proofs.SteppingLemmas.{concat-map-append}
-use Rattle.rist_replay.specs.Steps.{step_of, input_read, receiver_history, history_of}
+use Rattle.rist_ends.specs.Items.{input_read}
+use Rattle.rist_replay.specs.Steps.{step_of, receiver_history, history_of}
 use Rattle.rist_wire.specs.Item.{item_of}
 use Rattle.rist_wire.specs.declared.bad.WireBad.{WireBad}
 use Rattle.rist_wire.specs.declared.item.Item.{Item}

@@ -8,4 +8,5 @@ mod replaying;
 #[cfg(test)]
 mod tests;
 
+pub use replayer::Replayer;
 pub use replaying::replay;

@@ -1,18 +1,16 @@
 //! A receiver as a visitor of a capture's records.
-ghost use Rattle.std.specs.Prelude.{◌≡◌, ◌≤◌, ◌<◌, ℕ, length};
-ghost use Rattle.receiver_rules.specs.Seen.{seen};
-ghost use Rattle.seq_unwrap.specs.Nearest.{cycle_of};
-ghost use Rattle.rist_wire.specs.Media.{content_of};
-ghost use Rattle.rist_ends.specs.Told.{IsFitArrival, IsFitWhat, input_of};
-ghost use Rattle.rist_replay.specs.Steps.{arrival_of, input_read};
+ghost use Rattle.std.specs.Prelude.{◌≡◌, [], IfOk};
+ghost use Rattle.rist_wire.specs.Session.{IsSession};
+ghost use Rattle.rist_ends.specs.Settings.{limits_of};
+ghost use Rattle.rist_replay.specs.Replay.{AreSettings};
 ghost use Rattle.rist_replay.specs.Inside.Visiting.{answer_of};
 
 use capture_file::Head;
 use capture_walk::{VisitBad, Visitor};
-use outside_io::{Failed, Sink};
-use receiver_rules::Arrival;
-use rist_ends::{Answer, Outs, Receiver, Told, What};
-use rist_wire::{Item, Media, Opener, WireBad};
+use outside_io::{Failed, NoMemory, Sink};
+use rist_ends::{Answer, Outs, Receiver, Settings, Told, What, what_of};
+use rist_wire::{Opener, Session};
+use std::alloc::Global;
 use ts_nulls::BLOCK_LEN;
 
 /// Opens a session's datagrams, and steps their items on a receiver.
@@ -28,44 +26,25 @@ pub struct Replayer {
     pub block: [u8; BLOCK_LEN],
 }
 
-// The payload with its null packets in their places: a view of the datagram, or of the block where some were deleted.
-fn content_in<'a>(media: &Media<'a>, block: &'a mut [u8; BLOCK_LEN]) -> &'a [u8]
-    ensures value { result.now ≡ content_of media.now }
-    ensures within { length result.now ≤ BLOCK_LEN }
-    // The bits of its number fit their width.
-    ensures fits { media.now.word < cycle_of media.now.width }
-{
-    let payload = media.payload();
-    if media.is_whole() {
-        return payload;
-    }
-    let len = media.content(block);
-    &block[..len]
-}
+impl Replayer {
+    ghost use Rattle.rist_replay.specs.Inside.Visiting.{HasReplayed};
 
-fn arrival_in<'a>(media: &Media<'a>, block: &'a mut [u8; BLOCK_LEN]) -> Arrival<'a>
-    ensures value { seen result ≡ arrival_of media.now }
-    ensures fits { IsFitArrival result }
-{
-    Arrival {
-        flow: media.flow,
-        width: media.width,
-        word: media.word,
-        stamp: media.stamp,
-        payload: content_in(media, block),
-    }
-}
-
-// What a receiver is told of a datagram.
-fn what_of<'a>(item: &'a Result<Item<'a>, WireBad>, block: &'a mut [u8; BLOCK_LEN]) -> What<'a>
-    ensures value { (us : ℕ) → input_of us result ≡ input_read us item.now }
-    ensures fits { IsFitWhat result }
-{
-    match item {
-        Ok(Item::Media(media)) => What::Media(arrival_in(media, block)),
-        Ok(Item::Control(compound)) => What::Control(compound),
-        Ok(Item::Keepalive(_)) => What::Keepalive,
-        Err(_) => What::Refused,
+    /// One in a session, with these settings, that was told nothing.
+    pub fn with(alloc: Global, session: &Session, settings: &Settings) -> Result<Replayer, NoMemory>
+        requires session { IsSession session.now }
+        requires settings { AreSettings settings.now }
+        ensures session { IfOk result (λ r. r.opener ≡ session.now) }
+        ensures limits { IfOk result (λ r. r.receiver.buffer.limits ≡ limits_of settings.now) }
+        ensures start { IfOk result (λ r. HasReplayed r.opener r.receiver []) }
+    {
+        let opener = Opener::with(alloc, session)?;
+        let receiver = Receiver::with(alloc, settings, session, None)?;
+        Ok(Replayer {
+            opener,
+            receiver,
+            outs: Outs::none(),
+            block: [0; BLOCK_LEN],
+        })
     }
 }
 
@@ -82,7 +61,13 @@ fn answer_of(answer: Answer) -> Result<(), VisitBad>
 }
 
 impl Visitor for Replayer {
-    ghost use Rattle.std.specs.Prelude.{false};
+    ghost use Rattle.std.specs.Prelude.{◌++◌, ◌∷◌, List, OnOk, OnErr, IsErrOf, IsTrue, false};
+    ghost use Rattle.capture_file.specs.Capture.{Record, Fits};
+    ghost use Rattle.capture_file.specs.Heads.{record_of};
+    ghost use Rattle.outside_io.specs.Causes.{HasWriteCause, fault_by};
+    ghost use Rattle.outside_io.specs.Told.{Writes, WritesPart};
+    ghost use Rattle.capture_walk.specs.Causes.{visit_fault};
+    ghost use Rattle.capture_walk.specs.declared.visitor.VisitBad.TheVariants.{Memory};
     ghost use Rattle.rist_replay.specs.Replay.{released_so_far, replayed};
     ghost use Rattle.rist_replay.specs.Inside.Visiting.{HasReplayed};
 
@@ -99,7 +84,31 @@ impl Visitor for Replayer {
         head: &Head,
         octets: &mut [u8],
         sink: &mut K,
-    ) -> Result<(), VisitBad> {
+    ) -> Result<(), VisitBad>
+        requires fits { Fits (record_of head.now octets.old) }
+        ensures seen { OnOk result ((done : List Record) → HasReplayed self.old.opener self.old.receiver done
+            → HasReplayed self.new.opener self.new.receiver (done ++ record_of head.now octets.old ∷ [])) }
+        ensures sink { OnOk result ((done : List Record) → HasReplayed self.old.opener self.old.receiver done
+            → Writes (K.contents sink.old) (K.contents sink.new)
+            (released_so_far self.old.opener self.old.receiver.buffer.limits done)
+            (released_so_far self.old.opener self.old.receiver.buffer.limits
+            (done ++ record_of head.now octets.old ∷ []))) }
+        ensures part { OnErr result ((done : List Record) → HasReplayed self.old.opener self.old.receiver done
+            → WritesPart (K.contents sink.old) (K.contents sink.new)
+            (released_so_far self.old.opener self.old.receiver.buffer.limits done)
+            (released_so_far self.old.opener self.old.receiver.buffer.limits
+            (done ++ record_of head.now octets.old ∷ []))) }
+        ensures none { IsErrOf result Memory → K.contents sink.new ≡ K.contents sink.old }
+        ensures memory { IsErrOf result Memory → IsTrue false }
+        ensures same { (released_so_far self.new.opener self.new.receiver.buffer.limits
+            ≡ released_so_far self.old.opener self.old.receiver.buffer.limits)
+            × (replayed self.new.opener self.new.receiver.buffer.limits
+            ≡ replayed self.old.opener self.old.receiver.buffer.limits) }
+        // Its session and its limits stay.
+        ensures set { (self.new.opener ≡ self.old.opener)
+            × (self.new.receiver.buffer.limits ≡ self.old.receiver.buffer.limits) }
+        ensures cause { HasWriteCause (fault_by visit_fault result) (K.faults sink.old) (K.faults sink.new) }
+    {
         let item = self.opener.take(head.channel, octets);
         let told = Told {
             link: head.link,

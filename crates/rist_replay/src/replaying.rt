@@ -9,51 +9,39 @@ ghost use Rattle.rist_ends.specs.Settings.{limits_of};
 ghost use Rattle.rist_replay.specs.Replay.{released_so_far, replayed, AreSettings};
 
 use crate::replayer::Replayer;
-use capture_file::Reader;
-use capture_walk::{WalkBad, walk};
-use outside_io::{Sink, Source};
-use rist_ends::{Outs, Receiver, Settings};
-use rist_wire::{Opener, Session};
+use capture_walk::{Records, WalkBad, walk};
+use outside_io::Sink;
+use rist_ends::Settings;
+use rist_wire::Session;
 use std::alloc::Global;
-use ts_nulls::BLOCK_LEN;
 
-/// Steps each record of a capture in a session, and then an end, on a receiver with these settings.
-pub fn replay<S: Source, K: Sink>(
+/// Steps each record of a file in a session, and then an end, on a receiver with these settings.
+pub fn replay<R: Records, K: Sink>(
     alloc: Global,
     session: &Session,
     settings: &Settings,
-    reader: &mut Reader<S>,
+    reader: &mut R,
     sink: &mut K,
 ) -> Result<(), WalkBad>
     requires session { IsSession session.now }
     requires settings { AreSettings settings.now }
-    requires start { reader.old.at ≡ 0 }
-    requires running { reader.old.spent ≡ false }
-    ensures work { Leaves (released_so_far session.now (limits_of settings.now))
+    requires start { R.has_read reader.old (R.remaining reader.old) [] }
+    requires running { R.spent reader.old ≡ false }
+    ensures work { Leaves (R.form reader.old) (released_so_far session.now (limits_of settings.now))
         (replayed session.now (limits_of settings.now)) 0
-        (passage reader.old reader.new (K.contents sink.old) (K.contents sink.new)) result }
+        (passage (R.remaining reader.old) (R.remaining reader.new) (K.contents sink.old) (K.contents sink.new))
+        result }
     // Where a write fails before the capture has come to an end, no read has failed.
     ensures stopped { IsErrOf result WriteFault
-        → (reader.new.faults ≡ reader.old.faults) ⊎ (reader.new.spent ≡ true) }
+        → (R.faults reader.new ≡ R.faults reader.old) ⊎ (R.spent reader.new ≡ true) }
     // Memory is wanted before the first record alone: nothing was read or written then.
     ensures memory { IsErrOf result Memory → (reader.new ≡ reader.old) × (sink.new ≡ sink.old) }
-    ensures ahead { IsErrOf result ReadFault → reader.new.ahead ≡ [] }
-    ensures read { HasReadCause (fault_by walk_fault result) reader.old.faults reader.new.faults }
+    ensures ahead { IsErrOf result ReadFault → R.ahead reader.new ≡ [] }
+    ensures read { HasReadCause (fault_by walk_fault result) (R.faults reader.old) (R.faults reader.new) }
     ensures write { HasWriteCause (fault_by walk_fault result) (K.faults sink.old) (K.faults sink.new) }
 {
-    let opener = match Opener::with(alloc, session) {
-        Ok(opener) => opener,
-        Err(_) => return Err(WalkBad::Memory),
-    };
-    let receiver = match Receiver::with(alloc, settings, session, None) {
-        Ok(receiver) => receiver,
-        Err(_) => return Err(WalkBad::Memory),
-    };
-    let mut replayer = Replayer {
-        opener,
-        receiver,
-        outs: Outs::none(),
-        block: [0; BLOCK_LEN],
-    };
-    walk(reader, &mut replayer, sink)
+    match Replayer::with(alloc, session, settings) {
+        Ok(mut replayer) => walk(reader, &mut replayer, sink),
+        Err(_) => Err(WalkBad::Memory),
+    }
 }

@@ -65,7 +65,9 @@ fn joined(alloc: Global, parts: &[&[u8]]) -> Result<Vec<u8>, Fail> {
     Ok(octets)
 }
 
-/// Whether a replay with a delay of one second and a span of 8 ends so, and leaves these octets in the sink.
+/// Whether a replay with a delay of one second, a restart time of half a second and a span of 8 ends so, and leaves
+/// these octets in the sink.
+#[tactic(auto, using(capture_walk::proofs::GoingLemmas::new_has_read))]
 fn leaves<S: Source + Drop>(
     alloc: Global,
     session: &Session,
@@ -76,7 +78,7 @@ fn leaves<S: Source + Drop>(
 ) -> Result<bool, Fail>
     requires { IsSession session.now }
 {
-    let settings = Settings::muted(1000, 8);
+    let settings = Settings::muted(1000, 8, 500);
     let mut reader = Reader::over(source);
     let mut sink = sink;
     let result = replay(alloc, session, &settings, &mut reader, &mut sink);
@@ -112,6 +114,11 @@ fn media_packets_are_played_out_in_order(rt: HostRuntime) -> Result<(), Fail> {
     let again =
         b"\x01\x00\x00\x0D\x00\x00\x00\x00\x00\x00\x4E\x20\x80\x21\x00\x0B\x00\x00\x03\x84\x10\x20\x30\x41B";
     assert!(rt; gives(alloc, &[A, C, again], b"ABC")?);
+    // Another flow's packet, before the first flow's are out and when they are: two seconds behind them.
+    let other =
+        b"\x00\x00\x00\x0D\x00\x00\x00\x00\x00\x1E\x84\x80\x80\x21\x00\x07\x00\x00\x00\x00\x20\x30\x40\x50D";
+    let early = joined(alloc, &[&C[..12], &other[12..]])?;
+    assert!(rt; gives(alloc, &[A, B, &early, C, other], b"ABCD")?);
     let octets = joined(alloc, &[NAME, A, B, C])?;
     for cut in 1..83 {
         let source = Pieces::with(alloc, &octets, &[cut], &[])?;
@@ -153,7 +160,8 @@ fn packet(alloc: Global, head: &[u8; 4], filling: u8) -> Result<Vec<u8>, Fail> {
     Ok(octets)
 }
 
-/// A capture of two media datagrams of the tunnel: number 65,546 with the middle one of three packets deleted, and 65,547.
+/// A capture of two media datagrams of the tunnel: number 65,546 with the middle one of three packets deleted, and
+/// 65,547.
 fn tunnel_capture(alloc: Global, stripped: &[u8]) -> Result<Vec<u8>, Fail> {
     let strip = Strip {
         units: 3,

@@ -1,5 +1,5 @@
--- The line of a record of a capture (this profile): a JSON object (RFC 8259) without blanks, its members in the order of their
--- names, and a line feed.
+-- The line of a record of a capture (this profile): a JSON object (RFC 8259) without blanks, its members in the order
+-- of their names, and a line feed.
 use Rattle.std.specs.Prelude.{ℕ, List, [], ◌∷◌, ◌++◌, length, map, flat_map, codes, None, Result, Ok, Err}
 use Rattle.std.specs.Int.{w32, to_be_bytes}
 use Rattle.hex.specs.Hex.{encode_lower}

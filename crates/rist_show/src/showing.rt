@@ -8,32 +8,32 @@ ghost use Rattle.rist_wire.specs.Session.{IsSession};
 ghost use Rattle.rist_show.specs.Lines.{lines};
 
 use crate::printer::Printer;
-use capture_file::Reader;
-use capture_walk::{WalkBad, walk};
-use outside_io::{Sink, Source};
+use capture_walk::{Records, WalkBad, walk};
+use outside_io::Sink;
 use rist_wire::{Opener, Session};
 use std::alloc::Global;
 use ts_nulls::BLOCK_LEN;
 
-/// Writes a line for each record of a capture: what its datagram is in a session, or the first test that fails and where.
-/// A JSON object without blanks, its members in the order of their names, and a line feed. Times are in microseconds; each
-/// line is written at once.
-pub fn show<S: Source, K: Sink>(
+/// Writes a line for each record of a file: what its datagram is in a session, or the first test that fails and where.
+/// A JSON object without blanks, its members in the order of their names, and a line feed. Times are in microseconds;
+/// each line is written at once.
+pub fn show<R: Records, K: Sink>(
     alloc: Global,
     session: &Session,
-    reader: &mut Reader<S>,
+    reader: &mut R,
     sink: &mut K,
 ) -> Result<(), WalkBad>
     requires session { IsSession session.now }
-    requires start { reader.old.at ≡ 0 }
-    requires running { reader.old.spent ≡ false }
-    ensures work { Leaves (lines session.now) (lines session.now) 0
-        (passage reader.old reader.new (K.contents sink.old) (K.contents sink.new)) result }
+    requires start { R.has_read reader.old (R.remaining reader.old) [] }
+    requires running { R.spent reader.old ≡ false }
+    ensures work { Leaves (R.form reader.old) (lines session.now) (lines session.now) 0
+        (passage (R.remaining reader.old) (R.remaining reader.new) (K.contents sink.old) (K.contents sink.new))
+        result }
     // Where a write fails before the capture has come to an end, no read has failed.
     ensures stopped { IsErrOf result WriteFault
-        → (reader.new.faults ≡ reader.old.faults) ⊎ (reader.new.spent ≡ true) }
-    ensures ahead { IsErrOf result ReadFault → reader.new.ahead ≡ [] }
-    ensures read { HasReadCause (fault_by walk_fault result) reader.old.faults reader.new.faults }
+        → (R.faults reader.new ≡ R.faults reader.old) ⊎ (R.spent reader.new ≡ true) }
+    ensures ahead { IsErrOf result ReadFault → R.ahead reader.new ≡ [] }
+    ensures read { HasReadCause (fault_by walk_fault result) (R.faults reader.old) (R.faults reader.new) }
     ensures write { HasWriteCause (fault_by walk_fault result) (K.faults sink.old) (K.faults sink.new) }
 {
     let opener = match Opener::with(alloc, session) {

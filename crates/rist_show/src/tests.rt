@@ -69,6 +69,7 @@ fn joined(alloc: Global, parts: &[&[u8]]) -> Result<Vec<u8>, Fail> {
 }
 
 // What is written of a capture of one datagram on link 0 at time 0, and how that ends.
+#[tactic(auto, using(capture_walk::proofs::GoingLemmas::new_has_read))]
 fn shown(
     alloc: Global,
     session: &Session,
@@ -88,6 +89,7 @@ fn shown(
 }
 
 // What is written of a capture that is cut at these places, where these reads fail and the sink has this room.
+#[tactic(auto, using(capture_walk::proofs::GoingLemmas::new_has_read))]
 fn written(
     alloc: Global,
     octets: &[u8],
@@ -102,6 +104,7 @@ fn written(
 }
 
 #[test]
+#[tactic(auto, using(capture_walk::proofs::GoingLemmas::new_has_read))]
 fn each_record_is_a_line_however_the_capture_is_cut(rt: HostRuntime) -> Result<(), Fail> {
     let alloc = rt.alloc();
     let octets = joined(alloc, &[NAME, A, B, C])?;
@@ -124,6 +127,7 @@ fn each_record_is_a_line_however_the_capture_is_cut(rt: HostRuntime) -> Result<(
 }
 
 #[test]
+#[tactic(auto, using(capture_walk::proofs::GoingLemmas::new_has_read))]
 fn a_fault_comes_after_the_lines_before_it(rt: HostRuntime) -> Result<(), Fail> {
     let alloc = rt.alloc();
     let octets = joined(alloc, &[NAME, A, B, b"\x00\x00\x00"])?;

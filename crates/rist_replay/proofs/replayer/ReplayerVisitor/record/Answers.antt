@@ -8,7 +8,8 @@ use Rattle.request_rules.specs.Steps.{Input, Step as ReceiverStep, buffer_histor
 use Rattle.receiver_rules.specs.History.{released_bytes}
 use Rattle.outside_io.specs.Told.{Writes, WritesPart}
 use Rattle.rist_ends.specs.Told.{input_of}
-use Rattle.rist_replay.specs.Steps.{step_of, input_read, receiver_history, history_of}
+use Rattle.rist_ends.specs.Items.{input_read}
+use Rattle.rist_replay.specs.Steps.{step_of, receiver_history, history_of}
 use Rattle.rist_replay.specs.Inside.Visiting.{HasReplayed}
 use Rattle.rist_replay.specs.Replay.{released_so_far}
 use Rattle.rist_ends.specs.Receiver.{IsReceiverAfter}
