@@ -1,4 +1,5 @@
--- The steps that a desk kept, against the steps that the workers of its links kept. All lists stand with the oldest step first.
+-- The steps that a desk kept, against the steps that the workers of its links kept. All lists stand with the oldest
+-- step first.
 use Rattle.std.specs.Prelude.{◌≡◌, ◌≢◌, ◌<◌, ℕ, ◌==◌, List, [], length, take, slice_get, unwrap_or, Some}
 use Rattle.std.specs.List.{filter}
 use Rattle.rist_desk.specs.declared.step.Step.{Step}
@@ -8,7 +9,8 @@ use Rattle.rist_compare.specs.declared.tear.Tear.{Tear}
 abbrev pub of : ℕ → List Step → List Step
 of link steps = filter (λ s. s.link == link) steps
 
--- what the worker of a link kept, and nothing where the link has no worker. Of the workers' lists the first is that of link 0
+-- what the worker of a link kept, and nothing where the link has no worker. Of the workers' lists the first is that of
+-- link 0
 abbrev pub own_of : ℕ → List (List Step) → List Step
 own_of link own = unwrap_or (slice_get own link) []
 

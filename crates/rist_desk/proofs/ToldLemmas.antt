@@ -1,5 +1,9 @@
 -- What is told, as a step keeps it.
-use Rattle.std.proofs.Common.{◌≡◌, ℕ, List, [], ◌∷◌, ◌++◌, length, Bool, true, false, ◌||◌, if◌then◌else◌, Option, None, Some, is_some, refl}
+use Rattle.std.proofs.Common.{◌≡◌, ℕ, List, [], ◌∷◌, ◌++◌, length, Bool, true, false, ◌||◌, if◌then◌else◌, Option, None, Some, is_some, refl, sym, ap, ◌∙◌}
+use Rattle.std.specs.Prelude.{Result, Ok, Err}
+use Rattle.rist_wire.specs.declared.bad.WireBad.{WireBad}
+use Rattle.rist_wire.specs.declared.item.Item.{Item}
+use Rattle.rist_wire.specs.declared.item.Item.TheVariants as items
 use Rattle.rist_rtt.specs.Echo.{EchoOf, echoes_in}
 use Rattle.request_rules.specs.declared.word.AskWord.{AskWord}
 use Rattle.request_rules.specs.Steps.{Input, Step as ReceiverStep, buffer_history, effective_time, first_request}
@@ -11,7 +15,11 @@ use Rattle.rist_ends.specs.Receiver.{ReceiverState, IsReceiverAfter}
 use Rattle.rist_ends.specs.Told.{input_of as told_input, phase_after as told_phase}
 use Rattle.rist_desk.specs.Steps.{request_of, input_of}
 use Rattle.rist_desk.specs.Legal.{phase_at}
+use Rattle.rist_ends.specs.Items.{input_read}
+use Rattle.rist_desk.specs.declared.step.Event.{Event}
+use Rattle.rist_desk.specs.declared.step.Event.TheVariants as events
 use Rattle.rist_desk.specs.Made.{event_of}
+use Rattle.rist_desk.specs.Items.{event_read}
 
 -- a step of a link at a tick
 abbrev pub step_at : ℕ → ℕ → Input → ReceiverStep
@@ -125,3 +133,32 @@ none_where false ds words f e = f e
 
 pub none_asked : (settings : ControlSettings) (h : List ReceiverStep) (step : ReceiverStep) → datagrams_of settings h step ≡ [] → words_made settings h step ≡ []
 none_asked settings h step e = none_where settings.is_muted _ _ (none_on settings h step.link (effective_time (step ∷ h)) step.input) e
+
+-- ---- a datagram's item
+
+-- what a step keeps of what the rules see
+abbrev event_from : Input → Event
+event_from (inputs.Media a) = events.Media (record { flow = a.flow; width = a.width; word = a.word; stamp = a.timestamp; payload = a.payload })
+event_from (inputs.Control sample request) = events.Control (record { sample = sample; has_request = is_some request })
+event_from inputs.Keepalive = events.Keepalive
+event_from inputs.Refused = events.Refused
+event_from (inputs.Tick micros) = events.Tick micros
+event_from inputs.End = events.End
+
+from_told : (us : ℕ) (w : What) → event_of us w ≡ event_from (told_input us w)
+from_told us (Media arrival) = refl
+from_told us (Control compound) = refl
+from_told us Keepalive = refl
+from_told us Refused = refl
+from_told us Tick = refl
+from_told us End = refl
+
+from_read : (us : ℕ) (item : Result Item WireBad) → event_read us item ≡ event_from (input_read us item)
+from_read us (Ok (items.Media media)) = refl
+from_read us (Ok (items.Control packets)) = refl
+from_read us (Ok (items.Keepalive keepalive)) = refl
+from_read us (Err bad) = refl
+
+-- where the rules see the item, a step keeps it
+pub event_is_read : (w : What) (item : Result Item WireBad) → ((us : ℕ) → told_input us w ≡ input_read us item) → (us : ℕ) → event_of us w ≡ event_read us item
+event_is_read w item e us = from_told us w ∙ ap event_from (e us) ∙ sym (from_read us item)

@@ -23,7 +23,8 @@ use Rattle.rist_desk.specs.Steps.{history_of}
 use Rattle.rist_desk.specs.Legal.{Setup, IsLegal, is_made, phase_of, made_by, AreWritten}
 use Rattle.rist_desk.specs.Made.{step_after}
 
--- its receiver; the steps that its trace tells, the oldest first, and the trace's limit; what its sink tells, and the sink's faults
+-- its receiver; the steps that its trace tells, the oldest first, and the trace's limit; what its sink tells, and the
+-- sink's faults
 pub record DeskState : Type 0 where
   pub receiver : ReceiverState
   pub kept : Option (List Step)
@@ -36,8 +37,8 @@ abbrev pub state_of : ReceiverState → Option (List Step) → Option ℕ → Op
 state_of receiver kept limit contents faults =
     record { receiver = receiver; kept = kept; limit = limit; contents = contents; faults = faults }
 
--- what it was made with: what its receiver was set to, the session and the sealer then, its trace's limit, whether trace and sink
--- tell, and the sink's faults then
+-- what it was made with: what its receiver was set to, the session and the sealer then, its trace's limit, whether
+-- trace and sink tell, and the sink's faults then
 pub record Given : Type 0 where
   pub settings : ControlSettings
   pub shutter : ShutterState
@@ -96,8 +97,8 @@ pub record IsNew (given : Given) (d : DeskState) : Type 0 where
 
 -- ---- what a step made
 
--- Opened in the session, these are the datagrams that the rules make of what was told after these steps, the newest first, and the
--- words in them are the ones that are due.
+-- Opened in the session, these are the datagrams that the rules make of what was told after these steps, the newest
+-- first, and the words in them are the ones that are due.
 abbrev pub MakesDue : Given → List Step → Told → Outs → Type 0
 MakesDue given before told outs =
     IsMade given.shutter.session (datagrams_of given.settings (history_of before) (step_of told))
@@ -112,8 +113,8 @@ outs_in outcomes.Spent = []
 outs_in (outcomes.Made outs) = outs_of outs
 outs_in outcomes.Nothing = []
 
--- A step that was made after these, the newest first, is legal; and where all that was due to it was made, its datagrams, opened in
--- the session, are those that the rules make of what was told, and no others.
+-- A step that was made after these, the newest first, is legal; and where all that was due to it was made, its
+-- datagrams, opened in the session, are those that the rules make of what was told, and no others.
 abbrev pub IsDueAfter : Given → List Step → Told → Outcome → Type 0
 IsDueAfter given before told outcome =
     (s : Step) → step_after told outcome ≡ Some s
@@ -146,7 +147,7 @@ abbrev pub nothing_given : Given
 nothing_given =
     record {
       settings = record {
-        limits = record { playout_delay = 0; capacity = 0 };
+        limits = record { playout_delay = 0; capacity = 0; restart_time = 0 };
         policy = record { reorder_tolerance = 0; retry_interval = 0; retry_limit = 0; kind = Range };
         own = 0;
         has_keepalives = false;

@@ -13,10 +13,10 @@ use Rattle.rist_desk.specs.declared.step.Event.{Event}
 use Rattle.rist_desk.specs.declared.step.Event.TheVariants as events
 use Rattle.rist_desk.specs.declared.step.Mark.TheVariants as marks
 use Rattle.rist_desk.specs.declared.step.Step.{Step}
-use Rattle.request_rules.specs.Steps.{Input, Media, Control, Keepalive, Refused, Tick, control_input}
+use Rattle.request_rules.specs.Steps.{Input, Tick}
 use Rattle.rist_ends.specs.declared.told.Told.{Told}
 use Rattle.rist_ends.specs.Told.{input_of as told_input}
-use Rattle.rist_desk.specs.Steps.{arrival_of}
+use Rattle.rist_ends.specs.Items.{input_read}
 use Rattle.rist_desk.specs.Made.{echoes_of, event_of}
 
 -- media with its null packets restored
@@ -29,13 +29,6 @@ event_read us (Ok (items.Media m)) = events.Media (packet_read m)
 event_read us (Ok (items.Control packets)) = events.Control (echoes_of us packets)
 event_read us (Ok (items.Keepalive keepalive)) = events.Keepalive
 event_read us (Err bad) = events.Refused
-
--- the same, as the rules see it
-abbrev pub input_read : ℕ → Result Item WireBad → Input
-input_read us (Ok (items.Media m)) = Media (arrival_of (packet_read m))
-input_read us (Ok (items.Control packets)) = control_input us packets
-input_read us (Ok (items.Keepalive keepalive)) = Keepalive
-input_read us (Err bad) = Refused
 
 -- a step of a link at a moment, before it is known what it came to
 abbrev pub unmarked : ℕ → ℕ → Event → Step

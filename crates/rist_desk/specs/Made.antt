@@ -21,15 +21,6 @@ use Rattle.rist_desk.specs.declared.step.Mark.{Mark}
 use Rattle.rist_desk.specs.declared.step.Mark.TheVariants as marks
 use Rattle.rist_desk.specs.declared.step.Step.{Step}
 
--- it is not the end
-abbrev pub IsNoEnd : What → Type 0
-IsNoEnd (Media arrival) = Unit {0}
-IsNoEnd (Control compound) = Unit {0}
-IsNoEnd Keepalive = Unit {0}
-IsNoEnd Refused = Unit {0}
-IsNoEnd Tick = Unit {0}
-IsNoEnd End = ⊥
-
 -- the end of the stream, on link 0 at 0
 abbrev pub end_told : Told
 end_told = record { link = 0; us = 0; what = End }

@@ -31,7 +31,8 @@ abbrev pub written : (Channel → Bool) → List OutOf → List Datagram
 written knows [] = []
 written knows (out ∷ outs) = written_where (knows out.channel) out ++ written knows outs
 
--- a step that was made, all that came with it as the rules see it, the datagrams that it made, and those of them that the link took
+-- a step that was made, all that came with it as the rules see it, the datagrams that it made, and those of them that
+-- the link took
 pub record Made : Type 0 where
   pub step : Step
   pub input : Input
@@ -46,8 +47,8 @@ IsKnownIn knows peers = (c : Channel) → knows c ≡ true → peers c ≡ true
 abbrev pub seen_of : Made → ReceiverStep
 seen_of m = record { link = m.step.link; tick = m.step.at; input = m.input }
 
--- The step may come after some legal steps of the desk, and opened in its session the datagrams are those that the rules make of it
--- there, and no others. The words by which they ask are the step's own.
+-- The step may come after some legal steps of the desk, and opened in its session the datagrams are those that the
+-- rules make of it there, and no others. The words by which they ask are the step's own.
 pub record IsDue (given : Given) (m : Made) : Type 0 where
   pub before : List Step
   pub legal : IsLegal (setup_of given) (m.step ∷ before)
@@ -58,8 +59,8 @@ abbrev pub IsDueOn : Option Given → Made → Type 0
 IsDueOn None m = Unit {0}
 IsDueOn (Some given) m = given.tells_steps ≡ true → IsDue given m
 
--- it made so many datagrams, those that are due, and the link took each of them whose peer it knew then: at least the peers that it
--- knew at first
+-- it made so many datagrams, those that are due, and the link took each of them whose peer it knew then: at least the
+-- peers that it knew at first
 pub record IsSent (desk : Option Given) (knows : Channel → Bool) (m : Made) : Type 0 where
   pub due : IsDueOn desk m
   pub sound : is_made m.step.mark ≡ true
@@ -153,7 +154,8 @@ IsLast P (Some m) = P m
 abbrev pub NotMade : Option Made → List Planned → Type 0
 NotMade last missing = (last ≡ None) × (0 < length missing)
 
--- where a step ended the worker: it wasn't made; or it is the last, and its write or a write of what it made failed, or pairs were wanting
+-- where a step ended the worker: it wasn't made; or it is the last, and its write or a write of what it made failed, or
+-- pairs were wanting
 abbrev pub CutsAt : Option Given → (Channel → Bool) → Ended → Option Made → List Planned → Type 0
 CutsAt desk knows ends.Stopped last missing = NotMade last missing
 CutsAt desk knows ends.TraceFull last missing = NotMade last missing

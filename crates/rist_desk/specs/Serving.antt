@@ -28,8 +28,8 @@ pub record IsFeed (f : Feed) (session : Session) (place : ℕ) (limits : Limits)
   pub moments_are : moments ≡ Some f.moments
   pub answers_are : answers ≡ Some f.answers
 
--- The worker at this place ended: its own list has gained the steps of its turns, and its link what they made. Of a named desk that
--- tells its steps, that is what the rules make.
+-- The worker at this place ended: its own list has gained the steps of its turns, and its link what they made. Of a
+-- named desk that tells its steps, that is what the rules make.
 pub record ServesBy {L C U : Type 0} (desk : Option Given) (moments : C → Option (ℕ → ℕ)) (tells : LinkTells L) (list : U → Option (List Step)) (limits : Limits) (place : ℕ) (old new : Worker L C U) : Type 0 where
   pub end : Ended
   pub ended : new.end ≡ Some end

@@ -32,7 +32,8 @@ input_of events.End = End
 abbrev pub told_step : Step → ReceiverStep
 told_step s = record { link = s.link; tick = s.at; input = input_of s.what }
 
--- a step for whose datagrams too few pairs were left counts as a keepalive: time has passed, and nothing else has changed
+-- a step for whose datagrams too few pairs were left counts as a keepalive: time has passed, and nothing else has
+-- changed
 abbrev pub counted_input : Mark → Input → Input
 counted_input marks.Plain input = input
 counted_input (marks.Verdict v) input = input

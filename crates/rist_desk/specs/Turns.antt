@@ -9,8 +9,8 @@ use Rattle.rist_desk.specs.Sending.{Holds, TurnEnds}
 use Rattle.outside_io.specs.declared.channel.Channel.{Channel}
 use Rattle.rist_desk.specs.Items.{Planned, datagram_plan, tick_plan}
 
--- what a worker is given: its session, its place among the workers, its limits, and what its clock and its link have to give, one
--- moment and one answer a turn
+-- what a worker is given: its session, its place among the workers, its limits, and what its clock and its link have to
+-- give, one moment and one answer a turn
 pub record Feed : Type 0 where
   pub session : Session
   pub place : ℕ
@@ -35,7 +35,8 @@ abbrev pub tick_steps : ℕ → ℕ → Bool → List Planned
 tick_steps place moment true = tick_plan place moment ∷ []
 tick_steps place moment false = []
 
--- the steps of a turn: that of the datagram which came, and then a Tick where one is due; none where the link ended or failed
+-- the steps of a turn: that of the datagram which came, and then a Tick where one is due; none where the link ended or
+-- failed
 abbrev pub turn_steps : Session → ℕ → Option ℕ → ℕ → Answer → List Planned
 turn_steps session place ticked moment (Gave d) = datagram_plan session place moment d.channel d.octets ∷ tick_steps place moment (is_tick_due ticked moment)
 turn_steps session place ticked moment Quiet = tick_steps place moment (is_tick_due ticked moment)
@@ -92,8 +93,8 @@ end_at f n = end_by (f.answers n) (nat_le f.turns (n + 1)) (is_idle f.idle (quie
 abbrev pub from : {A : Type 0} → ℕ → (ℕ → A) → ℕ → A
 from n s k = s (n + k)
 
--- It made turns up to this one, and ended so: each turn took one moment and one answer, and no turn before was to be the last. Of the
--- steps of these turns, in their order, all were made, or those up to where a step ended it.
+-- It made turns up to this one, and ended so: each turn took one moment and one answer, and no turn before was to be
+-- the last. Of the steps of these turns, in their order, all were made, or those up to where a step ended it.
 pub record IsServed (desk : Option Given) (f : Feed) (knows : Channel → Bool) (end : Ended) (moments : Option (ℕ → ℕ)) (answers : Option (ℕ → Answer)) (old new : Holds) : Type 0 where
   pub last : ℕ
   pub within : last < f.turns

@@ -2,8 +2,7 @@
 ghost use Rattle.std.specs.Prelude.{◌≡◌, ◌<◌, [], ◌∷◌, ◌++◌, IfErr, OnOk, OnErr, ℕ, List, Some, Err, option_map};
 ghost use Rattle.outside_io.specs.Causes.{HasCause, RoseWhere};
 ghost use Rattle.rist_reporter.specs.OneMore.{outs_of};
-ghost use Rattle.rist_ends.specs.Told.{IsFit};
-ghost use Rattle.rist_desk.specs.Made.{IsNoEnd};
+ghost use Rattle.rist_ends.specs.Told.{IsFit, IsNoEnd};
 ghost use Rattle.rist_desk.specs.Items.{told_plan, datagram_plan};
 ghost use Rattle.rist_desk.specs.Turns.{is_tick_due, tick_steps, ticked_after};
 ghost use Rattle.rist_desk.specs.Sending.{Goes, CutShort, LacksRoom, holds, written, written_where};

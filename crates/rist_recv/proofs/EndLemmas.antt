@@ -29,7 +29,9 @@ use Rattle.receiver_rules.specs.Steps.{end_step}
 use Rattle.receiver_rules.specs.History.{released_payloads}
 use Rattle.receiver_rules.specs.Sent.{SentStream, Delivery, HasSteadyTimestamps, AreDeliveriesOf}
 use Rattle.receiver_rules.proofs.SentLemmas as sent
-use Rattle.rist_recv.specs.Exact.{IsRunOf, reached_payloads}
+use Rattle.receiver_rules.proofs.SentEpochsLemmas as by_epochs
+use Rattle.receiver_rules.specs.SentEpochs.{SentStreams, Transfer, AreTransfersOf, sent_epochs, reached_payloads as payloads_of_epochs}
+use Rattle.rist_recv.specs.Exact.{IsRunOf, IsRunOfAll, reached_payloads}
 use Rattle.rist_recv.specs.Endings.{LacksRoom}
 use Rattle.rist_recv.specs.Receiving.{the_end, IsWhole, HasReceived, IsTorn}
 use Rattle.rist_recv.specs.Inside.Deciding.{has_fault, last_by, last_of, has_failed}
@@ -204,3 +206,15 @@ whole_is_exact given p run steps kept contents octets whole told is some steady 
     ∙ ap (released_by (setup_of given)) back
     ∙ ap (λ h. concat (released_payloads given.settings.limits (end_step ∷ h))) is
     ∙ ap concat (sent.release_set given.settings.limits p run steady some honest)
+
+-- and of one epoch after another
+pub whole_by_epochs : (given : Given) (streams : SentStreams) (run : List Transfer) (steps : List Step) (kept : Option (List Step)) (contents : Option (List ℕ)) (octets : List ℕ)
+    → IsWhole given (Some steps) kept contents → contents ≡ Some octets → IsRunOfAll streams run steps → 1 ≤ given.settings.limits.playout_delay → ((epoch : ℕ) → HasSteadyTimestamps (streams epoch))
+    → AreTransfersOf given.settings.limits streams run → octets ≡ concat (payloads_of_epochs streams (sent_epochs given.settings.limits streams run))
+whole_by_epochs given streams run steps kept contents octets whole told is some steady are =
+    let all : List Step = steps ++ the_end ∷ [] in
+    let back : reverse all ≡ the_end ∷ reverse steps = reverse_more steps the_end in
+    whole.sink all octets whole.ended told
+    ∙ ap (released_by (setup_of given)) back
+    ∙ ap (λ h. concat (released_payloads given.settings.limits (end_step ∷ h))) is
+    ∙ ap concat (by_epochs.release_set given.settings.limits streams run steady some are)

@@ -24,7 +24,7 @@ use Rattle.rist_recv.specs.Endings.{any_worker, all_workers, is_spent, is_withou
 use Rattle.rist_recv.specs.declared.ending.Ending.{Ending}
 use Rattle.rist_recv.specs.declared.ending.Ending.TheVariants as endings
 use Rattle.rist_compare.specs.declared.tear.Tear.{Tear}
-use Rattle.rist_recv.proofs.EndLemmas.{whole_is_exact}
+use Rattle.rist_recv.proofs.EndLemmas.{whole_is_exact, whole_by_epochs}
 use Rattle.rist_recv.specs.Receiving.{own_lists, the_end, HasReceived, IsTorn, IsWhole}
 use Rattle.rist_recv.specs.Run.{told_lists, EndsAs, IsExact, IsNewWorker}
 use Rattle.rist_recv.specs.Setup.{Setup, IsSeat, no_steps}
@@ -131,6 +131,8 @@ exactly given desk own counts delay settings same stands received = record {
   received = received;
   reached = λ steps octets p run before told is steady honest.
       whole_is_exact given p run steps desk.kept desk.contents octets (subst (λ b. IsWhole given b desk.kept desk.contents) before received.whole) told is delay steady honest;
+  epochs = λ steps octets streams run before told is steady are.
+      whole_by_epochs given streams run steps desk.kept desk.contents octets (subst (λ b. IsWhole given b desk.kept desk.contents) before received.whole) told is delay steady are;
   counted = counted given desk counts received.before received.whole.ended settings same stands;
 }
 

@@ -39,8 +39,8 @@ given_by d =
 abbrev pub the_end : Step
 the_end = unmarked 0 0 events.End
 
--- there was room for the end, and it was told last; each step made what the rules make; and the sink, told, holds all that they
--- release
+-- there was room for the end, and it was told last; each step made what the rules make; and the sink, told, holds all
+-- that they release
 pub record IsWhole (given : Given) (before kept : Option (List Step)) (contents : Option (List ℕ)) : Type 0 where
   pub room : is_full given.limit before ≡ false
   pub ended : kept ≡ option_map (λ steps. steps ++ the_end ∷ []) before

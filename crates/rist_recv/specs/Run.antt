@@ -14,7 +14,8 @@ use Rattle.rist_desk.specs.Steps.{history_of}
 use Rattle.rist_recv.specs.declared.ending.Ending.{Ending}
 use Rattle.rist_recv.specs.declared.ending.Ending.TheVariants as endings
 use Rattle.rist_recv.specs.Endings.{is_spent, is_link_failed, any_worker, all_workers, is_write_fault, IsSound, IsWithoutRoom}
-use Rattle.rist_recv.specs.Exact.{IsRunOf, reached_payloads}
+use Rattle.receiver_rules.specs.SentEpochs.{SentStreams, Transfer, AreTransfersOf, sent_epochs, reached_payloads as payloads_of_epochs}
+use Rattle.rist_recv.specs.Exact.{IsRunOf, IsRunOfAll, reached_payloads}
 use Rattle.rist_recv.specs.Receiving.{own_lists, HasReceived, IsTorn}
 use Rattle.rist_recv.specs.Setup.{Setup, given_to, no_steps}
 use Rattle.rist_recv.specs.Workers.{ToldTrace, link_of, clock_of, told_trace}
@@ -23,15 +24,20 @@ use Rattle.rist_recv.specs.Workers.{ToldTrace, link_of, clock_of, told_trace}
 abbrev pub told_lists : {L C : Type 0} → List (Worker L C ToldTrace) → List (List Step)
 told_lists workers = own_lists (λ trace. trace.list) workers
 
--- What was received is exact. The steps before the end are those of the links, each link's once and in its order; the sink holds all
--- that they release; and where they are a run of copies of what one sender sent, near enough for their words to tell them apart, that
--- is the payloads of the numbers that were reached, by rising number, each once. The counts are those of the steps.
+-- What was received is exact. The steps before the end are those of the links, each link's once and in its order; the
+-- sink holds all that they release; and where they are a run of copies of what one sender sent, near enough for their
+-- words to tell them apart, that is the payloads of the numbers that were reached, by rising number, each once. Where
+-- flows restart it is that of one epoch after another. The counts are those of the steps.
 pub record IsExact (given : Given) (desk : DeskState) (own : List (List Step)) (counts : Counts) : Type 0 where
   pub received : HasReceived given desk.kept desk.contents own
   pub reached : (steps : List Step) (octets : List ℕ) (p : SentStream) (run : List Delivery)
       → received.before ≡ Some steps → desk.contents ≡ Some octets → IsRunOf p run steps
       → HasSteadyTimestamps p → AreDeliveriesOf given.settings.limits p run
       → octets ≡ concat (reached_payloads given.settings.limits p run)
+  pub epochs : (steps : List Step) (octets : List ℕ) (streams : SentStreams) (run : List Transfer)
+      → received.before ≡ Some steps → desk.contents ≡ Some octets → IsRunOfAll streams run steps
+      → ((epoch : ℕ) → HasSteadyTimestamps (streams epoch)) → AreTransfersOf given.settings.limits streams run
+      → octets ≡ concat (payloads_of_epochs streams (sent_epochs given.settings.limits streams run))
   pub counted : (steps : List Step) → desk.kept ≡ Some steps
       → AreCountsOf counts given.settings.limits (history_of (reverse steps))
 
@@ -54,8 +60,8 @@ pub record IsNewWorker {L C : Type 0} (s : Setup) (w : Worker L C ToldTrace) : T
   pub limit : w.trace.limit ≡ s.keep
   pub unended : w.end ≡ None
 
--- Links and clocks were served, each by a worker, and the desk that they shared stands for its steps, where it keeps them. The sink
--- told this before and tells that now, and so did its count of failed writes.
+-- Links and clocks were served, each by a worker, and the desk that they shared stands for its steps, where it keeps
+-- them. The sink told this before and tells that now, and so did its count of failed writes.
 pub record Receives {L C : Type 0} (moments : C → Option (ℕ → ℕ)) (tells : LinkTells L) (s : Setup) (limits : Limits)
     (links_were links_are : List L) (clocks_were clocks_are : List C) (contents_were contents_are : Option (List ℕ))
     (faults_were faults_are : ℕ) (counts : Counts) (ending : Ending) : Type 0 where
@@ -68,7 +74,8 @@ pub record Receives {L C : Type 0} (moments : C → Option (ℕ → ℕ)) (tells
   pub links_have : map link_of are ≡ links_are
   pub clocks_have : map clock_of are ≡ clocks_are
   pub as_many : length are ≡ length were
-  -- each worker's own list holds its turns' steps, and its link what these made, by the rules where the desk tells its steps
+  -- each worker's own list holds its turns' steps, and its link what these made, by the rules where the desk tells its
+  -- steps
   pub served : (link : ℕ) (was is : Worker L C ToldTrace) → slice_get were link ≡ Some was
       → slice_get are link ≡ Some is → ServesOn (given_to s contents_were faults_were) moments tells told_trace limits link was is
   pub tells_steps : is_some desk.kept ≡ is_some s.keep

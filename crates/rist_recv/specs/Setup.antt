@@ -13,8 +13,8 @@ use Rattle.rist_desk.specs.Desk.{Given}
 use Rattle.rist_recv.specs.declared.seats.Seat.{Seat}
 use Rattle.rist_recv.specs.declared.seats.Made.{Made}
 
--- the rules of its receiver; the session of its links, and what seals in it; and how many steps its traces keep at most, where they
--- keep any
+-- the rules of its receiver; the session of its links, and what seals in it; and how many steps its traces keep at
+-- most, where they keep any
 pub record Setup : Type 0 where
   pub settings : ControlSettings
   pub session : Session
@@ -46,7 +46,8 @@ setup_of limit made =
       keep = limit made.trace;
     }
 
--- all is made for so many links: a receiver that was told nothing, an empty trace, a seat for each link, and room for the workers
+-- all is made for so many links: a receiver that was told nothing, an empty trace, a seat for each link, and room for
+-- the workers
 pub record IsMade {T L C : Type 0} (list : T → Option (List Step)) (limit : T → Option ℕ) (count : ℕ) (made : Made T L C) : Type 0 where
   pub running : made.receiver.buffer.phase ≡ Open
   pub told : IsReceiverAfter made.receiver []

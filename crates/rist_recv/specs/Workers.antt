@@ -5,9 +5,11 @@ use Rattle.rist_desk.specs.declared.worker.Worker.{Worker}
 use Rattle.rist_desk.specs.Serving.{TraceTells}
 use Rattle.rist_recv.specs.declared.seats.Seat.{Seat}
 
+-- its link
 abbrev pub link_of : {L C U : Type 0} → Worker L C U → L
 link_of w = w.link
 
+-- its clock
 abbrev pub clock_of : {L C U : Type 0} → Worker L C U → C
 clock_of w = w.clock
 

@@ -7,7 +7,8 @@ ghost use Rattle.rist_desk.specs.Desk.{Given};
 ghost use Rattle.rist_compare.specs.declared.tear.Tear.{Tear};
 ghost use Rattle.rist_compare.specs.Tears.{own_of};
 ghost use Rattle.rist_recv.specs.Receiving.{IsWhole, IsTorn};
-ghost use Rattle.rist_recv.specs.Exact.{IsRunOf, reached_payloads};
+ghost use Rattle.receiver_rules.specs.SentEpochs.{SentStreams, Transfer, AreTransfersOf, sent_epochs, reached_payloads as payloads_of_epochs};
+ghost use Rattle.rist_recv.specs.Exact.{IsRunOf, IsRunOfAll, reached_payloads};
 
 /// Where the steps before the end are a run of copies of what one sender sent, near enough for their words to tell them
 /// apart, the sink holds the payloads of the numbers that were reached, by rising number, each once, and nothing else.
@@ -18,6 +19,17 @@ pub fn what_was_reached_is_received()
         → 1 ≤ given.settings.limits.playout_delay → HasSteadyTimestamps p
         → AreDeliveriesOf given.settings.limits p run
         → octets ≡ concat (reached_payloads given.settings.limits p run) }
+{}
+
+/// Where flows restart and the steps before the end are copies of what was sent in each epoch, and other packets that
+/// are free, the sink holds epoch after epoch the payloads of the numbers that were reached in it, by rising number.
+pub fn what_was_reached_is_received_epoch_after_epoch()
+    ensures { (given : Given) (streams : SentStreams) (run : List Transfer) (steps : List Step)
+        (kept : Option (List Step)) (contents : Option (List ℕ)) (octets : List ℕ)
+        → IsWhole given (Some steps) kept contents → contents ≡ Some octets → IsRunOfAll streams run steps
+        → 1 ≤ given.settings.limits.playout_delay → ((epoch : ℕ) → HasSteadyTimestamps (streams epoch))
+        → AreTransfersOf given.settings.limits streams run
+        → octets ≡ concat (payloads_of_epochs streams (sent_epochs given.settings.limits streams run)) }
 {}
 
 /// Where nothing was kept, nothing is torn.

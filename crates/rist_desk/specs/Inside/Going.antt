@@ -35,8 +35,8 @@ pub record IsTask (f : Feed) (session : Session) (place : ℕ) (limits : Limits)
   pub turns_is : f.turns ≡ limits.turns
   pub idle_is : f.idle ≡ limits.idle
 
--- after n turns: what its clock and link have left, what was made and sent since the first, the moment of its last tick, and since
--- when it is quiet
+-- after n turns: what its clock and link have left, what was made and sent since the first, the moment of its last
+-- tick, and since when it is quiet
 pub record IsGoing (desk : Option Given) (f : Feed) (n : ℕ) (knows peers : Channel → Bool) (moments : Option (ℕ → ℕ)) (answers : Option (ℕ → Answer)) (first now : Holds) (ticked since : Option ℕ) : Type 0 where
   pub within : n < f.turns
   pub took_moments : moments ≡ Some (from n f.moments)

@@ -13,6 +13,7 @@ abbrev pub has_fault : List Step → Bool
 has_fault [] = false
 has_fault (s ∷ before) = is_fault s.mark
 
+-- what became of the end, where the write that it was cut off by failed; else as it stands
 abbrev pub last_by : Bool → Last → Last
 last_by true otherwise = lasts.Failed
 last_by false otherwise = otherwise
@@ -22,6 +23,7 @@ abbrev pub last_of : Bool → Result Answer Full → Last
 last_of failed (Ok answer) = last_by (is_cut_off answer) lasts.Told
 last_of failed (Err full) = last_by failed lasts.Full
 
+-- a write failed
 abbrev pub has_failed : Last → Bool
 has_failed lasts.Told = false
 has_failed lasts.Failed = true
