@@ -17,13 +17,14 @@ pub record Setup : Type 0 where
   pub session : Session
   pub links : ℕ
 
--- what its clock has still to give, where it tells it, and the octets of the payloads that its sender took, one after another
+-- what its clock has still to give, where it tells it, and the octets of the payloads that its sender took, one after
+-- another
 pub record Passed : Type 0 where
   pub moments : Option (ℕ → ℕ)
   pub sent : List ℕ
 
--- how far it has come: what its sender did, what has passed, and what the reads of each of its links have still to give, where they
--- tell it
+-- how far it has come: what its sender did, what has passed, and what the reads of each of its links have still to
+-- give, where they tell it
 pub record Course : Type 0 where
   pub work : Work
   pub passed : Passed
@@ -125,8 +126,8 @@ LooksAt setup micros link puts side from to =
 
 -- ---- deeds
 
--- a payload was handed to the sender, which answered so; or a link was looked at, at a moment and after so many puts, which came to
--- this
+-- a payload was handed to the sender, which answered so; or a link was looked at, at a moment and after so many puts,
+-- which came to this
 pub data Deed : Type 0 where
   Sent : List ℕ → Result Unit SendBad → Deed
   Looked : ℕ → ℕ → ℕ → Side → Deed

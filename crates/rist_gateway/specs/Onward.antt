@@ -33,8 +33,9 @@ shown line link = record { taken = line.taken link; knows = line.knows link; fau
 abbrev pub plain : Line LinkState
 plain = record { taken = λ s. s.taken; knows = λ s. s.knows; faults = λ s. s.faults; reads = λ s. s.reads; ends = λ s. s.ends }
 
--- its sender; its opener's session; its links; the moments that its clock has still to give, and the octets of the payloads that its
--- sender took; how often it was put to; how many puts failed; and why the last put and the last aside that were refused were
+-- its sender; its opener's session; its links; the moments that its clock has still to give, and the octets of the
+-- payloads that its sender took; how often it was put to; how many puts failed; and why the last put and the last aside
+-- that were refused were
 pub record OnwardState : Type 0 where
   pub sender : SenderState
   pub opener : Session
@@ -94,7 +95,8 @@ pub record IsAt (o : OnwardState) (course : Course) : Type 0 where
   pub passed : course.passed ≡ o.passed
   pub answers : course.answers ≡ map (λ s. s.reads) o.links
 
--- from as far as that it has come to something of which this holds, and each link was given just the datagrams of its sender's work
+-- from as far as that it has come to something of which this holds, and each link was given just the datagrams of its
+-- sender's work
 pub record Moves (old new : OnwardState) (from : Course) (P : Course → Type 0) : Type 0 where
   pub to : Course
   pub fact : P to
@@ -116,9 +118,9 @@ abbrev pub HasRisen : Option SendBad → List LinkState → List LinkState → T
 HasRisen why first now =
     why ≡ Some LinksDown → (link : ℕ) (d : LinkState) → link < length first → Rose (slice_index_or first link d).faults (slice_index_or now link d).faults
 
--- What holds of every one that was made as this: it is set as it was; it has come to where it is by deeds, one after another; each
--- link was given just the datagrams of these; where a put failed it tells why; and where it tells that all links are down, a call on
--- each failed.
+-- What holds of every one that was made as this: it is set as it was; it has come to where it is by deeds, one after
+-- another; each link was given just the datagrams of these; where a put failed it tells why; and where it tells that
+-- all links are down, a call on each failed.
 pub record IsOnward (first o : OnwardState) : Type 0 where
   pub rules : rules_of o.sender ≡ rules_of first.sender
   pub session : o.sender.session ≡ first.sender.session

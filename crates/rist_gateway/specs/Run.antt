@@ -1,5 +1,5 @@
--- What a run of a gateway leaves, by what its objects tell. Of its links the first ones are received on and the others sent on; its
--- clocks are those of the links, and last that of the sender.
+-- What a run of a gateway leaves, by what its objects tell. Of its links the first ones are received on and the others
+-- sent on; its clocks are those of the links, and last that of the sender.
 use Rattle.std.specs.Prelude.{◌≡◌, ℕ, List, [], map, take, drop, length, slice_get, Option, Some, None}
 use Rattle.outside_io.specs.declared.channel.Channel.{Channel}
 use Rattle.rist_sender.specs.Links.{Line}
@@ -36,8 +36,8 @@ looked_ending (Some bads.LinksDown) gates.TraceFull = gates.TraceFull
 looked_ending (Some bads.LinksDown) (gates.Torn tear) = gates.Torn tear
 looked_ending (Some bads.LinksDown) gates.LinksDown = gates.LinksDown
 
--- How a run ends, by how its receiving ended and by what its sender refused. A refused put comes first, and is answered as it was
--- refused.
+-- How a run ends, by how its receiving ended and by what its sender refused. A refused put comes first, and is answered
+-- as it was refused.
 abbrev pub EndsGate : Ending → Option SendBad → Option SendBad → GateEnding → Type 0
 EndsGate endings.WriteFault None looked ending = ⊥
 EndsGate endings.WriteFault (Some bad) looked ending = ending ≡ refused_ending bad
@@ -53,15 +53,16 @@ EndsGate endings.Done put looked ending = ending ≡ looked_ending looked gates.
 abbrev pub tells_of : {L : Type 0} → Line L → LinkTells L
 tells_of line = record { reads = line.reads; taken = line.taken; knows = line.knows; ends = line.ends; faults = line.faults }
 
--- the clocks of the links that are sent on were those of side workers, one for each link at its place, and each looked at its link
+-- the clocks of the links that are sent on were those of side workers, one for each link at its place, and each looked
+-- at its link
 pub record AreLookedAt {C : Type 0} (moments : C → Option (ℕ → ℕ)) (limits : Limits) (clocks_were clocks_are : List C) : Type 0 where
   pub are : List (SideWorker C)
   pub clocks_have : map side_clock are ≡ clocks_are
   pub looked : LookedAt moments limits (side_workers 0 clocks_were) are
 
--- The links that are sent on were handed to a sender which had done nothing, and which did this with them: all that it did, deed by
--- deed, was to send what was put to it, payload by payload, and to look at its links; the octets of the payloads that it took are
--- these.
+-- The links that are sent on were handed to a sender which had done nothing, and which did this with them: all that it
+-- did, deed by deed, was to send what was put to it, payload by payload, and to look at its links; the octets of the
+-- payloads that it took are these.
 pub record SendsOnward {L C : Type 0} (moments : C → Option (ℕ → ℕ)) (line : Line L) (s : GateSetup) (links_were links_are : List L)
     (clock_was clock_is : C) (first last : OnwardState) : Type 0 where
   pub rules : rules_of first.sender ≡ s.rules
@@ -75,8 +76,9 @@ pub record SendsOnward {L C : Type 0} (moments : C → Option (ℕ → ℕ)) (li
   pub clock_has : last.passed.moments ≡ moments clock_is
   pub onward : IsOnward first last
 
--- A run over so many links that are received on, with the others sent on. What was received is played out to the sender: the octets
--- that it took are those that the receiver's steps release, where they are kept. Counts are the receiver's.
+-- A run over so many links that are received on, with the others sent on. What was received is played out to the
+-- sender: the octets that it took are those that the receiver's steps release, where they are kept. Counts are the
+-- receiver's.
 pub record Forwards {L C : Type 0} (moments : C → Option (ℕ → ℕ)) (line : Line L) (s : GateSetup) (limits : Limits) (inputs : ℕ)
     (links_were links_are : List L) (clocks_were clocks_are : List C) (counts : Counts) (ending : GateEnding) : Type 0 where
   pub first : OnwardState

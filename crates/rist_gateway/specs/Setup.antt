@@ -11,7 +11,8 @@ use Rattle.rist_recv.specs.Setup.{Setup as ReceivingSetup, IsMade as IsReceiving
 use Rattle.rist_gateway.specs.Onward.{no_work}
 use Rattle.rist_gateway.specs.declared.making.Made.{Made}
 
--- what its receiving end is set to; and the rules of its sender, the session of the links that are sent on, and what seals in it
+-- what its receiving end is set to; and the rules of its sender, the session of the links that are sent on, and what
+-- seals in it
 pub record GateSetup : Type 0 where
   pub receiving : ReceivingSetup
   pub rules : Rules
@@ -40,8 +41,8 @@ gate_setup_of limit made =
       sealer = made.sender.sealer;
     }
 
--- all is made for so many links of each end: the receiving end; a sender that did nothing, over so many links, and an opener of its
--- session; and room for its links, and for the parts of both ends
+-- all is made for so many links of each end: the receiving end; a sender that did nothing, over so many links, and an
+-- opener of its session; and room for its links, and for the parts of both ends
 pub record IsGateMade {T L C : Type 0} (list : T → Option (List Step)) (limit : T → Option ℕ) (inputs outputs : ℕ) (made : Made T L C) : Type 0 where
   pub receiving : IsReceivingMade list limit inputs made.receiving
   pub sender : IsSenderAfter made.sender (no_work made.sender)
