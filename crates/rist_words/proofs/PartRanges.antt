@@ -13,10 +13,10 @@ use Rattle.outside_io.specs.declared.profile.Profile.{Profile}
 use Rattle.outside_io.specs.declared.profile.Profile.TheVariants.{Simple, Main}
 use Rattle.rist_words.specs.declared.values.Numbers.{Numbers}
 use Rattle.rist_words.specs.Values.{is_numeral, is_among, nack_of, number_in, number_of, ◌>>=◌, profile_of, phrase_of, is_set, flag_of}
-use Rattle.rist_words.specs.CommandLine.{Session, Stream, Receiver, Serving, ports, key_bits, delays, spans, flows, firsts, gaps, stores, holds, lingers, turn_counts}
-use Rattle.rist_words.specs.CommandLine.{reorders, retry_times, retry_counts, own_ssrcs, idle_times, kept_counts, session_of, stream_of, receiver_of, serving_of}
+use Rattle.rist_words.specs.CommandLine.{Session, Stream, Receiver, Serving, ports, key_bits, delays, spans, restarts, flows, firsts, gaps, stores, holds, lingers, turn_counts}
+use Rattle.rist_words.specs.CommandLine.{reorders, retry_times, retry_counts, own_ssrcs, idle_times, kept_counts, udp_ports, session_of, pcap_with, stream_of, receiver_of, serving_of}
 use Rattle.rist_words.specs.Links.{colon, each_link, gate_links_of, input_counts, inputs_of, link_of, link_weights, links_of, shares_of, split_at, weights_in}
-use Rattle.rist_words.specs.Ranges.{IsInSession, IsInStream, IsInReceiver, IsInServing, IsWeight}
+use Rattle.rist_words.specs.Ranges.{IsInSession, IsUdpPort, IsInStream, IsInReceiver, IsInServing, IsWeight}
 
 -- a value that was read, and the rest of the reading
 pub record Reads {A B : Type 0} (x : Option A) (f : A → Option B) (b : B) : Type 0 where
@@ -48,11 +48,14 @@ pub both_true : (a b : Bool) → (a && b) ≡ true → b ≡ true
 both_true true b e = e
 both_true false b e = cc
 
-pub number_range : (numbers : Numbers) (o : Option Text) (n : ℕ) → IsAmong numbers numbers.default → number_of numbers o ≡ Some n → IsAmong numbers n
-number_range numbers None n default e = subst (IsAmong numbers) (same_some numbers.default n e) default
-number_range numbers (Some text) n default e =
+pub text_range : (numbers : Numbers) (text : Text) (n : ℕ) → number_in numbers text ≡ Some n → IsAmong numbers n
+text_range numbers text n e =
     let t = taken (is_numeral text && is_among numbers (digits_value 10 text)) (digits_value 10 text) n e in
     subst (IsAmong numbers) t.1 (among numbers (digits_value 10 text) (both_true (is_numeral text) (is_among numbers (digits_value 10 text)) t.0))
+
+pub number_range : (numbers : Numbers) (o : Option Text) (n : ℕ) → IsAmong numbers numbers.default → number_of numbers o ≡ Some n → IsAmong numbers n
+number_range numbers None n default e = subst (IsAmong numbers) (same_some numbers.default n e) default
+number_range numbers (Some text) n default e = text_range numbers text n e
 
 pub two_bits : (n : ℕ) → IsAmong key_bits n → (n ≡ 128) ⊎ (n ≡ 256)
 two_bits n a = let l = a.least in let m = a.most in let k = a.multiple in by_half (nat_lt n 256) refl
@@ -106,6 +109,23 @@ session_range rows s e =
       simple = phrase_simple profile.value (first_of (codes "pass") rows) pass.value pass.is;
       full = flag_simple profile.value (first_of (codes "full") rows) full.value full.is;
     })
+
+pub port_among : (profile : Profile) (n : ℕ) → IsAmong (udp_ports profile) n → IsUdpPort profile n
+port_among Main n a = record { some = a.least; most = a.most; even = λ is. cc }
+port_among Simple n a = record { some = omega (arith, a.least); most = omega (arith, a.most); even = λ is. a.multiple }
+
+pub udp_range : (profile : Profile) (set : Bool) (text : Option Text) (pcap : Option ℕ)
+    → pcap_with profile set text ≡ Some pcap → IfSome pcap (λ port. IsUdpPort profile port)
+udp_range profile false None pcap e = subst (λ p. IfSome p (λ port. IsUdpPort profile port)) (same_some None pcap e) tt
+udp_range profile false (Some text) pcap e = cc
+udp_range profile true None pcap e = cc
+udp_range profile true (Some text) pcap e = by_port (number_in (udp_ports profile) text) refl e
+  where
+    by_port : (o : Option ℕ) → number_in (udp_ports profile) text ≡ o → option_map (λ port. Some port) o ≡ Some pcap
+        → IfSome pcap (λ port. IsUdpPort profile port)
+    by_port None is p = cc
+    by_port (Some n) is p =
+        subst (λ q. IfSome q (λ port. IsUdpPort profile port)) (same_some (Some n) pcap p) (port_among profile n (text_range (udp_ports profile) text n is))
 
 pub first_low : (wide : Bool) (n : ℕ) → IsAmong (firsts wide) n → wide ≡ false → n < 65536
 first_low true n a is = cc
@@ -214,13 +234,15 @@ pub receiver_range : (rows : List Row) (r : Receiver) → receiver_of rows ≡ S
 receiver_range rows r e =
     let delay = reads (number_of delays (first_of (codes "delay") rows)) _ r e in
     let span = reads (number_of spans (first_of (codes "span") rows)) _ r delay.rest in
-    let reorder = reads (number_of reorders (first_of (codes "reorder") rows)) _ r span.rest in
+    let restart = reads (number_of restarts (first_of (codes "restart") rows)) _ r span.rest in
+    let reorder = reads (number_of reorders (first_of (codes "reorder") rows)) _ r restart.rest in
     let least = reads (number_of retry_times (first_of (codes "least") rows)) _ r reorder.rest in
     let tries = reads (number_of retry_counts (first_of (codes "tries") rows)) _ r least.rest in
     let nack = reads (nack_of (first_of (codes "nack") rows)) _ r tries.rest in
     let own = reads (number_of own_ssrcs (first_of (codes "own") rows)) _ r nack.rest in
     let d = option_range delays (first_of (codes "delay") rows) delay.value delay.is (omega arith) (omega arith) refl in
     let s = option_range spans (first_of (codes "span") rows) span.value span.is (omega arith) (omega arith) refl in
+    let q = option_range restarts (first_of (codes "restart") rows) restart.value restart.is (omega arith) (omega arith) refl in
     let o = option_range reorders (first_of (codes "reorder") rows) reorder.value reorder.is (omega arith) (omega arith) refl in
     let l = option_range retry_times (first_of (codes "least") rows) least.value least.is (omega arith) (omega arith) refl in
     let t = option_range retry_counts (first_of (codes "tries") rows) tries.value tries.is (omega arith) (omega arith) refl in
@@ -230,6 +252,7 @@ receiver_range rows r e =
       delay = d.most;
       some_span = s.least;
       span = s.most;
+      restart = q.most;
       reorder = o.most;
       some_least = l.least;
       least = l.most;

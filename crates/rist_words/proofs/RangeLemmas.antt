@@ -4,13 +4,13 @@ use Rattle.std.specs.Prelude.{option_map, codes}
 use Rattle.std.specs.Str.{bytes_eq}
 use Rattle.clap.specs.Words.{Kinds, Row, Text, all_of, first_of}
 use Rattle.rist_words.specs.Commands.{faults_of, command_in}
-use Rattle.rist_words.specs.Values.{number_of, name_of}
-use Rattle.rist_words.specs.CommandLine.{CommandLine, Replay, Show, Pack, Send, Recv, Gate, ReplayCommand, ShowCommand, PackCommand, SendCommand, RecvCommand, GateCommand}
-use Rattle.rist_words.specs.CommandLine.{delays, spans, gaps, stores, holds, lingers, turn_counts, session_of, stream_of, receiver_of, serving_of}
-use Rattle.rist_words.specs.CommandLine.{replay_of, show_of, pack_of, send_of, recv_of, gate_of, command_line, taken_line, line_of}
+use Rattle.rist_words.specs.Values.{is_set, number_of, name_of}
+use Rattle.rist_words.specs.CommandLine.{CommandLine, Replay, Show, Count, Pack, Send, Recv, Gate, ReplayCommand, ShowCommand, CountCommand, PackCommand, SendCommand, RecvCommand, GateCommand}
+use Rattle.rist_words.specs.CommandLine.{delays, spans, restarts, gaps, stores, holds, lingers, turn_counts, session_of, pcap_of, stream_of, receiver_of, serving_of}
+use Rattle.rist_words.specs.CommandLine.{replay_of, show_of, count_of, pack_of, send_of, recv_of, gate_of, command_line, taken_line, line_of}
 use Rattle.rist_words.specs.Links.{gate_links_of, links_of, shares_of}
-use Rattle.rist_words.specs.Ranges.{IsInSession, IsInReplay, IsInPack, IsInSend, IsInRecv, IsInGate, IsInRange}
-use Rattle.rist_words.proofs.PartRanges.{reads, same_some, number_range, session_range, stream_range, links_range, share_range, receiver_range, serving_range, gate_links_range}
+use Rattle.rist_words.specs.Ranges.{IsInReplay, IsInShow, IsInCount, IsInPack, IsInSend, IsInRecv, IsInGate, IsInRange}
+use Rattle.rist_words.proofs.PartRanges.{reads, same_some, number_range, session_range, udp_range, stream_range, links_range, share_range, receiver_range, serving_range, gate_links_range}
 use Rattle.rist_words.proofs.PartRanges.{default_gap, default_store, default_hold, default_linger, default_turns}
 
 replay_range : (rows : List Row) (c : ReplayCommand) → replay_of rows ≡ Some c → IsInReplay c
@@ -20,15 +20,51 @@ replay_range rows c e =
     let session = reads (session_of rows) _ c out.rest in
     let delay = reads (number_of delays (first_of (codes "delay") rows)) _ c session.rest in
     let span = reads (number_of spans (first_of (codes "span") rows)) _ c delay.rest in
+    let restart = reads (number_of restarts (first_of (codes "restart") rows)) _ c span.rest in
+    let pcap = reads (pcap_of session.value.profile rows) _ c restart.rest in
     let d = number_range delays (first_of (codes "delay") rows) delay.value (record { least = omega arith; most = omega arith; multiple = refl }) delay.is in
     let s = number_range spans (first_of (codes "span") rows) span.value (record { least = omega arith; most = omega arith; multiple = refl }) span.is in
-    subst IsInReplay (same_some _ _ span.rest) (record { session = session_range rows session.value session.is; some_delay = d.least; delay = d.most; some_span = s.least; span = s.most })
+    let t = number_range restarts (first_of (codes "restart") rows) restart.value (record { least = omega arith; most = omega arith; multiple = refl }) restart.is in
+    subst IsInReplay (same_some _ _ pcap.rest) (record {
+      session = session_range rows session.value session.is;
+      some_delay = d.least;
+      delay = d.most;
+      some_span = s.least;
+      span = s.most;
+      restart = t.most;
+      udp = udp_range session.value.profile (is_set (first_of (codes "pcap") rows)) (first_of (codes "udp") rows) pcap.value pcap.is;
+    })
 
-show_range : (rows : List Row) (c : ShowCommand) → show_of rows ≡ Some c → IsInSession c.session
+show_range : (rows : List Row) (c : ShowCommand) → show_of rows ≡ Some c → IsInShow c
 show_range rows c e =
     let capture = reads (name_of (first_of (codes "capture") rows)) _ c e in
     let session = reads (session_of rows) _ c capture.rest in
-    subst (λ (k : ShowCommand). IsInSession k.session) (same_some _ _ session.rest) (session_range rows session.value session.is)
+    let pcap = reads (pcap_of session.value.profile rows) _ c session.rest in
+    subst IsInShow (same_some _ _ pcap.rest) (record {
+      session = session_range rows session.value session.is;
+      udp = udp_range session.value.profile (is_set (first_of (codes "pcap") rows)) (first_of (codes "udp") rows) pcap.value pcap.is;
+    })
+
+count_range : (rows : List Row) (c : CountCommand) → count_of rows ≡ Some c → IsInCount c
+count_range rows c e =
+    let capture = reads (name_of (first_of (codes "capture") rows)) _ c e in
+    let session = reads (session_of rows) _ c capture.rest in
+    let delay = reads (number_of delays (first_of (codes "delay") rows)) _ c session.rest in
+    let span = reads (number_of spans (first_of (codes "span") rows)) _ c delay.rest in
+    let restart = reads (number_of restarts (first_of (codes "restart") rows)) _ c span.rest in
+    let pcap = reads (pcap_of session.value.profile rows) _ c restart.rest in
+    let d = number_range delays (first_of (codes "delay") rows) delay.value (record { least = omega arith; most = omega arith; multiple = refl }) delay.is in
+    let s = number_range spans (first_of (codes "span") rows) span.value (record { least = omega arith; most = omega arith; multiple = refl }) span.is in
+    let t = number_range restarts (first_of (codes "restart") rows) restart.value (record { least = omega arith; most = omega arith; multiple = refl }) restart.is in
+    subst IsInCount (same_some _ _ pcap.rest) (record {
+      session = session_range rows session.value session.is;
+      some_delay = d.least;
+      delay = d.most;
+      some_span = s.least;
+      span = s.most;
+      restart = t.most;
+      udp = udp_range session.value.profile (is_set (first_of (codes "pcap") rows)) (first_of (codes "udp") rows) pcap.value pcap.is;
+    })
 
 pack_range : (rows : List Row) (c : PackCommand) → pack_of rows ≡ Some c → IsInPack c
 pack_range rows c e =
@@ -130,20 +166,22 @@ mapped f P (Some a) c each to e = subst IsInRange (same_some (f a) c e) (to a (e
 
 command_range : (name : Text) (rows : List Row) (c : CommandLine) → command_line name rows ≡ Some c → IsInRange c
 command_range name rows c e =
-    by_name (bytes_eq name (codes "replay")) (bytes_eq name (codes "show")) (bytes_eq name (codes "pack")) (bytes_eq name (codes "send"))
-    (bytes_eq name (codes "recv")) (bytes_eq name (codes "gate")) e
+    by_name (bytes_eq name (codes "replay")) (bytes_eq name (codes "show")) (bytes_eq name (codes "count")) (bytes_eq name (codes "pack"))
+    (bytes_eq name (codes "send")) (bytes_eq name (codes "recv")) (bytes_eq name (codes "gate")) e
   where
-    by_name : (a b d s r g : Bool)
-        → cond a (option_map Replay (replay_of rows)) (cond b (option_map Show (show_of rows)) (cond d (option_map Pack (pack_of rows))
-        (cond s (option_map Send (send_of rows)) (cond r (option_map Recv (recv_of rows)) (cond g (option_map Gate (gate_of rows)) None))))) ≡ Some c
+    by_name : (a b n d s r g : Bool)
+        → cond a (option_map Replay (replay_of rows)) (cond b (option_map Show (show_of rows)) (cond n (option_map Count (count_of rows))
+        (cond d (option_map Pack (pack_of rows)) (cond s (option_map Send (send_of rows)) (cond r (option_map Recv (recv_of rows))
+        (cond g (option_map Gate (gate_of rows)) None)))))) ≡ Some c
         → IsInRange c
-    by_name true b d s r g p = mapped Replay IsInReplay (replay_of rows) c (replay_range rows) (λ a i. i) p
-    by_name false true d s r g p = mapped Show (λ k. IsInSession k.session) (show_of rows) c (show_range rows) (λ a i. i) p
-    by_name false false true s r g p = mapped Pack IsInPack (pack_of rows) c (pack_range rows) (λ a i. i) p
-    by_name false false false true r g p = mapped Send IsInSend (send_of rows) c (send_range rows) (λ a i. i) p
-    by_name false false false false true g p = mapped Recv IsInRecv (recv_of rows) c (recv_range rows) (λ a i. i) p
-    by_name false false false false false true p = mapped Gate IsInGate (gate_of rows) c (gate_range rows) (λ a i. i) p
-    by_name false false false false false false p = cc
+    by_name true b n d s r g p = mapped Replay IsInReplay (replay_of rows) c (replay_range rows) (λ a i. i) p
+    by_name false true n d s r g p = mapped Show IsInShow (show_of rows) c (show_range rows) (λ a i. i) p
+    by_name false false true d s r g p = mapped Count IsInCount (count_of rows) c (count_range rows) (λ a i. i) p
+    by_name false false false true s r g p = mapped Pack IsInPack (pack_of rows) c (pack_range rows) (λ a i. i) p
+    by_name false false false false true r g p = mapped Send IsInSend (send_of rows) c (send_range rows) (λ a i. i) p
+    by_name false false false false false true g p = mapped Recv IsInRecv (recv_of rows) c (recv_range rows) (λ a i. i) p
+    by_name false false false false false false true p = mapped Gate IsInGate (gate_of rows) c (gate_range rows) (λ a i. i) p
+    by_name false false false false false false false p = cc
 
 taken_range : (kinds : Kinds) (named : Option (Text × List Row)) (c : CommandLine) → taken_line kinds named ≡ Some c → IsInRange c
 taken_range [] None c e = cc

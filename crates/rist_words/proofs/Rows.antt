@@ -4,23 +4,23 @@ use Rattle.clap.proofs.OnLiterals.{clap_on_literals}
 use Rattle.outside_io.specs.declared.profile.Profile.TheVariants.{Main, Simple}
 use Rattle.rist_words.specs.Commands.{command_in, faults_of}
 use Rattle.request_rules.specs.declared.policy.NackKind.TheVariants.{Mask, Range}
-use Rattle.rist_words.specs.CommandLine.{Gate, Pack, Receiver, Recv, Replay, Send, Serving, Session, Show, Stream, line_of}
+use Rattle.rist_words.specs.CommandLine.{Count, Gate, Pack, Receiver, Recv, Replay, Send, Serving, Session, Show, Stream, line_of}
 
 -- a session without options
 abbrev plain : Session
 plain = record { profile = Simple; port = 1968; pass = None; bits = 128; full = false }
 
 defaults : line_of (codes "rist" ∷ codes "replay" ∷ codes "a" ∷ codes "-" ∷ [])
-    ≡ Some (Replay (record { capture = codes "a"; out = codes "-"; session = plain; delay = 1000; span = 2048 }))
+    ≡ Some (Replay (record { capture = codes "a"; out = codes "-"; session = plain; delay = 1000; span = 2048; restart = 0; pcap = None }))
 unfolding clap_on_literals faults_of command_in
 defaults = refl
 
 between : line_of (codes "rist" ∷ codes "replay" ∷ codes "a" ∷ codes "--span=07" ∷ codes "b" ∷ codes "--delay" ∷ codes "5" ∷ [])
-    ≡ Some (Replay (record { capture = codes "a"; out = codes "b"; session = plain; delay = 5; span = 7 }))
+    ≡ Some (Replay (record { capture = codes "a"; out = codes "b"; session = plain; delay = 5; span = 7; restart = 0; pcap = None }))
 unfolding clap_on_literals faults_of command_in
 between = refl
 
-after_dashes : line_of (codes "rist" ∷ codes "show" ∷ codes "--" ∷ codes "-a" ∷ []) ≡ Some (Show (record { capture = codes "-a"; session = plain }))
+after_dashes : line_of (codes "rist" ∷ codes "show" ∷ codes "--" ∷ codes "-a" ∷ []) ≡ Some (Show (record { capture = codes "-a"; session = plain; pcap = None }))
 unfolding clap_on_literals faults_of command_in
 after_dashes = refl
 
@@ -49,13 +49,44 @@ unfolding clap_on_literals faults_of command_in
 help = refl
 
 sealed : line_of (codes "rist" ∷ codes "show" ∷ codes "a" ∷ codes "--pass=-x" ∷ codes "--profile" ∷ codes "main" ∷ codes "--bits" ∷ codes "256" ∷ codes "--port=2" ∷ [])
-    ≡ Some (Show (record { capture = codes "a"; session = record { profile = Main; port = 2; pass = Some (codes "-x"); bits = 256; full = false } }))
+    ≡ Some (Show (record { capture = codes "a"; session = record { profile = Main; port = 2; pass = Some (codes "-x"); bits = 256; full = false }; pcap = None }))
 unfolding clap_on_literals faults_of command_in
 sealed = refl
 
 sealed_in_simple : line_of (codes "rist" ∷ codes "show" ∷ codes "a" ∷ codes "--pass=x" ∷ []) ≡ None
 unfolding clap_on_literals faults_of command_in
 sealed_in_simple = refl
+
+of_the_network : line_of (codes "rist" ∷ codes "replay" ∷ codes "--pcap" ∷ codes "--udp" ∷ codes "1968" ∷ codes "-" ∷ codes "-" ∷ [])
+    ≡ Some (Replay (record { capture = codes "-"; out = codes "-"; session = plain; delay = 1000; span = 2048; restart = 0; pcap = Some 1968 }))
+unfolding clap_on_literals faults_of command_in
+of_the_network = refl
+
+counting : line_of (codes "rist" ∷ codes "count" ∷ codes "a" ∷ codes "--span=8" ∷ codes "--restart" ∷ codes "500" ∷ [])
+    ≡ Some (Count (record { capture = codes "a"; session = plain; delay = 1000; span = 8; restart = 500; pcap = None }))
+unfolding clap_on_literals faults_of command_in
+counting = refl
+
+port_in_main : line_of (codes "rist" ∷ codes "show" ∷ codes "a" ∷ codes "--udp=65535" ∷ codes "--profile=main" ∷ codes "--pcap" ∷ [])
+    ≡ Some (Show (record { capture = codes "a"; session = record plain { profile = Main }; pcap = Some 65535 }))
+unfolding clap_on_literals faults_of command_in
+port_in_main = refl
+
+odd_udp_port : line_of (codes "rist" ∷ codes "show" ∷ codes "a" ∷ codes "--udp=65535" ∷ codes "--pcap" ∷ []) ≡ None
+unfolding clap_on_literals faults_of command_in
+odd_udp_port = refl
+
+udp_port_0 : line_of (codes "rist" ∷ codes "show" ∷ codes "a" ∷ codes "--udp=0" ∷ codes "--profile=main" ∷ codes "--pcap" ∷ []) ≡ None
+unfolding clap_on_literals faults_of command_in
+udp_port_0 = refl
+
+port_alone : line_of (codes "rist" ∷ codes "replay" ∷ codes "a" ∷ codes "b" ∷ codes "--udp=1968" ∷ []) ≡ None
+unfolding clap_on_literals faults_of command_in
+port_alone = refl
+
+pcap_alone : line_of (codes "rist" ∷ codes "show" ∷ codes "a" ∷ codes "--pcap" ∷ []) ≡ None
+unfolding clap_on_literals faults_of command_in
+pcap_alone = refl
 
 wide : line_of (codes "rist" ∷ codes "pack" ∷ codes "--profile=main" ∷ codes "--wide" ∷ codes "a" ∷ codes "b" ∷ codes "--first=65536" ∷ [])
     ≡ Some (Pack (record {
@@ -102,7 +133,7 @@ no_link = refl
 
 -- a receiver and its run without options
 abbrev plain_receiver : Receiver
-plain_receiver = record { delay = 1000; span = 2048; reorder = 25; least = 50; tries = 8; nack = Range; own = 7 }
+plain_receiver = record { delay = 1000; span = 2048; restart = 0; reorder = 25; least = 50; tries = 8; nack = Range; own = 7 }
 
 -- likewise
 abbrev plain_serving : Serving

@@ -1,17 +1,19 @@
--- What a command line is: the command with all its values, where the words are taken and each value reads (this profile).
-use Rattle.std.specs.Prelude.{Bool, ℕ, List, [], ◌∷◌, length, Option, Some, None, option_and_then, option_map, if◌then◌else◌, codes}
+-- What a command line is: the command with all its values, where the words are taken and each value reads (this
+-- profile).
+use Rattle.std.specs.Prelude.{Bool, true, false, ℕ, List, [], ◌∷◌, length, Option, Some, None, option_and_then, option_map, if◌then◌else◌, codes}
 use Rattle.std.specs.Str.{bytes_eq}
 use Rattle.clap.specs.Words.{Kinds, Row, Text, all_of, first_of}
 use Rattle.outside_io.specs.declared.profile.Profile.{Profile}
+use Rattle.outside_io.specs.declared.profile.Profile.TheVariants.{Simple, Main}
 use Rattle.rist_words.specs.declared.values.Numbers.{Numbers}
 use Rattle.rist_words.specs.Commands.{faults_of, command_in}
 use Rattle.outside_net.specs.declared.link_spec.LinkSpec.{LinkSpec}
 use Rattle.request_rules.specs.declared.policy.NackKind.{NackKind}
-use Rattle.rist_words.specs.Values.{flag_of, nack_of, name_of, number_of, phrase_of, profile_of, ◌>>=◌}
+use Rattle.rist_words.specs.Values.{flag_of, is_set, nack_of, name_of, number_in, number_of, phrase_of, profile_of, ◌>>=◌}
 use Rattle.rist_words.specs.Links.{gate_links_of, links_of, shares_of}
 
--- how the datagrams of a session are made: the UDP port of media, the passphrase if there is one, the bits of its key, and
--- whether RTP and RTCP are written as full datagrams
+-- how the datagrams of a session are made: the UDP port of media, the passphrase if there is one, the bits of its key,
+-- and whether RTP and RTCP are written as full datagrams
 pub record Session : Type 0 where
   pub profile : Profile
   pub port : ℕ
@@ -19,21 +21,34 @@ pub record Session : Type 0 where
   pub bits : ℕ
   pub full : Bool
 
--- a replay of a capture, with the playout delay in milliseconds and the buffer's capacity in packets
+-- a replay of a capture, with the playout delay in milliseconds, the buffer's capacity in packets, the restart time in
+-- milliseconds, 0 for never, and the UDP port of the datagrams where the capture is a pcap file
 pub record ReplayCommand : Type 0 where
   pub capture : Text
   pub out : Text
   pub session : Session
   pub delay : ℕ
   pub span : ℕ
+  pub restart : ℕ
+  pub pcap : Option ℕ
 
--- a capture's records as text
+-- a count of what a receiver would make of a capture's records, set as for a replay
+pub record CountCommand : Type 0 where
+  pub capture : Text
+  pub session : Session
+  pub delay : ℕ
+  pub span : ℕ
+  pub restart : ℕ
+  pub pcap : Option ℕ
+
+-- a capture's records as text, with the UDP port of the datagrams where the capture is a pcap file
 pub record ShowCommand : Type 0 where
   pub capture : Text
   pub session : Session
+  pub pcap : Option ℕ
 
--- how the datagrams of a stream are made: whether null packets are deleted and sequence numbers have 32 bits, the SSRC and
--- the first sequence number
+-- how the datagrams of a stream are made: whether null packets are deleted and sequence numbers have 32 bits, the SSRC
+-- and the first sequence number
 pub record Stream : Type 0 where
   pub nulls : Bool
   pub wide : Bool
@@ -49,8 +64,8 @@ pub record PackCommand : Type 0 where
   pub gap : ℕ
 
 -- a stream sent on links: the time between two datagrams in microseconds; how many packets are stored, and for how many
--- milliseconds none is sent again; the links' weights, where they share the stream; for how many milliseconds requests are
--- answered after the source's end; how many turns are made at most
+-- milliseconds none is sent again; the links' weights, where they share the stream; for how many milliseconds requests
+-- are answered after the source's end; how many turns are made at most
 pub record SendCommand : Type 0 where
   pub source : Text
   pub links : List LinkSpec
@@ -63,20 +78,22 @@ pub record SendCommand : Type 0 where
   pub linger : ℕ
   pub turns : ℕ
 
--- what a receiver is set to: the playout delay in milliseconds and the buffer's capacity in packets; for how many milliseconds a
--- packet may be missing before it is asked for, the least number of them between two requests for it, how often it is asked for
--- at most, how requests are written, and the receiver's own SSRC
+-- what a receiver is set to: the playout delay in milliseconds, the buffer's capacity in packets and the restart time
+-- in milliseconds, 0 for never; for how many milliseconds a packet may be missing before it is asked for, the least
+-- number of them between two requests for it, how often it is asked for at most, how requests are written, and the
+-- receiver's own SSRC
 pub record Receiver : Type 0 where
   pub delay : ℕ
   pub span : ℕ
+  pub restart : ℕ
   pub reorder : ℕ
   pub least : ℕ
   pub tries : ℕ
   pub nack : NackKind
   pub own : ℕ
 
--- a run of receiving: how many turns each link's worker makes at most; after how many milliseconds without a datagram it ends, 0
--- for never; how many steps are kept, 0 for none
+-- a run of receiving: how many turns each link's worker makes at most; after how many milliseconds without a datagram
+-- it ends, 0 for never; how many steps are kept, 0 for none
 pub record Serving : Type 0 where
   pub turns : ℕ
   pub idle : ℕ
@@ -90,8 +107,8 @@ pub record RecvCommand : Type 0 where
   pub receiver : Receiver
   pub serving : Serving
 
--- a stream received on some links and sent on others: what the receiver is set to and its run, and as of a sending the stream,
--- the store, the hold time and the weights of the links that send
+-- a stream received on some links and sent on others: what the receiver is set to and its run, and as of a sending the
+-- stream, the store, the hold time and the weights of the links that send
 pub record GateCommand : Type 0 where
   pub inputs : List LinkSpec
   pub outputs : List LinkSpec
@@ -107,6 +124,7 @@ pub record GateCommand : Type 0 where
 pub data CommandLine : Type 0 where
   Replay : ReplayCommand → CommandLine
   Show : ShowCommand → CommandLine
+  Count : CountCommand → CommandLine
   Pack : PackCommand → CommandLine
   Send : SendCommand → CommandLine
   Recv : RecvCommand → CommandLine
@@ -127,6 +145,10 @@ delays = record { default = 1000; least = 1; most = 30000; multiple_of = 1 }
 -- `--span`, in packets
 abbrev pub spans : Numbers
 spans = record { default = 2048; least = 1; most = 16384; multiple_of = 1 }
+
+-- `--restart`, in milliseconds; 0 is never
+abbrev pub restarts : Numbers
+restarts = record { default = 0; least = 0; most = 60000; multiple_of = 1 }
 
 -- `--flow`: an SSRC with its lowest bit clear, which an original has (VSF TR-06-1)
 abbrev pub flows : Numbers
@@ -180,6 +202,11 @@ idle_times = record { default = 0; least = 0; most = 86400000; multiple_of = 1 }
 abbrev pub kept_counts : Numbers
 kept_counts = record { default = 0; least = 0; most = 65536; multiple_of = 1 }
 
+-- `--udp`: a UDP port; in the Simple Profile, where RTCP has the next one, an even one
+abbrev pub udp_ports : Profile → Numbers
+udp_ports Main = record { default = 1; least = 1; most = 65535; multiple_of = 1 }
+udp_ports Simple = record { default = 2; least = 2; most = 65534; multiple_of = 2 }
+
 -- The session that a command's values give. Commands that make no datagrams have no flag for full ones.
 abbrev pub session_of : List Row → Option Session
 session_of rows = do
@@ -190,6 +217,17 @@ session_of rows = do
   full ← flag_of profile (first_of (codes "full") rows)
   Some (record { profile = profile; port = port; pass = pass; bits = bits; full = full })
 
+-- the UDP port of a pcap file's datagrams: `--pcap` and `--udp` are given both or neither
+abbrev pub pcap_with : Profile → Bool → Option Text → Option (Option ℕ)
+pcap_with profile false None = Some None
+pcap_with profile false (Some text) = None
+pcap_with profile true None = None
+pcap_with profile true (Some text) = option_map (λ port. Some port) (number_in (udp_ports profile) text)
+
+-- the same of a command's values
+abbrev pub pcap_of : Profile → List Row → Option (Option ℕ)
+pcap_of profile rows = pcap_with profile (is_set (first_of (codes "pcap") rows)) (first_of (codes "udp") rows)
+
 -- the values of a replay
 abbrev pub replay_of : List Row → Option ReplayCommand
 replay_of rows = do
@@ -198,16 +236,31 @@ replay_of rows = do
   session ← session_of rows
   delay ← number_of delays (first_of (codes "delay") rows)
   span ← number_of spans (first_of (codes "span") rows)
-  Some (record { capture = capture; out = out; session = session; delay = delay; span = span })
+  restart ← number_of restarts (first_of (codes "restart") rows)
+  pcap ← pcap_of session.profile rows
+  Some (record { capture = capture; out = out; session = session; delay = delay; span = span; restart = restart; pcap = pcap })
+
+-- the values of a counting
+abbrev pub count_of : List Row → Option CountCommand
+count_of rows = do
+  capture ← name_of (first_of (codes "capture") rows)
+  session ← session_of rows
+  delay ← number_of delays (first_of (codes "delay") rows)
+  span ← number_of spans (first_of (codes "span") rows)
+  restart ← number_of restarts (first_of (codes "restart") rows)
+  pcap ← pcap_of session.profile rows
+  Some (record { capture = capture; session = session; delay = delay; span = span; restart = restart; pcap = pcap })
 
 -- the values of a showing
 abbrev pub show_of : List Row → Option ShowCommand
 show_of rows = do
   capture ← name_of (first_of (codes "capture") rows)
   session ← session_of rows
-  Some (record { capture = capture; session = session })
+  pcap ← pcap_of session.profile rows
+  Some (record { capture = capture; session = session; pcap = pcap })
 
--- the stream that a command's values give. Its flags are those of the session's profile, and the first number is one of its width
+-- the stream that a command's values give. Its flags are those of the session's profile, and the first number is one of
+-- its width
 abbrev pub stream_of : Profile → List Row → Option Stream
 stream_of profile rows = do
   nulls ← flag_of profile (first_of (codes "nulls") rows)
@@ -246,12 +299,13 @@ abbrev pub receiver_of : List Row → Option Receiver
 receiver_of rows = do
   delay ← number_of delays (first_of (codes "delay") rows)
   span ← number_of spans (first_of (codes "span") rows)
+  restart ← number_of restarts (first_of (codes "restart") rows)
   reorder ← number_of reorders (first_of (codes "reorder") rows)
   least ← number_of retry_times (first_of (codes "least") rows)
   tries ← number_of retry_counts (first_of (codes "tries") rows)
   nack ← nack_of (first_of (codes "nack") rows)
   own ← number_of own_ssrcs (first_of (codes "own") rows)
-  Some (record { delay = delay; span = span; reorder = reorder; least = least; tries = tries; nack = nack; own = own })
+  Some (record { delay = delay; span = span; restart = restart; reorder = reorder; least = least; tries = tries; nack = nack; own = own })
 
 -- the run that a command's values give
 abbrev pub serving_of : List Row → Option Serving
@@ -299,10 +353,11 @@ abbrev pub command_line : Text → List Row → Option CommandLine
 command_line name rows =
     if bytes_eq name (codes "replay") then option_map Replay (replay_of rows)
     else (if bytes_eq name (codes "show") then option_map Show (show_of rows)
+    else (if bytes_eq name (codes "count") then option_map Count (count_of rows)
     else (if bytes_eq name (codes "pack") then option_map Pack (pack_of rows)
     else (if bytes_eq name (codes "send") then option_map Send (send_of rows)
     else (if bytes_eq name (codes "recv") then option_map Recv (recv_of rows)
-    else (if bytes_eq name (codes "gate") then option_map Gate (gate_of rows) else None)))))
+    else (if bytes_eq name (codes "gate") then option_map Gate (gate_of rows) else None))))))
 
 -- with nothing against the words, the line of the command that they name
 abbrev pub taken_line : Kinds → Option (Text × List Row) → Option CommandLine

@@ -5,8 +5,8 @@ use Rattle.clap.specs.declared.builder.ArgAction.TheVariants.{Append, Set, SetTr
 use Rattle.rist_words.specs.declared.command.Kind.{Kind}
 use Rattle.rist_words.specs.declared.command.Kind.TheVariants.{Flag, Position, Positions, Valued}
 
--- an argument that is given by its place, and has to be; one that is given by its place once or more; one that is given as `--name value` or `--name=value`, and need not;
--- and a flag, given as `--name`
+-- an argument that is given by its place, and has to be; one that is given by its place once or more; one that is given
+-- as `--name value` or `--name=value`, and need not; and a flag, given as `--name`
 abbrev pub rule_for : Kind → Text → Rule
 rule_for Position name = record (new_rule name) { required = true; action = Some Set }
 rule_for Positions name = record (new_rule name) { required = true; action = Some Append }
@@ -27,11 +27,16 @@ with_arguments app options flags positions = with_rules Position (with_rules Fla
 
 -- a replay: its options beside the session's, and its positions
 abbrev pub replay_app : App
-replay_app = with_arguments (session_app (codes "replay")) (codes "delay" ∷ codes "span" ∷ []) [] (codes "capture" ∷ codes "out" ∷ [])
+replay_app = with_arguments (session_app (codes "replay")) (codes "delay" ∷ codes "span" ∷ codes "restart" ∷ codes "udp" ∷ []) (codes "pcap" ∷ [])
+    (codes "capture" ∷ codes "out" ∷ [])
 
--- a showing has no option of its own
+-- a showing: its option, its flag and its position
 abbrev pub show_app : App
-show_app = with_arguments (session_app (codes "show")) [] [] (codes "capture" ∷ [])
+show_app = with_arguments (session_app (codes "show")) (codes "udp" ∷ []) (codes "pcap" ∷ []) (codes "capture" ∷ [])
+
+-- a counting: its options, its flag and its position
+abbrev pub count_app : App
+count_app = with_arguments (session_app (codes "count")) (codes "delay" ∷ codes "span" ∷ codes "restart" ∷ codes "udp" ∷ []) (codes "pcap" ∷ []) (codes "capture" ∷ [])
 
 -- a packing: its options, its flags and its positions
 abbrev pub pack_app : App
@@ -47,7 +52,7 @@ send_app = with_rules Positions (with_arguments (session_app (codes "send"))
 -- the options of a receiver and of its run
 abbrev pub receiver_options : List Text
 receiver_options =
-    codes "delay" ∷ codes "span" ∷ codes "reorder" ∷ codes "least" ∷ codes "tries" ∷ codes "nack" ∷ codes "own" ∷ codes "turns"
+    codes "delay" ∷ codes "span" ∷ codes "restart" ∷ codes "reorder" ∷ codes "least" ∷ codes "tries" ∷ codes "nack" ∷ codes "own" ∷ codes "turns"
     ∷ codes "idle" ∷ codes "keep" ∷ []
 
 -- a receiving: its options, its flag and its positions, of which the last takes one link or more
@@ -62,7 +67,8 @@ gate_app = with_rules Positions (with_arguments (with_rules Valued (session_app 
 
 -- the commands over files
 abbrev pub files_app : App
-files_app = with_subcommand (with_subcommand (with_subcommand (new_app (codes "rist")) replay_app.top) show_app.top) pack_app.top
+files_app = with_subcommand (with_subcommand (with_subcommand (with_subcommand (new_app (codes "rist")) replay_app.top) show_app.top) count_app.top)
+    pack_app.top
 
 -- the program: those, and the commands over links
 abbrev pub rist_app : App

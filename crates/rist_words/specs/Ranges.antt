@@ -3,8 +3,8 @@ use Rattle.std.specs.Prelude.{◌≡◌, ◌⊎◌, ℕ, ◌+◌, ◌%◌, ◌^�
 use Rattle.std.specs.List.{All}
 use Rattle.outside_io.specs.declared.profile.Profile.{Profile}
 use Rattle.outside_io.specs.declared.profile.Profile.TheVariants.{Simple}
-use Rattle.rist_words.specs.CommandLine.{CommandLine, Replay, Show, Pack, Send, Recv, Gate, Session, Stream, Receiver, Serving, ReplayCommand, PackCommand, SendCommand, RecvCommand, GateCommand}
-use Rattle.rist_words.specs.CommandLine.{ports, delays, spans, gaps, stores, holds, lingers, turn_counts, reorders, retry_times, retry_counts, idle_times, kept_counts}
+use Rattle.rist_words.specs.CommandLine.{CommandLine, Replay, Show, Count, Pack, Send, Recv, Gate, Session, Stream, Receiver, Serving, ReplayCommand, ShowCommand, CountCommand, PackCommand, SendCommand, RecvCommand, GateCommand}
+use Rattle.rist_words.specs.CommandLine.{ports, delays, spans, restarts, gaps, stores, holds, lingers, turn_counts, reorders, retry_times, retry_counts, idle_times, kept_counts}
 use Rattle.rist_words.specs.Links.{link_weights}
 
 -- an even port, a key's length, and a passphrase and full datagrams in the Main Profile alone
@@ -17,13 +17,36 @@ pub record IsInSession (s : Session) : Type 0 where
   pub simple : s.profile ≡ Simple → s.pass ≡ None
   pub full : s.profile ≡ Simple → s.full ≡ false
 
--- a delay and a span that their options take
+-- a UDP port of datagrams; in the Simple Profile, where RTCP has the next one, an even one (VSF TR-06-1)
+pub record IsUdpPort (profile : Profile) (port : ℕ) : Type 0 where
+  pub some : 1 ≤ port
+  pub most : port ≤ 65535
+  pub even : profile ≡ Simple → port % 2 ≡ 0
+
+-- a delay, a span and a restart time that their options take, and the UDP port of a pcap file's datagrams
 pub record IsInReplay (c : ReplayCommand) : Type 0 where
   pub session : IsInSession c.session
   pub some_delay : delays.least ≤ c.delay
   pub delay : c.delay ≤ delays.most
   pub some_span : spans.least ≤ c.span
   pub span : c.span ≤ spans.most
+  pub restart : c.restart ≤ restarts.most
+  pub udp : IfSome c.pcap (λ port. IsUdpPort c.session.profile port)
+
+-- a session, and the UDP port of a pcap file's datagrams
+pub record IsInShow (c : ShowCommand) : Type 0 where
+  pub session : IsInSession c.session
+  pub udp : IfSome c.pcap (λ port. IsUdpPort c.session.profile port)
+
+-- of a counting what a replay has too
+pub record IsInCount (c : CountCommand) : Type 0 where
+  pub session : IsInSession c.session
+  pub some_delay : delays.least ≤ c.delay
+  pub delay : c.delay ≤ delays.most
+  pub some_span : spans.least ≤ c.span
+  pub span : c.span ≤ spans.most
+  pub restart : c.restart ≤ restarts.most
+  pub udp : IfSome c.pcap (λ port. IsUdpPort c.session.profile port)
 
 -- an even flow, and what the Main Profile alone has
 pub record IsInStream (profile : Profile) (s : Stream) : Type 0 where
@@ -69,6 +92,7 @@ pub record IsInReceiver (r : Receiver) : Type 0 where
   pub delay : r.delay ≤ delays.most
   pub some_span : spans.least ≤ r.span
   pub span : r.span ≤ spans.most
+  pub restart : r.restart ≤ restarts.most
   pub reorder : r.reorder ≤ reorders.most
   pub some_least : retry_times.least ≤ r.least
   pub least : r.least ≤ retry_times.most
@@ -90,8 +114,8 @@ pub record IsInRecv (c : RecvCommand) : Type 0 where
   pub receiver : IsInReceiver c.receiver
   pub serving : IsInServing c.serving
 
--- a link or more that receives and one or more that sends, sixteen in all at most; a weight for each that sends where they
--- share; and what the receiver, its run and the sender are set to
+-- a link or more that receives and one or more that sends, sixteen in all at most; a weight for each that sends where
+-- they share; and what the receiver, its run and the sender are set to
 pub record IsInGate (c : GateCommand) : Type 0 where
   pub session : IsInSession c.session
   pub stream : IsInStream c.session.profile c.stream
@@ -109,7 +133,8 @@ pub record IsInGate (c : GateCommand) : Type 0 where
 -- a line's values lie in their ranges
 abbrev pub IsInRange : CommandLine → Type 0
 IsInRange (Replay c) = IsInReplay c
-IsInRange (Show c) = IsInSession c.session
+IsInRange (Show c) = IsInShow c
+IsInRange (Count c) = IsInCount c
 IsInRange (Pack c) = IsInPack c
 IsInRange (Send c) = IsInSend c
 IsInRange (Recv c) = IsInRecv c

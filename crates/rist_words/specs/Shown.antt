@@ -5,6 +5,7 @@ use Rattle.rist_words.specs.declared.lines.Line.TheVariants as lines
 use Rattle.rist_words.specs.declared.lines.SessionWords.{SessionWords}
 use Rattle.rist_words.specs.declared.lines.ReplayLine.{ReplayLine}
 use Rattle.rist_words.specs.declared.lines.ShowLine.{ShowLine}
+use Rattle.rist_words.specs.declared.lines.CountLine.{CountLine}
 use Rattle.rist_words.specs.declared.lines.PackLine.{PackLine}
 use Rattle.rist_words.specs.declared.lines.SendLine.{SendLine}
 use Rattle.rist_words.specs.declared.lines.StreamWords.{StreamWords}
@@ -12,7 +13,7 @@ use Rattle.rist_words.specs.declared.lines.ReceiverWords.{ReceiverWords}
 use Rattle.rist_words.specs.declared.lines.ServingWords.{ServingWords}
 use Rattle.rist_words.specs.declared.lines.RecvLine.{RecvLine}
 use Rattle.rist_words.specs.declared.lines.GateLine.{GateLine}
-use Rattle.rist_words.specs.CommandLine.{CommandLine, Replay, Show, Pack, Send, Recv, Gate, Session, Stream, Receiver, Serving, ReplayCommand, ShowCommand, PackCommand, SendCommand, RecvCommand, GateCommand}
+use Rattle.rist_words.specs.CommandLine.{CommandLine, Replay, Show, Count, Pack, Send, Recv, Gate, Session, Stream, Receiver, Serving, ReplayCommand, ShowCommand, CountCommand, PackCommand, SendCommand, RecvCommand, GateCommand}
 
 -- the session of a line
 abbrev pub shown_session : SessionWords → Session
@@ -20,11 +21,15 @@ shown_session s = record { profile = s.profile; port = s.port; pass = option_map
 
 -- the replay that a line says
 abbrev pub shown_replay : ReplayLine → ReplayCommand
-shown_replay l = record { capture = l.capture.now; out = l.out.now; session = shown_session l.session; delay = l.delay; span = l.span }
+shown_replay l = record { capture = l.capture.now; out = l.out.now; session = shown_session l.session; delay = l.delay; span = l.span; restart = l.restart; pcap = l.pcap }
 
 -- the showing that a line says
 abbrev pub shown_show : ShowLine → ShowCommand
-shown_show l = record { capture = l.capture.now; session = shown_session l.session }
+shown_show l = record { capture = l.capture.now; session = shown_session l.session; pcap = l.pcap }
+
+-- the counting that a line says
+abbrev pub shown_count : CountLine → CountCommand
+shown_count l = record { capture = l.capture.now; session = shown_session l.session; delay = l.delay; span = l.span; restart = l.restart; pcap = l.pcap }
 
 -- the stream of a line
 abbrev pub shown_stream : StreamWords → Stream
@@ -51,7 +56,7 @@ shown_send l = record {
 
 -- what a line sets its receiver to
 abbrev pub shown_receiver : ReceiverWords → Receiver
-shown_receiver r = record { delay = r.delay; span = r.span; reorder = r.reorder; least = r.least; tries = r.tries; nack = r.nack; own = r.own }
+shown_receiver r = record { delay = r.delay; span = r.span; restart = r.restart; reorder = r.reorder; least = r.least; tries = r.tries; nack = r.nack; own = r.own }
 
 -- the run of a line's receiver
 abbrev pub shown_serving : ServingWords → Serving
@@ -79,6 +84,7 @@ shown_gate l = record {
 abbrev pub shown : Line → CommandLine
 shown (lines.Replay l) = Replay (shown_replay l)
 shown (lines.Show l) = Show (shown_show l)
+shown (lines.Count l) = Count (shown_count l)
 shown (lines.Pack l) = Pack (shown_pack l)
 shown (lines.Send l) = Send (shown_send l)
 shown (lines.Recv l) = Recv (shown_recv l)

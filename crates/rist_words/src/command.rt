@@ -12,9 +12,18 @@ static SESSION: [&str; 4] = ["profile", "port", "pass", "bits"];
 
 static REPLAY: [&str; 2] = ["capture", "out"];
 
-static REPLAY_OPTIONS: [&str; 2] = ["delay", "span"];
+static REPLAY_OPTIONS: [&str; 4] = ["delay", "span", "restart", "udp"];
 
 static SHOW: [&str; 1] = ["capture"];
+
+static SHOW_OPTIONS: [&str; 1] = ["udp"];
+
+static COUNT: [&str; 1] = ["capture"];
+
+static COUNT_OPTIONS: [&str; 4] = ["delay", "span", "restart", "udp"];
+
+/// The flag of each command that reads a capture.
+static PCAP_FLAGS: [&str; 1] = ["pcap"];
 
 static PACK: [&str; 2] = ["source", "capture"];
 
@@ -38,8 +47,8 @@ static RECV: [&str; 1] = ["out"];
 static RECV_FLAGS: [&str; 1] = ["full"];
 
 /// The options of each command that receives.
-static RECEIVER_OPTIONS: [&str; 10] = [
-    "delay", "span", "reorder", "least", "tries", "nack", "own", "turns", "idle", "keep",
+static RECEIVER_OPTIONS: [&str; 11] = [
+    "delay", "span", "restart", "reorder", "least", "tries", "nack", "own", "turns", "idle", "keep",
 ];
 
 static GATE_OPTIONS: [&str; 6] = ["flow", "first", "store", "hold", "share", "in"];
@@ -83,11 +92,14 @@ fn over_files<'a>(alloc: Global) -> Result<Command<'a>, AllocError>
 {
     let program = Command::new(alloc, "rist");
     let replay = session(alloc, "replay")?;
-    let replay = with_arguments(alloc, replay, &REPLAY_OPTIONS, &[], &REPLAY)?;
+    let replay = with_arguments(alloc, replay, &REPLAY_OPTIONS, &PCAP_FLAGS, &REPLAY)?;
     let program = below(program, replay)?;
     let show = session(alloc, "show")?;
-    let show = with_arguments(alloc, show, &[], &[], &SHOW)?;
+    let show = with_arguments(alloc, show, &SHOW_OPTIONS, &PCAP_FLAGS, &SHOW)?;
     let program = below(program, show)?;
+    let count = session(alloc, "count")?;
+    let count = with_arguments(alloc, count, &COUNT_OPTIONS, &PCAP_FLAGS, &COUNT)?;
+    let program = below(program, count)?;
     let pack = session(alloc, "pack")?;
     let pack = with_arguments(alloc, pack, &PACK_OPTIONS, &STREAM_FLAGS, &PACK)?;
     let program = below(program, pack)?;

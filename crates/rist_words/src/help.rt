@@ -7,8 +7,17 @@ usage: rist COMMAND [OPTION..] ARGUMENT..
   rist replay CAPTURE OUT     write the payloads of a capture as a receiver plays them out
       --delay MS              playout delay, 1 to 30000 (default 1000)
       --span PACKETS          capacity of the buffer, 1 to 16384 (default 2048)
+      --restart MS            another flow takes over once nothing waits and no packet was kept
+                              for so long, 1 to 60000, or 0: never (default 0)
+      --pcap --udp PORT       CAPTURE is a pcap file, of which the datagrams to a UDP port count,
+                              1 to 65535 (simple profile: even, and RTCP at the next one)
 
   rist show CAPTURE           write the records of a capture to -, each as a line of JSON
+      --pcap, --udp, as of replay
+
+  rist count CAPTURE          count what a receiver would make of the records of a capture: the media
+                              packets by verdict, and what is refused; a line each to -
+      --delay, --span, --restart, --pcap, --udp, as of replay
 
   rist pack SOURCE CAPTURE    write a capture of the media datagrams that carry a stream
       --flow SSRC             an even number below 2^32 (default 270544960)
@@ -31,7 +40,8 @@ usage: rist COMMAND [OPTION..] ARGUMENT..
 
   rist recv OUT LINK..        write a stream as it is received on links, each an a.b.c.d:port
                               that is bound, one to sixteen
-      --delay, --span, as of replay; --full, as of pack; --turns, as of send, for each link
+      --delay, --span, --restart, as of replay; --full, as of pack; --turns, as of send, for each
+                              link
       --reorder MS            a packet is asked for once it is missing so long, 0 to 1000
                               (default 25)
       --least MS              least time between two requests for a packet, 5 to 1000 (default 50)
@@ -46,8 +56,8 @@ usage: rist COMMAND [OPTION..] ARGUMENT..
   rist gate LINK..            receive on the first links, and send on over the others, each payload
                               as it is played out
       --in LINKS              how many links receive, at least one and not all (default 1)
-      --delay, --span, --reorder, --least, --tries, --nack, --own, --turns, --idle, --keep,
-                              as of recv
+      --delay, --span, --restart, --reorder, --least, --tries, --nack, --own, --turns, --idle,
+      --keep                  as of recv
       --flow, --first, --nulls, --wide, --full, --store, --hold, as of send
       --share W:W..           as of send, a weight for each link that sends
 

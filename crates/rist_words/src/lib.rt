@@ -1,5 +1,6 @@
-//! The words of a command line: what the program is to do, and with which values. A contract sees a line as its command,
-//! the defaults filled in. Which words are taken is `clap`'s; the forms and ranges of values are this crate's own.
+//! The words of a command line: what the program is to do, and with which values. A contract sees a line as its
+//! command, the defaults filled in. Which words are taken is `clap`'s; the forms and ranges of values are this crate's
+//! own.
 #![tactic(auto)]
 
 mod command;
@@ -10,6 +11,7 @@ mod links;
 #[cfg(test)]
 mod live_tests;
 mod matching;
+mod pcap;
 mod reading;
 mod receiving;
 mod session;
@@ -19,7 +21,7 @@ mod values;
 
 pub use help::USAGE;
 pub use lines::{
-    GateLine, Line, PackLine, ReceiverWords, RecvLine, Refused, ReplayLine, SendLine, ServingWords,
-    SessionWords, ShowLine, StreamWords,
+    CountLine, GateLine, Line, PackLine, ReceiverWords, RecvLine, Refused, ReplayLine, SendLine,
+    ServingWords, SessionWords, ShowLine, StreamWords,
 };
 pub use reading::line;

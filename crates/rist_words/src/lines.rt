@@ -12,6 +12,8 @@ pub enum Line<'a> {
     Replay(ReplayLine<'a>),
     /// `show CAPTURE`
     Show(ShowLine<'a>),
+    /// `count CAPTURE`
+    Count(CountLine<'a>),
     /// `pack SOURCE CAPTURE`
     Pack(PackLine<'a>),
     /// `send SOURCE LINK..`
@@ -50,6 +52,10 @@ pub struct ReplayLine<'a> {
     pub delay: u64,
     /// The buffer's capacity in packets, 1 to 16,384.
     pub span: u64,
+    /// How long no packet must have been kept before another flow takes over, in milliseconds, 0 to 60,000; 0 is never.
+    pub restart: u64,
+    /// The UDP port of the datagrams where the capture is a pcap file: 1 to 65,535, and in the Simple Profile even.
+    pub pcap: Option<u16>,
 }
 
 /// Write a capture's records as text.
@@ -59,6 +65,25 @@ pub struct ShowLine<'a> {
     pub capture: &'a str,
     /// How its datagrams are read.
     pub session: SessionWords<'a>,
+    /// The UDP port of the datagrams where the capture is a pcap file: 1 to 65,535, and in the Simple Profile even.
+    pub pcap: Option<u16>,
+}
+
+/// Count what a receiver would make of a capture's records.
+#[derive(Clone, Copy, Debug, PartialEq, Eq)]
+pub struct CountLine<'a> {
+    /// The capture's name.
+    pub capture: &'a str,
+    /// How its datagrams are read.
+    pub session: SessionWords<'a>,
+    /// The playout delay in milliseconds, 1 to 30,000.
+    pub delay: u64,
+    /// The buffer's capacity in packets, 1 to 16,384.
+    pub span: u64,
+    /// How long no packet must have been kept before another flow takes over, in milliseconds, 0 to 60,000; 0 is never.
+    pub restart: u64,
+    /// The UDP port of the datagrams where the capture is a pcap file: 1 to 65,535, and in the Simple Profile even.
+    pub pcap: Option<u16>,
 }
 
 /// How the datagrams of a stream are made.
@@ -122,6 +147,8 @@ pub struct ReceiverWords {
     pub delay: u64,
     /// The buffer's capacity in packets, 1 to 16,384.
     pub span: u64,
+    /// How long no packet must have been kept before another flow takes over, in milliseconds, 0 to 60,000; 0 is never.
+    pub restart: u64,
     /// How long a packet may be missing before it is asked for, in milliseconds, 0 to 1,000.
     pub reorder: u64,
     /// The least time between two requests for one packet, in milliseconds, 5 to 1,000.

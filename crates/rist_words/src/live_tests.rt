@@ -12,6 +12,7 @@ use std::test::Fail;
 const RECEIVER: ReceiverWords = ReceiverWords {
     delay: 1000,
     span: 2048,
+    restart: 0,
     reorder: 25,
     least: 50,
     tries: 8,
@@ -30,6 +31,7 @@ const LOW: (ReceiverWords, ServingWords) = (
     ReceiverWords {
         delay: 1,
         span: 1,
+        restart: 0,
         reorder: 0,
         least: 5,
         tries: 0,
@@ -48,6 +50,7 @@ const HIGH: (ReceiverWords, ServingWords) = (
     ReceiverWords {
         delay: 30_000,
         span: 16_384,
+        restart: 60_000,
         reorder: 1000,
         least: 1000,
         tries: 32,
@@ -85,7 +88,8 @@ static RECEIVED: [(&str, (ReceiverWords, ServingWords)); 3] = [
         LOW,
     ),
     (
-        "rist recv --delay 30000 --span=16384 --reorder 1000 --least 1000 --tries 32 --nack=mask --own 4294967295 - \
+        "rist recv --delay 30000 --span=16384 --restart 60000 --reorder 1000 --least 1000 --tries 32 \
+         --nack=mask --own 4294967295 - \
          127.0.0.1:2 --turns 1099511627776 --idle 86400000 127.0.0.1:65534 --keep=65536",
         HIGH,
     ),
@@ -101,6 +105,7 @@ static NOT_RECEIVED: [&str; 31] = [
     "rist recv - 127.0.0.1:0",
     "rist recv - 127.0.0.1:2 --delay 0",
     "rist recv - 127.0.0.1:2 --delay 30001",
+    "rist recv - 127.0.0.1:2 --restart 60001",
     "rist recv - 127.0.0.1:2 --span 0",
     "rist recv - 127.0.0.1:2 --span 16385",
     "rist recv - 127.0.0.1:2 --reorder 1001",

@@ -1,13 +1,16 @@
 //! The line that the words are.
 ghost use Rattle.std.specs.Prelude.{◌≡◌, Err, Some, None, IfOk, map, option_map, string_bytes};
 ghost use Rattle.clap.specs.Words.{found_of, rows_of};
-ghost use Rattle.rist_words.specs.CommandLine.{line_of, command_line, replay_of, show_of, pack_of, send_of, recv_of, gate_of};
-ghost use Rattle.rist_words.specs.Shown.{shown, shown_replay, shown_show, shown_pack, shown_send, shown_recv, shown_gate};
+ghost use Rattle.rist_words.specs.CommandLine.{line_of, command_line, replay_of, show_of, count_of, pack_of, send_of, recv_of, gate_of};
+ghost use Rattle.rist_words.specs.Shown.{shown, shown_replay, shown_show, shown_count, shown_pack, shown_send, shown_recv, shown_gate};
 
-use crate::lines::{GateLine, Line, PackLine, RecvLine, Refused, ReplayLine, SendLine, ShowLine};
+use crate::lines::{
+    CountLine, GateLine, Line, PackLine, RecvLine, Refused, ReplayLine, SendLine, ShowLine,
+};
 use crate::links::{gate_links, links, share};
 use crate::matching::matched;
-use crate::receiving::{DELAY, SPAN, TURNS, receiver, serving};
+use crate::pcap::pcap;
+use crate::receiving::{DELAY, RESTART, SPAN, TURNS, receiver, serving};
 use crate::session::{session, stream};
 use crate::values::{Numbers, name, number};
 use clap::ArgMatches;
@@ -72,6 +75,11 @@ fn command_line<'a>(
             Some(line) => Ok(Line::Show(line)),
             None => Err(Refused::Usage),
         }
+    } else if command == "count" {
+        match count_line(values) {
+            Some(line) => Ok(Line::Count(line)),
+            None => Err(Refused::Usage),
+        }
     } else if command == "pack" {
         match pack_line(values) {
             Some(line) => Ok(Line::Pack(line)),
@@ -100,21 +108,47 @@ fn command_line<'a>(
 fn replay_line<'a>(values: &ArgMatches<'a>) -> Option<ReplayLine<'a>>
     ensures { option_map shown_replay result ≡ replay_of (rows_of (found_of values.now)) }
 {
+    let capture = name(values, "capture")?;
+    let out = name(values, "out")?;
+    let session = session(values)?;
     Some(ReplayLine {
-        capture: name(values, "capture")?,
-        out: name(values, "out")?,
-        session: session(values)?,
+        capture,
+        out,
+        session,
         delay: number(values, "delay", DELAY)?,
         span: number(values, "span", SPAN)?,
+        restart: number(values, "restart", RESTART)?,
+        pcap: pcap(values, session.profile)?,
     })
 }
 
 fn show_line<'a>(values: &ArgMatches<'a>) -> Option<ShowLine<'a>>
     ensures { option_map shown_show result ≡ show_of (rows_of (found_of values.now)) }
 {
+    let capture = name(values, "capture")?;
+    let session = session(values)?;
     Some(ShowLine {
-        capture: name(values, "capture")?,
-        session: session(values)?,
+        capture,
+        session,
+        pcap: pcap(values, session.profile)?,
+    })
+}
+
+fn count_line<'a>(values: &ArgMatches<'a>) -> Option<CountLine<'a>>
+    ensures { option_map shown_count result ≡ count_of (rows_of (found_of values.now)) }
+{
+    let capture = name(values, "capture")?;
+    let session = session(values)?;
+    let delay = number(values, "delay", DELAY)?;
+    let span = number(values, "span", SPAN)?;
+    let restart = number(values, "restart", RESTART)?;
+    Some(CountLine {
+        capture,
+        session,
+        delay,
+        span,
+        restart,
+        pcap: pcap(values, session.profile)?,
     })
 }
 

@@ -65,6 +65,13 @@ const IDLE: Numbers = Numbers {
     multiple_of: 1,
 };
 
+pub const RESTART: Numbers = Numbers {
+    default: 0,
+    least: 0,
+    most: 60_000,
+    multiple_of: 1,
+};
+
 const KEEP: Numbers = Numbers {
     default: 0,
     least: 0,
@@ -79,6 +86,7 @@ pub fn receiver(values: &ArgMatches<'_>) -> Option<ReceiverWords>
     Some(ReceiverWords {
         delay: number(values, "delay", DELAY)?,
         span: number(values, "span", SPAN)?,
+        restart: number(values, "restart", RESTART)?,
         reorder: number(values, "reorder", REORDER)?,
         least: number(values, "least", LEAST)?,
         tries: number(values, "tries", TRIES)?,

@@ -1,6 +1,7 @@
 //! Command lines that are taken and refused.
 use crate::{
-    Line, PackLine, Refused, ReplayLine, SendLine, SessionWords, ShowLine, StreamWords, line,
+    CountLine, Line, PackLine, Refused, ReplayLine, SendLine, SessionWords, ShowLine, StreamWords,
+    line,
 };
 use outside_io::Profile;
 use outside_net::LinkSpec;
@@ -69,7 +70,7 @@ static REPLAYS: [(&str, &str, &str, u64, u64); 14] = [
     (" replay a b", "a", "b", 1000, 2048),
 ];
 
-static REFUSED: [&str; 72] = [
+static REFUSED: [&str; 79] = [
     "",
     "rist",
     "rist play a b",
@@ -81,6 +82,7 @@ static REFUSED: [&str; 72] = [
     "rist replay a b --span 0",
     "rist replay a b --span 16385",
     "rist replay a b --delay 0",
+    "rist replay a b --restart 60001",
     "rist replay a b --delay 30001",
     "rist replay a b --delay +5",
     "rist replay a b --delay -5",
@@ -121,6 +123,12 @@ static REFUSED: [&str; 72] = [
     "rist send a",
     "rist send a 127.0.0.1",
     "rist send a 127.0.0.1:",
+    "rist replay a b --pcap",
+    "rist replay a b --udp 1968",
+    "rist replay a b --pcap --udp 0",
+    "rist replay a b --pcap --udp 1969",
+    "rist replay a b --pcap --udp 65536",
+    "rist pack a b --pcap --udp 1968",
     "rist send a 127.0.0.1:0",
     "rist send a 127.0.0.1:65536",
     "rist send a 127.0.0.1:5001",
@@ -152,6 +160,8 @@ fn all_replays(alloc: Global) -> Result<bool, Fail> {
             session: PLAIN,
             delay,
             span,
+            restart: 0,
+            pcap: None,
         };
         if !reads(alloc, text, Ok(Line::Replay(line)))? {
             return Ok(false);
@@ -170,9 +180,10 @@ fn all_refused(alloc: Global) -> Result<bool, Fail> {
 }
 
 fn all_shown(alloc: Global) -> Result<bool, Fail> {
-    let line = |session| Ok(Line::Show(ShowLine {
+    let line = |session, pcap| Ok(Line::Show(ShowLine {
         capture: "a",
         session,
+        pcap,
     }));
     let sealed = SessionWords {
         profile: Profile::Main,
@@ -186,8 +197,37 @@ fn all_shown(alloc: Global) -> Result<bool, Fail> {
         reads(
             alloc,
             "rist show a --bits 128 --profile simple",
-            line(PLAIN),
-        )? && reads(alloc, text, line(sealed))?,
+            line(PLAIN, None),
+        )? && reads(alloc, text, line(sealed, None))?
+            && reads(
+                alloc,
+                "rist show --udp 65534 a --pcap",
+                line(PLAIN, Some(65_534)),
+            )?,
+    )
+}
+
+fn all_counted(alloc: Global) -> Result<bool, Fail> {
+    let plain = CountLine {
+        capture: "a",
+        session: PLAIN,
+        delay: 1000,
+        span: 2048,
+        restart: 0,
+        pcap: None,
+    };
+    let set = CountLine {
+        delay: 30_000,
+        span: 8,
+        restart: 60_000,
+        pcap: Some(2),
+        ..plain
+    };
+    let text = "rist count --pcap a --udp 2 --restart 60000 --span=8 --delay 30000";
+    Ok(
+        reads(alloc, "rist count a", Ok(Line::Count(plain)))?
+            && reads(alloc, text, Ok(Line::Count(set)))?
+            && reads(alloc, "rist count a b", Err(Refused::Usage))?,
     )
 }
 
@@ -279,6 +319,7 @@ fn words_are_a_line_or_refused(rt: HostRuntime) -> Result<(), Fail> {
     let alloc = rt.alloc();
     assert!(rt; all_replays(alloc)?);
     assert!(rt; all_shown(alloc)?);
+    assert!(rt; all_counted(alloc)?);
     assert!(rt; all_packed(alloc)?);
     assert!(rt; all_sent(alloc)?);
     assert!(rt; all_refused(alloc)?);

@@ -150,7 +150,8 @@ pub fn flag(matches: &ArgMatches<'_>, name: &str, profile: Profile) -> Option<bo
     }
 }
 
-fn is_set(matches: &ArgMatches<'_>, flag: &str) -> bool
+/// Whether a flag is given.
+pub fn is_set(matches: &ArgMatches<'_>, flag: &str) -> bool
     ensures { result ≡ is_set (first_of flag.now (rows_of (found_of matches.now))) }
 {
     match given(matches, flag) {
