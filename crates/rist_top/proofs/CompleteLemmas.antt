@@ -7,20 +7,21 @@ use Rattle.outside_host.specs.Shelf.{Shelf}
 use Rattle.outside_host.specs.declared.host.Place.TheVariants.{Here}
 use Rattle.capture_file.specs.Capture.{Record}
 use Rattle.block_source.specs.Block.{most_ahead}
-use Rattle.capture_walk.proofs.CompleteLemmas.{walk_completes}
+use Rattle.capture_walk.specs.Form.{Form}
+use Rattle.capture_walk.proofs.FileLemmas.{walk_completes}
 use Rattle.psk_seal.specs.Sealer.{SealerState}
 use Rattle.rist_pack.specs.Packing.{Packs}
 use Rattle.rist_pack.specs.Capture.{packed_record, nonces_of}
 use Rattle.rist_pack.specs.declared.bad.PackBad.{PackBad}
 use Rattle.rist_pack.specs.declared.bad.PackBad.TheVariants as packs
-use Rattle.rist_words.specs.CommandLine.{CommandLine, Replay, Show, Pack, Send, Recv, Gate}
+use Rattle.rist_words.specs.CommandLine.{CommandLine, Replay, Show, Count, Pack, Send, Recv, Gate}
 use Rattle.rist_top.specs.Sessions.{session_with, pack_settings}
 use Rattle.outside_io.specs.Causes.{HasReadCause, HasWriteCause}
 use Rattle.rist_top.specs.Causes.{fault_of}
 use Rattle.rist_top.specs.Objects.{Tells, passage}
-use Rattle.rist_top.specs.Works.{Works, Walks, walk_status, pack_status}
+use Rattle.rist_top.specs.Works.{Works, Walks, form_of, walk_status, pack_status}
 use Rattle.rist_top.specs.Ran.{Ran, source_name}
-use Rattle.rist_top.specs.Complete.{IsWholeCapture, IsWholeInput, NoneFailed, Completes}
+use Rattle.rist_top.specs.Complete.{IsWholeFile, IsWholeInput, NoneFailed, Completes}
 use Rattle.rist_top.specs.declared.status.Status.{Status}
 use Rattle.rist_top.specs.declared.status.Status.TheVariants as statuses
 use Rattle.rist_top.proofs.PlaceLemmas.{same_here}
@@ -35,16 +36,17 @@ is_memory statuses.WriteFault = inr (λ e. cc)
 is_memory (statuses.BadCapture kind at) = inr (λ e. cc)
 is_memory statuses.EntropyFault = inr (λ e. cc)
 is_memory statuses.TooLong = inr (λ e. cc)
+is_memory (statuses.BadPcap kind at) = inr (λ e. cc)
 is_memory statuses.LinksDown = inr (λ e. cc)
 is_memory statuses.TraceFull = inr (λ e. cc)
 is_memory (statuses.Torn tear) = inr (λ e. cc)
 is_memory statuses.Spent = inr (λ e. cc)
 is_memory statuses.TurnsSpent = inr (λ e. cc)
 
-walk_ends : (so_far whole : List Record → List ℕ) (b : List ℕ) (p : Passage) (status : Status) → IsWholeCapture b → p.had ≡ Some b
-    → (status ≡ statuses.ReadFault → ⊥) → (status ≡ statuses.WriteFault → ⊥) → (status ≡ statuses.Memory → ⊥) → Walks so_far whole p status → status ≡ statuses.Done
-walk_ends so_far whole b p status capture told read write memory walks =
-    walks.1 ∙ ap walk_status (walk_completes so_far whole most_ahead p walks.0 b capture.0.0 told capture.0.1 capture.1
+walk_ends : (form : Form) (so_far whole : List Record → List ℕ) (b : List ℕ) (p : Passage) (status : Status) → IsWholeFile form b → p.had ≡ Some b
+    → (status ≡ statuses.ReadFault → ⊥) → (status ≡ statuses.WriteFault → ⊥) → (status ≡ statuses.Memory → ⊥) → Walks form so_far whole p status → status ≡ statuses.Done
+walk_ends form so_far whole b p status capture told read write memory walks =
+    walks.1 ∙ ap walk_status (walk_completes form so_far whole most_ahead p walks.0 b capture.0.0 told capture.0.1 capture.1
     (λ e. read (walks.1 ∙ ap walk_status e)) (λ e. write (walks.1 ∙ ap walk_status e)) (λ e. memory (walks.1 ∙ ap walk_status e)) walks.2)
 
 taken_within : (b octets : List ℕ) (left : Option (List ℕ)) → Takes (Some b) left octets → length octets ≤ length b
@@ -64,8 +66,9 @@ pack_ends record_of b p status (Err packs.TooLong) bound told is read write pack
 
 work_ends : (IsKnown : SealerState → Type 0) (c : CommandLine) (b : List ℕ) (p : Passage) (status : Status) → IsWholeInput c b → p.had ≡ Some b
     → (status ≡ statuses.ReadFault → ⊥) → (status ≡ statuses.WriteFault → ⊥) → (status ≡ statuses.EntropyFault → ⊥) → (status ≡ statuses.Memory → ⊥) → Works IsKnown c p status → status ≡ statuses.Done
-work_ends IsKnown (Replay c) b p status input told read write words memory work = walk_ends _ _ b p status input told read write memory work
-work_ends IsKnown (Show c) b p status input told read write words memory work = walk_ends _ _ b p status input told read write memory work
+work_ends IsKnown (Replay c) b p status input told read write words memory work = walk_ends (form_of c.session c.pcap) _ _ b p status input told read write memory work
+work_ends IsKnown (Show c) b p status input told read write words memory work = walk_ends (form_of c.session c.pcap) _ _ b p status input told read write memory work
+work_ends IsKnown (Count c) b p status input told read write words memory work = walk_ends (form_of c.session c.pcap) _ _ b p status input told read write memory work
 work_ends IsKnown (Pack c) b p status input told read write words memory (inl failed) = absurd (words failed.0)
 work_ends IsKnown (Pack c) b p status input told read write words memory (inr work) =
     pack_ends (packed_record (session_with c.session c.stream.nulls c.stream.wide) (nonces_of work.0) (pack_settings c)) b p status work.3.0 input told work.3.1 read write work.3.2

@@ -4,7 +4,7 @@ use mathlib.Core.Logic.{inl, inr}
 use Rattle.std.specs.Prelude.{Option, None, Some}
 use Rattle.std.specs.declared.string.String.{String}
 use Rattle.outside_host.specs.Shelf.{Shelf}
-use Rattle.rist_words.specs.CommandLine.{CommandLine, Replay, Show, Pack, Send, Recv, Gate, SendCommand, RecvCommand, GateCommand}
+use Rattle.rist_words.specs.CommandLine.{CommandLine, Replay, Show, Count, Pack, Send, Recv, Gate, SendCommand, RecvCommand, GateCommand}
 use Rattle.rist_top.specs.Causes.{CanRefuse}
 use Rattle.rist_top.specs.Does.{Does}
 use Rattle.rist_top.specs.DoesGate.{DoesGate}
@@ -21,6 +21,7 @@ use Rattle.rist_top.specs.declared.status.Status.TheVariants as statuses
 no_files : (o : Option CommandLine) (c : CommandLine) → plain_line o ≡ None → o ≡ Some c → IsOverFiles c → ⊥
 no_files o (Replay c) none is files = absurd (cc (none, is))
 no_files o (Show c) none is files = absurd (cc (none, is))
+no_files o (Count c) none is files = absurd (cc (none, is))
 no_files o (Pack c) none is files = absurd (cc (none, is))
 no_files o (Send c) none is files = files
 no_files o (Recv c) none is files = files
@@ -38,6 +39,7 @@ does_no_line told tells live words faults_were faults_are old new status none = 
   closed = λ told unopened c is files. absurd (no_files _ c none is files);
   memory = λ fresh memory c is files. absurd (no_files _ c none is files);
   reached = λ c is fresh done. absurd (no_files _ (Replay c) none is tt);
+  epochs = λ c is fresh done. absurd (no_files _ (Replay c) none is tt);
   sent = λ unused ran c is. absurd (no_sending _ c none is);
   unsent = λ unused refused c is. absurd (no_sending _ c none is);
   pieces = λ unused ran c is. absurd (no_sending _ c none is);
@@ -76,6 +78,7 @@ untouched old c = record { source = inl refl; sink = inl refl; other_sources = �
 at_memory : {I O E L C : Type 0} (tells : Tells I O E) (old : Shelf I O E L C) (c : CommandLine) → LeavesAtMemory tells old old c
 at_memory tells old (Replay c) = inl (untouched old (Replay c))
 at_memory tells old (Show c) = inl (untouched old (Show c))
+at_memory tells old (Count c) = inl (untouched old (Count c))
 at_memory tells old (Pack c) = untouched old (Pack c)
 at_memory tells old (Send c) = inl (untouched old (Send c))
 at_memory tells old (Recv c) = inl (untouched old (Recv c))
@@ -93,6 +96,7 @@ does_nothing told tells live words faults old = record {
   closed = λ told unopened c is files. absurd (cc (unopened));
   memory = λ fresh memory c is files. at_memory tells old c;
   reached = λ c is fresh done. absurd (cc (done));
+  epochs = λ c is fresh done. absurd (cc (done));
   sent = λ unused ran c is. absurd (ran refuses);
   unsent = λ unused refused c is. record { source = inl refl; links = λ place. inl refl; clock = inl refl };
   pieces = λ unused ran c is. absurd (ran refuses);
@@ -115,6 +119,7 @@ pub no_line : (o : Option CommandLine) → ((c : RecvCommand) → o ≡ Some (Re
 no_line None recv gate none = refl
 no_line (Some (Replay c)) recv gate none = absurd (cc (none))
 no_line (Some (Show c)) recv gate none = absurd (cc (none))
+no_line (Some (Count c)) recv gate none = absurd (cc (none))
 no_line (Some (Pack c)) recv gate none = absurd (cc (none))
 no_line (Some (Send c)) recv gate none = absurd (cc (none))
 no_line (Some (Recv c)) recv gate none = absurd (recv c refl)

@@ -7,7 +7,7 @@ use Rattle.outside_host.specs.Shelf.{Shelf}
 use Rattle.psk_seal.specs.Sealer.{SealerState}
 use Rattle.rist_pack.specs.declared.bad.PackBad.{PackBad}
 use Rattle.rist_pack.specs.declared.bad.PackBad.TheVariants as packs
-use Rattle.rist_words.specs.CommandLine.{CommandLine, Replay, Show, Pack, Send, Recv, Gate, PackCommand}
+use Rattle.rist_words.specs.CommandLine.{CommandLine, Replay, Show, Count, Pack, Send, Recv, Gate, PackCommand}
 use Rattle.rist_top.specs.Works.{Works, pack_status}
 use Rattle.rist_top.specs.Ran.{Ran}
 use Rattle.rist_top.specs.Objects.{Tells, passage}
@@ -34,6 +34,7 @@ at_memory : {I O E L C : Type 0} (tells : Tells I O E) (old new : Shelf I O E L 
     → Untouched old new c ⊎ Ran tells old new c statuses.Memory → LeavesAtMemory tells old new c
 at_memory tells old new (Replay c) left = left
 at_memory tells old new (Show c) left = left
+at_memory tells old new (Count c) left = left
 at_memory tells old new (Send c) left = left
 at_memory tells old new (Recv c) left = left
 at_memory tells old new (Gate c) left = left

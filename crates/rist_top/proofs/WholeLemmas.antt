@@ -42,6 +42,7 @@ is_refused statuses.ReadFault = inr (none_of statuses.ReadFault (λ e. cc) (λ e
 is_refused statuses.WriteFault = inr (none_of statuses.WriteFault (λ e. cc) (λ e. cc) (λ e. cc))
 is_refused (statuses.BadCapture kind at) = inr (none_of (statuses.BadCapture kind at) (λ e. cc) (λ e. cc) (λ e. cc))
 is_refused statuses.TooLong = inr (none_of statuses.TooLong (λ e. cc) (λ e. cc) (λ e. cc))
+is_refused (statuses.BadPcap kind at) = inr (none_of (statuses.BadPcap kind at) (λ e. cc) (λ e. cc) (λ e. cc))
 is_refused statuses.LinksDown = inr (none_of statuses.LinksDown (λ e. cc) (λ e. cc) (λ e. cc))
 is_refused statuses.TraceFull = inr (none_of statuses.TraceFull (λ e. cc) (λ e. cc) (λ e. cc))
 is_refused (statuses.Torn tear) = inr (none_of (statuses.Torn tear) (λ e. cc) (λ e. cc) (λ e. cc))

@@ -20,6 +20,7 @@ fault_of statuses.TraceFull = NoFault
 fault_of (statuses.Torn tear) = NoFault
 fault_of statuses.Spent = NoFault
 fault_of statuses.TurnsSpent = NoFault
+fault_of (statuses.BadPcap kind at) = NoFault
 
 -- nothing is begun where nothing is handed out, where memory is refused, or where random words fail
 abbrev pub CanRefuse : Status → Type 0

@@ -4,25 +4,28 @@ use Rattle.outside_io.specs.Causes.{Rose}
 use Rattle.outside_host.specs.Shelf.{Shelf}
 use Rattle.outside_host.specs.declared.host.Place.{Place}
 use Rattle.outside_host.specs.declared.host.Place.TheVariants.{Here, Back}
-use Rattle.capture_file.specs.Capture.{Record, IsCapture}
+use Rattle.capture_file.specs.Capture.{Record}
+use Rattle.capture_walk.specs.Form.{Form, IsFile}
 use Rattle.rist_sender.specs.Links.{Line}
-use Rattle.rist_words.specs.CommandLine.{CommandLine, Replay, Show, Pack, Send, Recv, Gate, SendCommand, RecvCommand, GateCommand}
+use Rattle.rist_words.specs.CommandLine.{CommandLine, Replay, Show, Count, Pack, Send, Recv, Gate, SendCommand, RecvCommand, GateCommand}
 use Rattle.rist_compare.specs.declared.tear.Tear.{Tear}
 use Rattle.rist_top.specs.Ran.{source_name, sink_name}
 use Rattle.rist_top.specs.Sealing.{FailedAt}
 use Rattle.rist_top.specs.Objects.{Tells}
+use Rattle.rist_top.specs.Works.{form_of}
 use Rattle.rist_top.specs.declared.status.Status.{Status}
 use Rattle.rist_top.specs.declared.status.Status.TheVariants as statuses
 
--- octets are a capture within the greatest offset
-abbrev pub IsWholeCapture : List ℕ → Type 0
-IsWholeCapture b = ((rs : List Record) × IsCapture rs b) × (length b ≤ 2 ^ 40)
+-- octets are a file of this form within the greatest offset
+abbrev pub IsWholeFile : Form → List ℕ → Type 0
+IsWholeFile form b = ((rs : List Record) × IsFile form rs b) × (length b ≤ 2 ^ 40)
 
--- octets that a command takes to their end: a capture, or for a packing or a sending any octets, within the greatest offset; a
--- receiving and a gateway have no source
+-- octets that a command takes to their end: a capture or a pcap file, or for a packing or a sending any octets, within
+-- the greatest offset; a receiving and a gateway have no source
 abbrev pub IsWholeInput : CommandLine → List ℕ → Type 0
-IsWholeInput (Replay c) b = IsWholeCapture b
-IsWholeInput (Show c) b = IsWholeCapture b
+IsWholeInput (Replay c) b = IsWholeFile (form_of c.session c.pcap) b
+IsWholeInput (Show c) b = IsWholeFile (form_of c.session c.pcap) b
+IsWholeInput (Count c) b = IsWholeFile (form_of c.session c.pcap) b
 IsWholeInput (Pack c) b = length b ≤ 2 ^ 40
 IsWholeInput (Send c) b = length b ≤ 2 ^ 40
 IsWholeInput (Recv c) b = ⊥
@@ -48,7 +51,8 @@ pub record StaysUp {L : Type 0} (line : Line L) (old new : ℕ → Place L) (cou
   pub among : place < count
   pub up : (was is : L) → old place ≡ Here was → new place ≡ Back is → Rose (line.faults was) (line.faults is) → ⊥
 
--- a run came to the source's end, or it had too few turns for that, or with a passphrase too few pairs, or memory was refused
+-- a run came to the source's end, or it had too few turns for that, or with a passphrase too few pairs, or memory was
+-- refused
 abbrev pub IsWhole : SendCommand → Status → Type 0
 IsWhole c status =
     (status ≡ statuses.Done)
@@ -66,7 +70,8 @@ pub record NoWriteFailed {I O E L C : Type 0} (tells : Tells I O E) (old new : S
       → Rose (tells.write_faults sink) (tells.write_faults filled) → ⊥
   pub words : FailedAt tells old new → ⊥
 
--- a receiving came to its end, or too few pairs were left, or its kept steps had no room or differ, or memory was refused
+-- a receiving came to its end, or too few pairs were left, or its kept steps had no room or differ, or memory was
+-- refused
 abbrev pub IsHeard : RecvCommand → Status → Type 0
 IsHeard c status =
     (status ≡ statuses.Done)
@@ -83,13 +88,15 @@ pub record StaysUpBehind {L : Type 0} (line : Line L) (old new : ℕ → Place L
   pub among : place < count
   pub up : (was is : L) → old (first + place) ≡ Here was → new (first + place) ≡ Back is → Rose (line.faults was) (line.faults is) → ⊥
 
--- a gateway came to its end, or too few pairs were left at either end, or its kept steps had no room or differ, or memory was refused
+-- a gateway came to its end, or too few pairs were left at either end, or its kept steps had no room or differ, or
+-- memory was refused
 abbrev pub IsGateWhole : Status → Type 0
 IsGateWhole status =
     (status ≡ statuses.Done)
     ⊎ ((status ≡ statuses.Spent) ⊎ ((status ≡ statuses.TraceFull) ⊎ (((tear : Tear) × (status ≡ statuses.Torn tear)) ⊎ (status ≡ statuses.Memory))))
 
--- a gateway in which nothing failed but links, of which one that is received on and one that is sent on stay up, ends so
+-- a gateway in which nothing failed but links, of which one that is received on and one that is sent on stay up, ends
+-- so
 abbrev pub CompletesGating : {I O E L C : Type 0} → Tells I O E → Line L → Shelf I O E L C → Shelf I O E L C → GateCommand → Status → Type 0
 CompletesGating tells line old new c status =
     (FailedAt tells old new → ⊥) → StaysUp line old.links new.links (length c.inputs)

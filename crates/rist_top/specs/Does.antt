@@ -6,7 +6,7 @@ use Rattle.outside_host.specs.Shelf.{Shelf}
 use Rattle.rist_words.specs.CommandLine.{Replay, ReplayCommand}
 use Rattle.rist_top.specs.Causes.{CanRefuse}
 use Rattle.rist_top.specs.Complete.{Completes, CompletesSending}
-use Rattle.rist_top.specs.Exact.{WritesReached}
+use Rattle.rist_top.specs.Exact.{WritesReached, WritesEpochs}
 use Rattle.rist_top.specs.Frame.{KeepsAround, KeepsOthers, OpensLinksAfter, OpensSourceFirst, links_opened}
 use Rattle.rist_top.specs.Lines.{IfFiles, IfSending, IsFresh, IsLine}
 use Rattle.rist_top.specs.Objects.{Tells}
@@ -35,8 +35,11 @@ pub record Does {A I O E L C : Type 0} (told : Bool) (tells : Tells I O E) (live
   -- what a replay leaves is the exact release set, in sent numbers
   pub reached : (c : ReplayCommand) → IsLine words (Replay c) → IsFresh told old → status ≡ statuses.Done
       → WritesReached tells old new c
-  -- A source is sent onto the links of its line by the first clock, and source, links and clock come back; or nothing was read of it
-  -- and nothing written.
+  -- and where flows restart that of one epoch after another
+  pub epochs : (c : ReplayCommand) → IsLine words (Replay c) → IsFresh told old → status ≡ statuses.Done
+      → WritesEpochs tells old new c
+  -- A source is sent onto the links of its line by the first clock, and source, links and clock come back; or nothing
+  -- was read of it and nothing written.
   pub sent : IsUnused told old → (CanRefuse status → ⊥) → IfSending words (λ c. Sent tells live old new c status)
   pub unsent : IsUnused told old → CanRefuse status → IfSending words (λ c. Unsent old new c)
   -- the payloads sent are the first pieces of the source's octets, in order, each once, and with Done all of them

@@ -14,11 +14,12 @@ use Rattle.rist_top.specs.Sent.{IsUnused, TellsLive}
 use Rattle.rist_top.specs.declared.status.Status.{Status}
 use Rattle.rist_top.specs.declared.status.Status.TheVariants as statuses
 
--- these words, where they are a gateway, did this to an unused host that tells, whose count of failed calls stood so before and after
+-- these words, where they are a gateway, did this to an unused host that tells, whose count of failed calls stood so
+-- before and after
 pub record DoesGate {A I O E L C : Type 0} (told : Bool) (tells : Tells I O E) (live : TellsLive L C) (words : List (String A))
     (faults_were faults_are : ℕ) (old new : Shelf I O E L C) (status : Status) : Type 0 where
-  -- what comes on its first links goes on over the others, links and clocks come back, and the receiver's counts reach the host; or no
-  -- link was read or written
+  -- what comes on its first links goes on over the others, links and clocks come back, and the receiver's counts reach
+  -- the host; or no link was read or written
   pub gated : IsUnused told old → (CanRefuse status → ⊥) → IfGate words (λ c. Gated tells live old new c status)
   pub ungated : IsUnused told old → CanRefuse status → IfGate words (λ c. Ungated old new)
   -- it touches only what its line speaks of
@@ -27,6 +28,7 @@ pub record DoesGate {A I O E L C : Type 0} (told : Bool) (tells : Tells I O E) (
   pub links_opened : IsUnused told old → (CanRefuse status → ⊥) → IfGate words (λ c. new.opened_links ≡ links_gated c)
   -- random words fail it only where those of the first place failed
   pub random : IsUnused told old → status ≡ statuses.EntropyFault → IfGate words (λ c. FailedAt tells old new)
-  -- where no call fails and one link of each end doesn't, it is done, unless pairs are spent or its kept steps have no room or differ
+  -- where no call fails and one link of each end doesn't, it is done, unless pairs are spent or its kept steps have no
+  -- room or differ
   pub complete : IsUnused told old → (Rose faults_were faults_are → ⊥)
       → IfGate words (λ c. CompletesGating tells live.line old new c status)

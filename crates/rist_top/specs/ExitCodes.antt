@@ -1,7 +1,7 @@
 -- The exit status of the program, by how a command ended.
 use Rattle.std.specs.Prelude.{ℕ}
 use Rattle.rist_top.specs.declared.status.Status.{Status}
-use Rattle.rist_top.specs.declared.status.Status.TheVariants.{Done, Memory, Usage, OpenFault, ReadFault, WriteFault, BadCapture, EntropyFault, TooLong, LinksDown, TraceFull, Torn, Spent, TurnsSpent}
+use Rattle.rist_top.specs.declared.status.Status.TheVariants.{Done, Memory, Usage, OpenFault, ReadFault, WriteFault, BadCapture, EntropyFault, TooLong, LinksDown, TraceFull, Torn, Spent, TurnsSpent, BadPcap}
 
 -- 0 where the work was done, and a number of its own for each other status
 abbrev pub exit_code_of : Status → ℕ
@@ -19,3 +19,4 @@ exit_code_of TraceFull = 8
 exit_code_of (Torn tear) = 9
 exit_code_of Spent = 10
 exit_code_of TurnsSpent = 13
+exit_code_of (BadPcap kind at) = 14

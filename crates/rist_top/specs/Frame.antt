@@ -4,7 +4,7 @@ use Rattle.outside_net.specs.declared.link_spec.Role.TheVariants.{Receives, Send
 use Rattle.outside_host.specs.Shelf.{Shelf, ChangesSources, ChangesSinks}
 use Rattle.outside_host.specs.declared.host.Opened.{Opened}
 use Rattle.outside_host.specs.declared.host.Place.{Place}
-use Rattle.rist_words.specs.CommandLine.{CommandLine, Replay, Show, Pack, Send, Recv, Gate, SendCommand, RecvCommand, GateCommand}
+use Rattle.rist_words.specs.CommandLine.{CommandLine, Replay, Show, Count, Pack, Send, Recv, Gate, SendCommand, RecvCommand, GateCommand}
 use Rattle.rist_top.specs.Places.{CameBack, IsAsItWas, KeepsLive}
 use Rattle.rist_top.specs.Ran.{source_name, sink_name}
 
@@ -12,6 +12,7 @@ use Rattle.rist_top.specs.Ran.{source_name, sink_name}
 abbrev pub draws_words : CommandLine → Bool
 draws_words (Replay c) = false
 draws_words (Show c) = false
+draws_words (Count c) = false
 draws_words (Pack c) = is_some c.session.pass
 draws_words (Send c) = is_some c.session.pass
 draws_words (Recv c) = is_some c.session.pass
@@ -34,8 +35,8 @@ abbrev pub OpensSourceFirst : {I O E L C : Type 0} → Shelf I O E L C → Shelf
 OpensSourceFirst old new c =
     new.sources (source_name c) ≡ old.sources (source_name c) → new.sinks (sink_name c) ≡ old.sinks (sink_name c)
 
--- all clocks and random words stand as they stood but for the first of each, which came back; the first words too where none
--- are drawn
+-- all clocks and random words stand as they stood but for the first of each, which came back; the first words too where
+-- none are drawn
 pub record KeepsTimes {I O E L C : Type 0} (old new : Shelf I O E L C) (draws : Bool) : Type 0 where
   pub clocks : (place : ℕ) → place ≢ 0 → new.clocks place ≡ old.clocks place
   pub clock : CameBack (old.clocks 0) (new.clocks 0)
@@ -56,8 +57,8 @@ pub record KeepsAround {I O E L C : Type 0} (old new : Shelf I O E L C) (c : Sen
   pub links : KeepsLinksBut (length c.links) old.links new.links
   pub times : KeepsTimes old new (is_some c.session.pass)
 
--- nothing else is opened before the source of a sending could be: where the source stands as it stood, so do links, clocks and
--- random words
+-- nothing else is opened before the source of a sending could be: where the source stands as it stood, so do links,
+-- clocks and random words
 abbrev pub OpensLinksAfter : {I O E L C : Type 0} → Shelf I O E L C → Shelf I O E L C → SendCommand → Type 0
 OpensLinksAfter old new c = new.sources c.source ≡ old.sources c.source → ChangesSources old new
 
@@ -80,8 +81,8 @@ pub record KeepsAroundSink {I O E L C : Type 0} (old new : Shelf I O E L C) (c :
   pub clocks : KeepsLinksBut (length c.links) old.clocks new.clocks
   pub words : KeepsWords old new (is_some c.session.pass)
 
--- nothing else is opened before the sink of a receiving could be: where the sink stands as it stood, so do links, clocks and
--- random words
+-- nothing else is opened before the sink of a receiving could be: where the sink stands as it stood, so do links,
+-- clocks and random words
 abbrev pub OpensLinksAfterSink : {I O E L C : Type 0} → Shelf I O E L C → Shelf I O E L C → RecvCommand → Type 0
 OpensLinksAfterSink old new c = new.sinks c.out ≡ old.sinks c.out → ChangesSinks old new
 
@@ -89,8 +90,8 @@ OpensLinksAfterSink old new c = new.sinks c.out ≡ old.sinks c.out → ChangesS
 abbrev pub links_received : RecvCommand → List Opened
 links_received c = map (λ spec. record { spec = spec; role = Receives; profile = c.session.profile }) c.links
 
--- what a gateway doesn't speak of stands as it stood, and what it speaks of came back: its links, a clock for each and one for its
--- sender, and the first random words where it draws some
+-- what a gateway doesn't speak of stands as it stood, and what it speaks of came back: its links, a clock for each and
+-- one for its sender, and the first random words where it draws some
 pub record KeepsAroundGate {I O E L C : Type 0} (old new : Shelf I O E L C) (c : GateCommand) : Type 0 where
   pub sources : new.sources ≡ old.sources
   pub sinks : new.sinks ≡ old.sinks
@@ -98,8 +99,8 @@ pub record KeepsAroundGate {I O E L C : Type 0} (old new : Shelf I O E L C) (c :
   pub clocks : KeepsLinksBut (length c.inputs + length c.outputs + 1) old.clocks new.clocks
   pub words : KeepsWords old new (is_some c.session.pass)
 
--- the links that a gateway opens, the first first: it is bound to those that it receives on, and behind them it sends to the others,
--- all in the profile of its session
+-- the links that a gateway opens, the first first: it is bound to those that it receives on, and behind them it sends
+-- to the others, all in the profile of its session
 abbrev pub links_gated : GateCommand → List Opened
 links_gated c =
     map (λ spec. record { spec = spec; role = Receives; profile = c.session.profile }) c.inputs

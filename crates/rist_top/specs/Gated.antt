@@ -25,8 +25,9 @@ gate_status (gates.Torn tear) = statuses.Torn tear
 gate_status gates.LinksDown = statuses.LinksDown
 gate_status gates.Done = statuses.Done
 
--- A gateway of a line ran under the sealers of its receiver and of its sender, where there are any, and it ended so: of these links the
--- first ones were received on and the others sent on, and what was received went on over them, payload by payload.
+-- A gateway of a line ran under the sealers of its receiver and of its sender, where there are any, and it ended so: of
+-- these links the first ones were received on and the others sent on, and what was received went on over them, payload
+-- by payload.
 pub record GatesAs {L C : Type 0} (live : TellsLive L C) (c : GateCommand) (receiving sending : Option SealerState) (links_were links_are : List L)
     (clocks_were clocks_are : List C) (counts : Counts) (status : Status) : Type 0 where
   pub ending : GateEnding
@@ -34,7 +35,8 @@ pub record GatesAs {L C : Type 0} (live : TellsLive L C) (c : GateCommand) (rece
   pub run : Forwards live.moments live.line (setup_gated c receiving sending) (limits_served c.serving) (length c.inputs) links_were links_are
       clocks_were clocks_are counts ending
 
--- clocks and, under a passphrase, random words were handed out, the links of a line were received on and sent on, and all came back
+-- clocks and, under a passphrase, random words were handed out, the links of a line were received on and sent on, and
+-- all came back
 pub record GatedByClocks {I O E L C : Type 0} (tells : Tells I O E) (live : TellsLive L C) (old new : Shelf I O E L C) (c : GateCommand)
     (links_were links_are : List L) (status : Status) : Type 0 where
   pub clocks_were : List C

@@ -2,7 +2,7 @@
 use Rattle.std.specs.Prelude.{◌≡◌, Bool, List, Option, Some, None, IsTrue, map, string_bytes}
 use Rattle.std.specs.declared.string.String.{String}
 use Rattle.outside_host.specs.Shelf.{Shelf}
-use Rattle.rist_words.specs.CommandLine.{CommandLine, Replay, Show, Pack, Send, Recv, Gate, SendCommand, RecvCommand, GateCommand, line_of}
+use Rattle.rist_words.specs.CommandLine.{CommandLine, Replay, Show, Count, Pack, Send, Recv, Gate, SendCommand, RecvCommand, GateCommand, line_of}
 
 -- they are this line
 abbrev pub IsLine : {A : Type 0} → List (String A) → CommandLine → Type 0
@@ -12,6 +12,7 @@ IsLine words c = line_of (map string_bytes words) ≡ Some c
 abbrev pub IsPlain : CommandLine → Type 0
 IsPlain (Replay c) = Unit {0}
 IsPlain (Show c) = Unit {0}
+IsPlain (Count c) = Unit {0}
 IsPlain (Pack c) = Unit {0}
 IsPlain (Send c) = Unit {0}
 IsPlain (Recv c) = ⊥
@@ -22,6 +23,7 @@ abbrev pub plain_line : Option CommandLine → Option CommandLine
 plain_line None = None
 plain_line (Some (Replay c)) = Some (Replay c)
 plain_line (Some (Show c)) = Some (Show c)
+plain_line (Some (Count c)) = Some (Count c)
 plain_line (Some (Pack c)) = Some (Pack c)
 plain_line (Some (Send c)) = Some (Send c)
 plain_line (Some (Recv c)) = None
@@ -39,6 +41,7 @@ IsNoLine words = line_of (map string_bytes words) ≡ None
 abbrev pub IsOverFiles : CommandLine → Type 0
 IsOverFiles (Replay c) = Unit {0}
 IsOverFiles (Show c) = Unit {0}
+IsOverFiles (Count c) = Unit {0}
 IsOverFiles (Pack c) = Unit {0}
 IsOverFiles (Send c) = ⊥
 IsOverFiles (Recv c) = ⊥

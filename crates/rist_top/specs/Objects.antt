@@ -2,8 +2,8 @@
 use Rattle.std.specs.Prelude.{ℕ, List, Option}
 use Rattle.outside_io.specs.Told.{Passage}
 
--- what remains of its sources, what its sinks hold and which random words remain, where they tell, and how many calls of
--- each failed
+-- what remains of its sources, what its sinks hold and which random words remain, where they tell, and how many calls
+-- of each failed
 pub record Tells (I O E : Type 0) : Type 0 where
   pub remaining : I → Option (List ℕ)
   pub read_faults : I → ℕ

@@ -14,8 +14,8 @@ use Rattle.rist_top.specs.Sent.{TellsLive, send_status}
 use Rattle.rist_top.specs.Sessions.{session_sent}
 use Rattle.rist_top.specs.declared.status.Status.{Status}
 
--- Payloads were sent of a source that had these octets and has these left: with Done all of its pieces, in order, each once,
--- and with any other status the first ones.
+-- Payloads were sent of a source that had these octets and has these left: with Done all of its pieces, in order, each
+-- once, and with any other status the first ones.
 abbrev pub SendsPieces : List ℕ → Option (List ℕ) → List (List ℕ) → Status → Type 0
 SendsPieces octets left sent status = (end : Result Unit SendFault) × (status ≡ send_status end) × Gives end octets left sent
 

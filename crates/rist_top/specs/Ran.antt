@@ -4,7 +4,7 @@ use Rattle.outside_io.specs.Causes.{HasReadCause, HasWriteCause}
 use Rattle.outside_io.specs.Told.{IsEmpty}
 use Rattle.outside_host.specs.Shelf.{Shelf}
 use Rattle.outside_host.specs.declared.host.Place.TheVariants.{Here, Back}
-use Rattle.rist_words.specs.CommandLine.{CommandLine, Replay, Show, Pack, Send, Recv, Gate}
+use Rattle.rist_words.specs.CommandLine.{CommandLine, Replay, Show, Count, Pack, Send, Recv, Gate}
 use Rattle.rist_top.specs.Causes.{fault_of}
 use Rattle.rist_top.specs.Objects.{Tells, passage}
 use Rattle.rist_top.specs.Works.{Works}
@@ -16,15 +16,17 @@ use Rattle.rist_top.specs.declared.status.Status.TheVariants as statuses
 abbrev pub source_name : CommandLine → List ℕ
 source_name (Replay c) = c.capture
 source_name (Show c) = c.capture
+source_name (Count c) = c.capture
 source_name (Pack c) = c.source
 source_name (Send c) = c.source
 source_name (Recv c) = []
 source_name (Gate c) = []
 
--- the name of its sink: a showing writes to the standard output, and a sending and a gateway have none
+-- the name of its sink: a showing and a counting write to the standard output, and a sending and a gateway have none
 abbrev pub sink_name : CommandLine → List ℕ
 sink_name (Replay c) = c.out
 sink_name (Show c) = codes "-"
+sink_name (Count c) = codes "-"
 sink_name (Pack c) = c.capture
 sink_name (Send c) = []
 sink_name (Recv c) = c.out

@@ -50,8 +50,9 @@ reception_of c = record {
   refused = c.refused;
 }
 
--- A receiving of a line ran under a sealer, where there is one, and it ended so: these links and clocks, the first of each is that of
--- the first link, have given and taken just what its workers' turns say, and the sink holds what its receiver released.
+-- A receiving of a line ran under a sealer, where there is one, and it ended so: these links and clocks, the first of
+-- each is that of the first link, have given and taken just what its workers' turns say, and the sink holds what its
+-- receiver released.
 pub record ReceivesAs {L C : Type 0} (live : TellsLive L C) (c : RecvCommand) (sealer : Option SealerState) (links_were links_are : List L)
     (clocks_were clocks_are : List C) (contents_were contents_are : Option (List ℕ)) (faults_were faults_are : ℕ) (counts : Counts) (status : Status) : Type 0 where
   pub ending : Ending

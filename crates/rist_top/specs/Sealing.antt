@@ -9,8 +9,8 @@ use Rattle.outside_host.specs.declared.host.Place.TheVariants.{Here, Back}
 use Rattle.rist_top.specs.Places.{CameBack, KeepsLive}
 use Rattle.rist_top.specs.Objects.{Tells}
 
--- sources and sinks stand as they stood, and of a host that has handed out none all random words but the first, which came
--- back; that one too where none are drawn
+-- sources and sinks stand as they stood, and of a host that has handed out none all random words but the first, which
+-- came back; that one too where none are drawn
 pub record KeepsObjects {I O E L C : Type 0} (old new : Shelf I O E L C) (draws : Bool) : Type 0 where
   pub sources : new.sources ≡ old.sources
   pub sinks : new.sinks ≡ old.sinks
@@ -19,7 +19,8 @@ pub record KeepsObjects {I O E L C : Type 0} (old new : Shelf I O E L C) (draws 
   pub undrawn : draws ≡ false → (place : ℕ) → new.entropies place ≡ old.entropies place
   pub live : KeepsLive old new
 
--- the nonces of a sealer are drawn from the first source of random words, which was handed out, did not fail, and came back
+-- the nonces of a sealer are drawn from the first source of random words, which was handed out, did not fail, and came
+-- back
 pub record DrawnFirst {I O E : Type 0} (tells : Tells I O E) (old new : ℕ → Place E) (sealer : SealerState) : Type 0 where
   pub words : E
   pub drawn : E
@@ -36,8 +37,8 @@ pub record FailedAt {I O E L C : Type 0} (tells : Tells I O E) (old new : Shelf 
   pub gave : new.entropies 0 ≡ Back drawn
   pub rose : Rose (tells.word_faults words) (tells.word_faults drawn)
 
--- The nonces of two sealers are drawn from the first source of random words, those of the second behind those of the first; it was
--- handed out, did not fail, and came back.
+-- The nonces of two sealers are drawn from the first source of random words, those of the second behind those of the
+-- first; it was handed out, did not fail, and came back.
 pub record DrawnBoth {I O E : Type 0} (tells : Tells I O E) (old new : ℕ → Place E) (first second : SealerState) : Type 0 where
   pub words : E
   pub drawn : E

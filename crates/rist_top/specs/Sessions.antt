@@ -4,7 +4,7 @@ use Rattle.seq_unwrap.specs.declared.width.Width.TheVariants.{W16, W32}
 use Rattle.receiver_rules.specs.declared.limits.Limits.{Limits}
 use Rattle.rist_wire.specs.declared.session.Session.{Session}
 use Rattle.psk_seal.specs.Sealer.{SealerState}
-use Rattle.rist_words.specs.CommandLine.{ReplayCommand, PackCommand, SendCommand, RecvCommand, GateCommand, Receiver, Serving}
+use Rattle.rist_words.specs.CommandLine.{ReplayCommand, CountCommand, PackCommand, SendCommand, RecvCommand, GateCommand, Receiver, Serving}
 use Rattle.rist_pack.specs.declared.settings.PackSettings.{PackSettings}
 use Rattle.rist_words.specs.CommandLine as lines
 use Rattle.rist_ends.specs.Settings.{limits_of, muted_settings}
@@ -37,7 +37,11 @@ session_read s = session_with s false false
 
 -- the limits of a replay's receiver, in ticks and packets
 abbrev pub replay_limits : ReplayCommand → Limits
-replay_limits c = limits_of (muted_settings c.delay c.span)
+replay_limits c = limits_of (muted_settings c.delay c.span c.restart)
+
+-- those of a counting's receiver
+abbrev pub count_limits : CountCommand → Limits
+count_limits c = limits_of (muted_settings c.delay c.span c.restart)
 
 -- the flow that a source is packed as
 abbrev pub pack_settings : PackCommand → PackSettings
@@ -78,6 +82,7 @@ abbrev pub settings_with : Receiver → ReceiverSettings
 settings_with r = record {
   delay = r.delay;
   span = r.span;
+  restart = r.restart;
   reorder = r.reorder;
   least = r.least;
   tries = r.tries;

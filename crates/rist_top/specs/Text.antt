@@ -1,11 +1,12 @@
 -- What is printed for each status.
 use Rattle.std.specs.Prelude.{ℕ, List, ◌++◌, codes, decimal}
 use Rattle.capture_file.specs.Text.{kind_text}
+use Rattle.pcap_file.specs.Text.{kind_text as pcap_kind_text}
 use Rattle.rist_recv.specs.Text.{tear_text}
 use Rattle.rist_top.specs.declared.status.Status.{Status}
-use Rattle.rist_top.specs.declared.status.Status.TheVariants.{Done, Memory, Usage, OpenFault, ReadFault, WriteFault, BadCapture, EntropyFault, TooLong, LinksDown, TraceFull, Torn, Spent, TurnsSpent}
+use Rattle.rist_top.specs.declared.status.Status.TheVariants.{Done, Memory, Usage, OpenFault, ReadFault, WriteFault, BadCapture, EntropyFault, TooLong, LinksDown, TraceFull, Torn, Spent, TurnsSpent, BadPcap}
 
--- for a bad capture the test that fails and the offset, in decimal digits
+-- for a bad capture or pcap file the test that fails and the offset, in decimal digits
 abbrev pub text_of : Status → List ℕ
 text_of Done = codes "done"
 text_of Memory = codes "out of memory"
@@ -21,3 +22,4 @@ text_of TraceFull = codes "trace full"
 text_of (Torn tear) = tear_text tear
 text_of Spent = codes "keys spent"
 text_of TurnsSpent = codes "turns spent"
+text_of (BadPcap kind at) = codes "bad pcap: " ++ (pcap_kind_text kind ++ (codes " at " ++ decimal at))

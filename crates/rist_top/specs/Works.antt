@@ -1,5 +1,5 @@
 -- What each command leaves, by its status.
-use Rattle.std.specs.Prelude.{◌≡◌, ◌⊎◌, ℕ, List, Option, Result, Ok, Err, IfSome, is_some}
+use Rattle.std.specs.Prelude.{◌≡◌, ◌⊎◌, ℕ, List, [], Option, None, Some, Result, Ok, Err, IfSome, is_some}
 use Rattle.outside_host.specs.declared.host.HostBad.{HostBad}
 use Rattle.outside_host.specs.declared.host.HostBad.TheVariants as hosts
 use Rattle.psk_seal.specs.Sealer.{SealerState}
@@ -7,17 +7,19 @@ use Rattle.psk_seal.specs.Nonces.{AreNonces}
 use Rattle.outside_io.specs.Told.{Passage}
 use Rattle.capture_file.specs.Capture.{Record}
 use Rattle.block_source.specs.Block.{most_ahead}
+use Rattle.capture_walk.specs.Form.{Form, Capture, Pcap}
 use Rattle.capture_walk.specs.Leaves.{Leaves}
 use Rattle.capture_walk.specs.declared.walk_bad.WalkBad.{WalkBad}
 use Rattle.capture_walk.specs.declared.walk_bad.WalkBad.TheVariants as walks
 use Rattle.rist_replay.specs.Replay.{released_so_far, replayed}
+use Rattle.rist_count.specs.Counted.{counted}
 use Rattle.rist_show.specs.Lines.{lines}
 use Rattle.rist_pack.specs.Packing.{Packs}
 use Rattle.rist_pack.specs.Capture.{packed_record, nonces_of}
 use Rattle.rist_pack.specs.declared.bad.PackBad.{PackBad}
 use Rattle.rist_pack.specs.declared.bad.PackBad.TheVariants as packs
-use Rattle.rist_words.specs.CommandLine.{CommandLine, Replay, Show, Pack, Send, Recv, Gate, Session, ReplayCommand, ShowCommand, PackCommand}
-use Rattle.rist_top.specs.Sessions.{session_with, session_read, replay_limits, pack_settings}
+use Rattle.rist_words.specs.CommandLine.{CommandLine, Replay, Show, Count, Pack, Send, Recv, Gate, Session, ReplayCommand, ShowCommand, CountCommand, PackCommand}
+use Rattle.rist_top.specs.Sessions.{session_with, session_read, replay_limits, count_limits, pack_settings}
 use Rattle.rist_top.specs.declared.status.Status.{Status}
 use Rattle.rist_top.specs.declared.status.Status.TheVariants as statuses
 
@@ -28,6 +30,7 @@ walk_status (Err walks.Memory) = statuses.Memory
 walk_status (Err walks.ReadFault) = statuses.ReadFault
 walk_status (Err walks.WriteFault) = statuses.WriteFault
 walk_status (Err (walks.BadCapture kind at)) = statuses.BadCapture kind at
+walk_status (Err (walks.BadPcap kind at)) = statuses.BadPcap kind at
 walk_status (Err walks.TooLong) = statuses.TooLong
 
 -- how a packing ended, as a status
@@ -43,8 +46,14 @@ host_status hosts.Failed = statuses.OpenFault
 host_status hosts.NoMemory = statuses.Memory
 
 -- a walk over the source's records ended so, and left this
-abbrev pub Walks : (List Record → List ℕ) → (List Record → List ℕ) → Passage → Status → Type 0
-Walks so_far whole p status = (end : Result Unit WalkBad) × (status ≡ walk_status end) × Leaves so_far whole most_ahead p end
+abbrev pub Walks : Form → (List Record → List ℕ) → (List Record → List ℕ) → Passage → Status → Type 0
+Walks form so_far whole p status =
+    (end : Result Unit WalkBad) × (status ≡ walk_status end) × Leaves form so_far whole most_ahead p end
+
+-- the form of a line's file: a pcap file where a UDP port is given
+abbrev pub form_of : Session → Option ℕ → Form
+form_of session None = Capture
+form_of session (Some port) = Pcap session.profile port
 
 -- a packing under a sealer, where there is one, ended so, and left this
 abbrev pub PacksAs : PackCommand → Option SealerState → Passage → Status → Type 0
@@ -58,20 +67,37 @@ pub record IsFreshFor (s : Session) (sealer : Option SealerState) : Type 0 where
   pub fresh : IfSome sealer (λ s. s.given ≡ 0)
   pub nonces : IfSome sealer (λ s. AreNonces s.nonces)
 
+-- what a replay of a file of this form leaves
+abbrev pub ReplaysAs : Form → ReplayCommand → Passage → Status → Type 0
+ReplaysAs form c p status =
+    Walks form (released_so_far (session_read c.session) (replay_limits c)) (replayed (session_read c.session) (replay_limits c)) p status
+
 -- what a replay leaves
 abbrev pub Replays : ReplayCommand → Passage → Status → Type 0
-Replays c p status =
-    Walks (released_so_far (session_read c.session) (replay_limits c)) (replayed (session_read c.session) (replay_limits c)) p status
+Replays c p status = ReplaysAs (form_of c.session c.pcap) c p status
+
+-- what a showing of a file of this form leaves
+abbrev pub ShowsAs : Form → ShowCommand → Passage → Status → Type 0
+ShowsAs form c p status = Walks form (lines (session_read c.session)) (lines (session_read c.session)) p status
 
 -- what a showing leaves
 abbrev pub Shows : ShowCommand → Passage → Status → Type 0
-Shows c p status = Walks (lines (session_read c.session)) (lines (session_read c.session)) p status
+Shows c p status = ShowsAs (form_of c.session c.pcap) c p status
 
--- what a command leaves of its source and its sink, where they tell, and what else is known of the sealer of a packing. A sending has
--- no sink: `Sent` is for it.
+-- what a counting of a file of this form leaves: nothing is written before its end
+abbrev pub CountsAs : Form → CountCommand → Passage → Status → Type 0
+CountsAs form c p status = Walks form (λ rs. []) (counted (session_read c.session) (count_limits c)) p status
+
+-- what a counting leaves
+abbrev pub Counts : CountCommand → Passage → Status → Type 0
+Counts c p status = CountsAs (form_of c.session c.pcap) c p status
+
+-- what a command leaves of its source and its sink, where they tell, and what else is known of the sealer of a packing.
+-- A sending has no sink: `Sent` is for it.
 abbrev pub Works : (SealerState → Type 0) → CommandLine → Passage → Status → Type 0
 Works IsKnown (Replay c) p status = Replays c p status
 Works IsKnown (Show c) p status = Shows c p status
+Works IsKnown (Count c) p status = Counts c p status
 Works IsKnown (Pack c) p status =
     ((status ≡ statuses.EntropyFault) × (p.left ≡ p.had) × (p.holds ≡ p.held))
     ⊎ ((sealer : Option SealerState) × IsFreshFor c.session sealer × IfSome sealer IsKnown × PacksAs c sealer p status)

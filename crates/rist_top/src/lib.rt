@@ -3,6 +3,8 @@
 #![tactic(auto)]
 
 mod gating;
+#[cfg(test)]
+mod pcap_tests;
 mod receiving;
 mod sealing;
 mod sending;

@@ -41,6 +41,7 @@ pub fn settings_of(words: &ReceiverWords) -> Settings
     Settings {
         delay: words.delay,
         span: words.span,
+        restart: words.restart,
         reorder: words.reorder,
         least: words.least,
         tries: words.tries,

@@ -2,6 +2,7 @@
 use capture_file::CapKind;
 use capture_walk::WalkBad;
 use outside_host::HostBad;
+use pcap_file::PcapKind;
 use rist_compare::Tear;
 use rist_gateway::GateEnding;
 use rist_pack::PackBad;
@@ -40,6 +41,8 @@ pub enum Status {
     Spent,
     /// The turns of a sending were made before its source's end.
     TurnsSpent,
+    /// No header or no record of a pcap file stands at this offset, for this kind.
+    BadPcap(PcapKind, u64),
 }
 
 impl Status {
@@ -65,6 +68,7 @@ impl Status {
             Status::Torn(_) => 9,
             Status::Spent => 10,
             Status::TurnsSpent => 13,
+            Status::BadPcap(..) => 14,
         }
     }
 }
@@ -86,6 +90,7 @@ impl Status {
             Err(WalkBad::ReadFault) => Status::ReadFault,
             Err(WalkBad::WriteFault) => Status::WriteFault,
             Err(WalkBad::BadCapture(kind, at)) => Status::BadCapture(kind, at),
+            Err(WalkBad::BadPcap(kind, at)) => Status::BadPcap(kind, at),
             Err(WalkBad::TooLong) => Status::TooLong,
         }
     }
@@ -176,6 +181,7 @@ impl Display for Status {
             Status::Torn(tear) => write!(f, "{}", TearText(tear)),
             Status::Spent => f.write_str("keys spent"),
             Status::TurnsSpent => f.write_str("turns spent"),
+            Status::BadPcap(kind, at) => write!(f, "bad pcap: {kind} at {at}"),
         }
     }
 }

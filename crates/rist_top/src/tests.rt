@@ -8,13 +8,14 @@ use crate::{Status, plain};
 use capture_file::CapKind;
 use outside_host::{Host, MemHost, MemParts, Place, Slot};
 use outside_io::{MemSource, Pieces, Store8, Words};
+use pcap_file::PcapKind;
 use receiver_plain::{Event, Step, released};
 use receiver_rules::{Arrival, Limits, tick_of};
 use seq_unwrap::Width;
 use std::alloc::{AllocError, Global};
 use std::test::Fail;
 
-const NAME: &[u8] = b"RISTCAP1";
+pub(crate) const NAME: &[u8] = b"RISTCAP1";
 
 const A: &[u8] = b"\0\0\0\x0D\0\0\0\0\0\0\0\0\x80\x21\0\x0A\0\0\0\0\x10\x20\x30\x40A";
 
@@ -27,19 +28,19 @@ const C_EARLY: &[u8] = b"\0\0\0\x0D\0\0\0\0\0\0\x27\x10\x80\x21\0\x0C\0\0\x07\x0
 
 const B_LATE: &[u8] = b"\0\0\0\x0D\0\0\0\0\0\0\x4E\x20\x80\x21\0\x0B\0\0\x03\x84\x10\x20\x30\x40B";
 
-/// What a host has beside its source: where that is cut, random words, and which of the source's reads, the sink's puts,
-/// the draws of words and the host's own calls fail.
+/// What a host has beside its source: where that is cut, random words, and which of the source's reads, the sink's
+/// puts, the draws of words and the host's own calls fail.
 #[derive(Clone, Copy)]
-struct Outside<'a> {
-    cuts: &'a [usize],
-    reads: &'a [u64],
-    puts: &'a [u64],
-    random: &'a [u32],
-    draws: &'a [u64],
-    calls: &'a [u64],
+pub(crate) struct Outside<'a> {
+    pub(crate) cuts: &'a [usize],
+    pub(crate) reads: &'a [u64],
+    pub(crate) puts: &'a [u64],
+    pub(crate) random: &'a [u32],
+    pub(crate) draws: &'a [u64],
+    pub(crate) calls: &'a [u64],
 }
 
-const NOTHING: Outside<'static> = Outside {
+pub(crate) const NOTHING: Outside<'static> = Outside {
     cuts: &[],
     reads: &[],
     puts: &[],
@@ -89,7 +90,7 @@ fn words(alloc: Global, line: &str) -> Result<Vec<String>, Fail> {
 }
 
 /// What a command writes, if it ends with this status.
-fn written(
+pub(crate) fn written(
     alloc: Global,
     line: &str,
     source: &[u8],
@@ -111,7 +112,7 @@ fn written(
     }
 }
 
-fn joined(alloc: Global, parts: &[&[u8]]) -> Result<Vec<u8>, Fail> {
+pub(crate) fn joined(alloc: Global, parts: &[&[u8]]) -> Result<Vec<u8>, Fail> {
     let mut octets = Vec::new(alloc);
     for part in parts {
         octets.extend_from_slice(part)?;
@@ -415,6 +416,23 @@ fn a_record_is_shown_as_a_line(rt: HostRuntime) -> Result<(), Fail> {
 }
 
 #[test]
+fn a_capture_is_counted_as_far_as_it_goes(rt: HostRuntime) -> Result<(), Fail> {
+    let alloc = rt.alloc();
+    let truncated = Status::BadCapture(CapKind::Truncated, 58);
+    let none = "stranger 0\nexhausted 0\nlate 0\nbehind 0\nearly 0\ntwice 0\nspan 0\nrefused 0\n";
+    for (parts, status, kept) in [
+        ([NAME, A, B, C], Status::Done, 3),
+        ([NAME, A, B, &C[..24]], truncated, 2),
+    ] {
+        let capture = joined(alloc, &parts)?;
+        let octets = written(alloc, "count -", capture.as_slice(), &NOTHING, status)?;
+        let text = format!(in alloc; "kept {kept}\n{none}")?;
+        assert!(rt; octets.as_slice() == text.as_bytes());
+    }
+    Ok(())
+}
+
+#[test]
 fn each_status_has_its_text(rt: HostRuntime) -> Result<(), Fail> {
     for (status, text) in [
         (Status::Memory, "out of memory"),
@@ -428,6 +446,10 @@ fn each_status_has_its_text(rt: HostRuntime) -> Result<(), Fail> {
         ),
         (Status::EntropyFault, "no randomness"),
         (Status::TooLong, "input too long"),
+        (
+            Status::BadPcap(PcapKind::LinkType, 0),
+            "bad pcap: link type at 0",
+        ),
     ] {
         let written = format!(in rt.alloc(); "{status}")?;
         assert_eq!(rt; written.as_str(), text);
@@ -449,14 +471,19 @@ struct MediaPacket {
     stamp: u32,
 }
 
-/// A media packet of a row of numbers: mostly near its place, sometimes far off, twice, or of another flow.
+/// A media packet of a row of numbers: mostly near its place, sometimes far off, twice, or of another flow. Behind each
+/// thousand comes a pause, after which the other flow's packets are the common ones, with numbers of their own.
 fn made_packet(seed: u32, place: u32) -> MediaPacket
     requires { place < 2 ^ 16 }
 {
-    let number = 40_000 + place + (seed >> 8) % 8;
+    let part = place / 1000;
+    let number = 40_000 + place + (seed >> 8) % 8 + part * 30_000;
+    let common = 6 + part % 2 * 2;
+    let flow = if seed >> 29 == 7 { 14 - common } else { common };
+    let pause = u64::from(part) * 2_000_000;
     MediaPacket {
-        micros: u64::from(place) * 100_000 + u64::from(seed >> 12) % 250_000,
-        ssrc: 6 + (seed >> 28) % 2 + (seed >> 29) / 7 * 2,
+        micros: u64::from(place) * 100_000 + u64::from(seed >> 12) % 250_000 + pause,
+        ssrc: flow + (seed >> 28) % 2,
         word: (number % 65_536) as u16,
         stamp: (number % 100_000).wrapping_mul(9000),
     }
@@ -494,12 +521,14 @@ fn step_of<'a>(packet: &MediaPacket, payload: &'a [u8]) -> Step<'a>
     }
 }
 
+/// A delay of one second, and a restart time of half a second.
 fn limits() -> Limits
     ensures { AreInRange result }
 {
     Limits {
         playout_delay: 90_000,
         capacity: 2048,
+        restart_time: 45_000,
     }
 }
 
@@ -544,15 +573,12 @@ fn a_made_capture_is_replayed_as_the_plain_program_says(rt: HostRuntime) -> Resu
     let payloads = released(alloc, &limits(), steps.as_slice())?;
     let expected = joined(alloc, payloads.as_slice())?;
     assert!(rt; expected.len() > 1500 && expected.len() < 3000);
-    let capture = octets.as_slice();
-    assert!(rt;
-        replays(
-            alloc,
-            &[capture],
-            &NOTHING,
-            Status::Done,
-            expected.as_slice()
-        )?
-    );
+    let line = "replay --restart 500 - -";
+    let played = written(alloc, line, octets.as_slice(), &NOTHING, Status::Done)?;
+    assert!(rt; played.as_slice() == expected.as_slice());
+    // Without a restart time the first flow alone is played out.
+    let line = "replay - -";
+    let first_alone = written(alloc, line, octets.as_slice(), &NOTHING, Status::Done)?;
+    assert!(rt; first_alone.len() < 1000);
     Ok(())
 }

@@ -186,6 +186,7 @@ fn run_line<H: Host>(alloc: Global, host: &mut H, line: &Line<'_>) -> Status
     match line {
         Line::Replay(_) => file_line(alloc, host, line),
         Line::Show(_) => file_line(alloc, host, line),
+        Line::Count(_) => file_line(alloc, host, line),
         Line::Pack(_) => file_line(alloc, host, line),
         Line::Send(line) => send_line(alloc, host, line),
         Line::Recv(_) | Line::Gate(_) => unreachable!(),
@@ -237,6 +238,7 @@ fn source_name<'a>(line: &Line<'a>) -> &'a str
     match line {
         Line::Replay(line) => line.capture,
         Line::Show(line) => line.capture,
+        Line::Count(line) => line.capture,
         Line::Pack(line) => line.source,
         Line::Send(line) => line.source,
         Line::Recv(_) | Line::Gate(_) => "",
@@ -250,7 +252,7 @@ fn sink_name<'a>(line: &Line<'a>) -> &'a str
 {
     match line {
         Line::Replay(line) => line.out,
-        Line::Show(_) => "-",
+        Line::Show(_) | Line::Count(_) => "-",
         Line::Pack(line) => line.capture,
         Line::Send(_) | Line::Recv(_) | Line::Gate(_) => unreachable!(),
     }

@@ -1,13 +1,13 @@
 //! The work of each command over its source and its sink.
-ghost use Rattle.std.specs.Prelude.{◌≡◌, ◌≢◌, ◌⊎◌, IsTrue};
+ghost use Rattle.std.specs.Prelude.{◌≡◌, ◌≢◌, ◌⊎◌, [], false, IsTrue};
 ghost use Rattle.outside_io.specs.Causes.{HasReadCause, HasWriteCause, HasOpenCause};
-ghost use Rattle.rist_words.specs.Shown.{shown, shown_session, shown_replay, shown_show, shown_pack};
-ghost use Rattle.rist_words.specs.Ranges.{IsInRange, IsInSession, IsInReplay, IsInPack};
+ghost use Rattle.rist_words.specs.Shown.{shown, shown_session, shown_replay, shown_show, shown_count, shown_pack};
+ghost use Rattle.rist_words.specs.Ranges.{IsInRange, IsInReplay, IsInShow, IsInCount, IsInPack};
 ghost use Rattle.rist_top.specs.Causes.{fault_of};
 ghost use Rattle.rist_top.specs.Frame.{draws_words};
 ghost use Rattle.rist_top.specs.Lines.{IsFresh, IsOverFiles};
 ghost use Rattle.rist_top.specs.Objects.{passage};
-ghost use Rattle.rist_top.specs.Works.{Works, Replays, Shows, PacksAs, IsFreshFor};
+ghost use Rattle.rist_top.specs.Works.{Works, Replays, ReplaysAs, Shows, ShowsAs, Counts, CountsAs, PacksAs, IsFreshFor};
 ghost use Rattle.rist_top.specs.Sealing.{KeepsObjects, DrawnFirst, FailedAt};
 ghost use Rattle.rist_top.specs.Inside.Answers.{IsOwn, IsUnbegun};
 
@@ -16,14 +16,16 @@ use crate::sessions::session_of;
 use crate::status::Status;
 use crate::telling::Telling;
 use capture_file::{Reader, Writer};
+use capture_walk::{PortReader, Records};
 use outside_host::Host;
 use outside_io::{Sink, Source};
 use psk_seal::Sealer;
+use rist_count::count;
 use rist_ends::Settings;
 use rist_pack::{PackSettings, pack};
 use rist_replay::replay;
 use rist_show::show;
-use rist_words::{Line, PackLine, ReplayLine, ShowLine};
+use rist_words::{CountLine, Line, PackLine, ReplayLine, ShowLine};
 use std::alloc::Global;
 
 /// A source and a sink after their work, and how it ended.
@@ -36,12 +38,13 @@ pub struct Worked<S, K> {
     pub status: Status,
 }
 
-/// Replays a capture.
+/// Replays a capture, or the datagrams in a pcap file.
+#[tactic(auto, using(capture_walk::proofs::GoingLemmas::new_has_read))]
 pub fn replay_line<S: Source, K: Sink>(
     alloc: Global,
     line: &ReplayLine<'_>,
     source: S,
-    mut sink: K,
+    sink: K,
 ) -> Worked<S, K>
     requires range { IsInReplay (shown_replay line.now) }
     ensures line { IsOwn result.status }
@@ -55,9 +58,38 @@ pub fn replay_line<S: Source, K: Sink>(
     ensures read { HasReadCause (fault_of result.status) (S.faults source) (S.faults result.source) }
     ensures write { HasWriteCause (fault_of result.status) (K.faults sink) (K.faults result.sink) }
 {
+    match line.pcap {
+        None => replay_records(alloc, line, Reader::over(source), sink),
+        Some(port) => {
+            let reader = PortReader::over(source, line.session.profile, port);
+            replay_records(alloc, line, reader, sink)
+        }
+    }
+}
+
+/// Replays the records that a reader gives.
+fn replay_records<R: Records, K: Sink>(
+    alloc: Global,
+    line: &ReplayLine<'_>,
+    mut reader: R,
+    mut sink: K,
+) -> Worked<R::Input, K>
+    requires range { IsInReplay (shown_replay line.now) }
+    requires start { R.has_read reader (R.remaining reader) [] }
+    requires running { R.spent reader ≡ false }
+    ensures line { IsOwn result.status }
+    ensures work { ReplaysAs (R.form reader) (shown_replay line.now)
+        (record {
+          had = R.remaining reader;
+          left = R.Input.remaining result.source;
+          held = K.contents sink;
+          holds = K.contents result.sink;
+        }) result.status }
+    ensures read { HasReadCause (fault_of result.status) (R.faults reader) (R.Input.faults result.source) }
+    ensures write { HasWriteCause (fault_of result.status) (K.faults sink) (K.faults result.sink) }
+{
     let session = session_of(&line.session, false, false);
-    let settings = Settings::muted(line.delay, line.span);
-    let mut reader = Reader::over(source);
+    let settings = Settings::muted(line.delay, line.span, line.restart);
     let end = replay(alloc, &session, &settings, &mut reader, &mut sink);
     Worked {
         source: reader.back(),
@@ -66,14 +98,15 @@ pub fn replay_line<S: Source, K: Sink>(
     }
 }
 
-/// Shows the records of a capture.
+/// Shows the records of a capture, or the datagrams in a pcap file.
+#[tactic(auto, using(capture_walk::proofs::GoingLemmas::new_has_read))]
 pub fn show_line<S: Source, K: Sink>(
     alloc: Global,
     line: &ShowLine<'_>,
     source: S,
-    mut sink: K,
+    sink: K,
 ) -> Worked<S, K>
-    requires range { IsInSession (shown_session line.now.session) }
+    requires range { IsInShow (shown_show line.now) }
     ensures line { IsOwn result.status }
     ensures work { Shows (shown_show line.now)
         (record {
@@ -85,9 +118,98 @@ pub fn show_line<S: Source, K: Sink>(
     ensures read { HasReadCause (fault_of result.status) (S.faults source) (S.faults result.source) }
     ensures write { HasWriteCause (fault_of result.status) (K.faults sink) (K.faults result.sink) }
 {
+    match line.pcap {
+        None => show_records(alloc, line, Reader::over(source), sink),
+        Some(port) => {
+            let reader = PortReader::over(source, line.session.profile, port);
+            show_records(alloc, line, reader, sink)
+        }
+    }
+}
+
+/// Shows the records that a reader gives.
+fn show_records<R: Records, K: Sink>(
+    alloc: Global,
+    line: &ShowLine<'_>,
+    mut reader: R,
+    mut sink: K,
+) -> Worked<R::Input, K>
+    requires range { IsInShow (shown_show line.now) }
+    requires start { R.has_read reader (R.remaining reader) [] }
+    requires running { R.spent reader ≡ false }
+    ensures line { IsOwn result.status }
+    ensures work { ShowsAs (R.form reader) (shown_show line.now)
+        (record {
+          had = R.remaining reader;
+          left = R.Input.remaining result.source;
+          held = K.contents sink;
+          holds = K.contents result.sink;
+        }) result.status }
+    ensures read { HasReadCause (fault_of result.status) (R.faults reader) (R.Input.faults result.source) }
+    ensures write { HasWriteCause (fault_of result.status) (K.faults sink) (K.faults result.sink) }
+{
     let session = session_of(&line.session, false, false);
-    let mut reader = Reader::over(source);
     let end = show(alloc, &session, &mut reader, &mut sink);
+    Worked {
+        source: reader.back(),
+        sink,
+        status: Status::of_walk(end),
+    }
+}
+
+/// Counts what a receiver would make of the records of a capture, or of the datagrams in a pcap file.
+#[tactic(auto, using(capture_walk::proofs::GoingLemmas::new_has_read))]
+pub fn count_line<S: Source, K: Sink>(
+    alloc: Global,
+    line: &CountLine<'_>,
+    source: S,
+    sink: K,
+) -> Worked<S, K>
+    requires range { IsInCount (shown_count line.now) }
+    ensures line { IsOwn result.status }
+    ensures work { Counts (shown_count line.now)
+        (record {
+          had = S.remaining source;
+          left = S.remaining result.source;
+          held = K.contents sink;
+          holds = K.contents result.sink;
+        }) result.status }
+    ensures read { HasReadCause (fault_of result.status) (S.faults source) (S.faults result.source) }
+    ensures write { HasWriteCause (fault_of result.status) (K.faults sink) (K.faults result.sink) }
+{
+    match line.pcap {
+        None => count_records(alloc, line, Reader::over(source), sink),
+        Some(port) => {
+            let reader = PortReader::over(source, line.session.profile, port);
+            count_records(alloc, line, reader, sink)
+        }
+    }
+}
+
+/// Counts what a receiver would make of the records that a reader gives.
+fn count_records<R: Records, K: Sink>(
+    alloc: Global,
+    line: &CountLine<'_>,
+    mut reader: R,
+    mut sink: K,
+) -> Worked<R::Input, K>
+    requires range { IsInCount (shown_count line.now) }
+    requires start { R.has_read reader (R.remaining reader) [] }
+    requires running { R.spent reader ≡ false }
+    ensures line { IsOwn result.status }
+    ensures work { CountsAs (R.form reader) (shown_count line.now)
+        (record {
+          had = R.remaining reader;
+          left = R.Input.remaining result.source;
+          held = K.contents sink;
+          holds = K.contents result.sink;
+        }) result.status }
+    ensures read { HasReadCause (fault_of result.status) (R.faults reader) (R.Input.faults result.source) }
+    ensures write { HasWriteCause (fault_of result.status) (K.faults sink) (K.faults result.sink) }
+{
+    let session = session_of(&line.session, false, false);
+    let receiver = Settings::muted(line.delay, line.span, line.restart);
+    let end = count(alloc, &session, &receiver, &mut reader, &mut sink);
     Worked {
         source: reader.back(),
         sink,
@@ -166,6 +288,7 @@ pub fn work<H: Host>(
     match line {
         Line::Replay(line) => replay_line(alloc, line, source, sink),
         Line::Show(line) => show_line(alloc, line, source, sink),
+        Line::Count(line) => count_line(alloc, line, source, sink),
         Line::Pack(line) => match sealer_for(host, &line.session) {
             Ok(sealer) => pack_line(line, sealer, source, sink),
             Err(status) => Worked {

@@ -10,7 +10,7 @@ use Rattle.rist_top.specs.Lines.{IsOverFiles}
 use Rattle.rist_top.specs.Untouched.{Untouched}
 use Rattle.rist_top.specs.declared.status.Status.TheVariants as statuses
 use Rattle.rist_top.proofs.LineLemmas.{same_line, ran_line}
-use Rattle.rist_top.proofs.ExactLemmas.{ran_reached}
+use Rattle.rist_top.proofs.ExactLemmas.{ran_reached, ran_epochs}
 use Rattle.rist_top.proofs.CompleteLemmas.{ran_completes}
 use Rattle.rist_top.proofs.UntouchedLemmas.{line_at_memory}
 use Rattle.rist_top.proofs.PiecesLemmas.{in_pieces}
@@ -51,6 +51,12 @@ returns-in-Ok-clause-does g c =
       reached = λ r is fresh done.
           let same = same_line _ _ (sym c.in-Ok.ensures.ok ∙ is) in
           ran_reached _ old new r c.run_line.result
+          (line_range _ (Replay r) is).some_delay done
+          (ran_line _ _ _ _ _ _ same
+          (c.run_line.ensures.ran fresh (λ e. not_open (sym done ∙ e)) (λ e. not_memory (sym done ∙ e)) (subst IsOverFiles (sym same) tt)));
+      epochs = λ r is fresh done.
+          let same = same_line _ _ (sym c.in-Ok.ensures.ok ∙ is) in
+          ran_epochs _ old new r c.run_line.result
           (line_range _ (Replay r) is).some_delay done
           (ran_line _ _ _ _ _ _ same
           (c.run_line.ensures.ran fresh (λ e. not_open (sym done ∙ e)) (λ e. not_memory (sym done ∙ e)) (subst IsOverFiles (sym same) tt)));
