@@ -9,6 +9,10 @@
     pieces.py compare FILE CAME FRONT END      compares octets. At most FRONT pieces may be missing before the first that
                                                came and END after the last, none between, and none may come twice or out of
                                                its place; its status is 1 where that doesn't hold
+    pieces.py restarted FILE CAME CUT NEXT END  the same of two streams, the second of which begins with piece CUT: at most NEXT
+                                               pieces may be missing before the first that came of each, and END after its
+                                               last
+    pieces.py cut FILE CUT FIRST SECOND        writes the pieces before CUT to FIRST, and the others to SECOND
 """
 import random
 import socket
@@ -60,30 +64,58 @@ def take(name, port):
             out.write(end.recv(65536))
 
 
+class Came:
+    """What came of the pieces from one place on up to another."""
+
+    def __init__(self, start, stop):
+        self.start, self.stop = start, stop
+        self.seen = set()
+
+    def judge(self, front, end):
+        """Says how many are missing where, and whether these are few enough."""
+        first, last = min(self.seen, default=self.stop), max(self.seen, default=self.start - 1)
+        missing = [k for k in range(first, last + 1) if k not in self.seen]
+        before, after = first - self.start, self.stop - 1 - last
+        print(f'{len(self.seen)} of {self.stop - self.start} pieces came; missing: {before} before the first, '
+              f'{len(missing)} between, {after} after the last')
+        if missing:
+            print('missing between:', missing[:20])
+        return bool(self.seen) and not missing and before <= int(front) and after <= int(end)
+
+
 def compare(name, came, front, end):
+    return judge(name, came, [], front, end)
+
+
+def restarted(name, came, cut, front, end):
+    return judge(name, came, [int(cut)], front, end)
+
+
+def judge(name, came, cuts, front, end):
     sent = list(pieces_of(name))
-    seen = set()
+    places = [0, *cuts, len(sent)]
+    parts = [Came(start, stop) for start, stop in zip(places, places[1:])]
     last, strange, twice, misplaced = -1, 0, 0, 0
     for piece in pieces_of(came):
         k = int.from_bytes(piece[1:5], 'big')
         if k >= len(sent) or piece != sent[k]:
             strange += 1
             continue
-        twice += k in seen
+        part = next(part for part in parts if k < part.stop)
+        twice += k in part.seen
         misplaced += k < last
-        seen.add(k)
+        part.seen.add(k)
         last = max(last, k)
-    first = min(seen, default=len(sent))
-    missing = [k for k in range(first, last + 1) if k not in seen]
-    after = len(sent) - 1 - last if seen else 0
-    is_good = (seen and not strange and not twice and not misplaced and not missing
-               and first <= int(front) and after <= int(end))
-    print(f'{len(seen)} of {len(sent)} pieces came; missing: {first} before the first, {len(missing)} between, '
-          f'{after} after the last; {twice} twice, {misplaced} out of order, {strange} that were not sent: '
-          + ('good' if is_good else 'NOT GOOD'))
-    if missing:
-        print('missing between:', missing[:20])
+    is_good = all([part.judge(front, end) for part in parts]) and not strange and not twice and not misplaced
+    print(f'{twice} twice, {misplaced} out of order, {strange} that were not sent: ' + ('good' if is_good else 'NOT GOOD'))
     return 0 if is_good else 1
 
 
-sys.exit({'make': make, 'feed': feed, 'take': take, 'compare': compare}[sys.argv[1]](*sys.argv[2:]))
+def cut(name, at, first, second):
+    with open(first, 'wb') as before, open(second, 'wb') as after:
+        for k, piece in enumerate(pieces_of(name)):
+            (before if k < int(at) else after).write(piece)
+
+
+sys.exit({'make': make, 'feed': feed, 'take': take, 'compare': compare, 'restarted': restarted,
+          'cut': cut}[sys.argv[1]](*sys.argv[2:]))
