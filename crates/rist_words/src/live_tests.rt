@@ -97,7 +97,7 @@ static RECEIVED: [(&str, (ReceiverWords, ServingWords)); 3] = [
 
 /// Words that are no line of a receiving: an option one past its least or its greatest, or one of another command; and
 /// links.
-static NOT_RECEIVED: [&str; 31] = [
+static NOT_RECEIVED: [&str; 32] = [
     "rist recv",
     "rist recv -",
     "rist recv  127.0.0.1:2",
