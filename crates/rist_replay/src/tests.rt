@@ -25,6 +25,10 @@ const B: &[u8] =
 const C: &[u8] =
     b"\x00\x00\x00\x0D\x00\x00\x00\x00\x00\x00\x4E\x20\x80\x21\x00\x0C\x00\x00\x07\x08\x10\x20\x30\x40C";
 
+/// Number 7 of another flow, two seconds behind the first.
+const OTHER: &[u8] =
+    b"\x00\x00\x00\x0D\x00\x00\x00\x00\x00\x1E\x84\x80\x80\x21\x00\x07\x00\x00\x00\x00\x20\x30\x40\x50D";
+
 fn simple_session() -> Session
     ensures session { IsSession result }
 {
@@ -115,10 +119,8 @@ fn media_packets_are_played_out_in_order(rt: HostRuntime) -> Result<(), Fail> {
         b"\x01\x00\x00\x0D\x00\x00\x00\x00\x00\x00\x4E\x20\x80\x21\x00\x0B\x00\x00\x03\x84\x10\x20\x30\x41B";
     assert!(rt; gives(alloc, &[A, C, again], b"ABC")?);
     // Another flow's packet, before the first flow's are out and when they are: two seconds behind them.
-    let other =
-        b"\x00\x00\x00\x0D\x00\x00\x00\x00\x00\x1E\x84\x80\x80\x21\x00\x07\x00\x00\x00\x00\x20\x30\x40\x50D";
-    let early = joined(alloc, &[&C[..12], &other[12..]])?;
-    assert!(rt; gives(alloc, &[A, B, &early, C, other], b"ABCD")?);
+    let early = joined(alloc, &[&C[..12], &OTHER[12..]])?;
+    assert!(rt; gives(alloc, &[A, B, &early, C, OTHER], b"ABCD")?);
     let octets = joined(alloc, &[NAME, A, B, C])?;
     for cut in 1..83 {
         let source = Pieces::with(alloc, &octets, &[cut], &[])?;
