@@ -1,8 +1,8 @@
 #!/bin/sh
 # A sender that is stopped and started again, with another SSRC and other numbers, and one `rist recv --restart 2000` that is not.
 # 8,000 pieces of 1,316 octets, one each millisecond, in two halves, through relay.py with 4 per cent of the datagrams lost each
-# way: the second half begins 3 s after the first is through, so that all must come, in order; then the first sender is killed in
-# the middle and the other begins at once, so that its first two seconds are refused; then `ristsender` (Debian: rist-tools), where it
+# way: the second half begins 3 s after the first is through, so that all must come, in order; then, without losses, the first sender
+# is killed in the middle and the other begins at once, so that its first two seconds are refused; then `ristsender` (Debian: rist-tools), where it
 # is there, killed and started again. It takes two minutes, needs python3, uses 127.0.0.1 alone and writes only below a new folder
 # in /tmp. Where a tool isn't there it says so and ends with status 3, without `recv` with status 4.
 set -eu
@@ -52,8 +52,9 @@ sleep 3
 send second 541085010 7
 end 0 20 || bad=1
 
+# What is lost in the last moment before the first is killed, nobody can send again: here nothing is lost on the way.
 echo 'killed, and another started at once'
-begin "$loss"
+begin '--delay 5 --whole 20'
 send first 270544960 0 &
 first=$!
 started="$started $first"
