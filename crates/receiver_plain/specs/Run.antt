@@ -1,19 +1,20 @@
 -- What a plain program knows after some steps, against the history.
-use Rattle.std.specs.Prelude.{◌≡◌, ◌<◌, ◌≤◌, ◌^◌, List}
+use Rattle.std.specs.Prelude.{◌≡◌, ◌<◌, ◌≤◌, ◌^◌, List, length}
 use Rattle.std.specs.Option.{ForSome}
 use Rattle.receiver_rules.specs.declared.limits.Limits.{Limits}
 use Rattle.receiver_plain.specs.declared.running.Run.{Run}
 use Rattle.receiver_rules.specs.Steps.{Step, effective_time, has_ended}
 use Rattle.receiver_rules.specs.Packets.{highest_of, by_number}
-use Rattle.receiver_rules.specs.Epochs.{Epoch, epochs_of, newest_anchor, newest_accepted, newest_last}
+use Rattle.receiver_rules.specs.Epochs.{Epoch, epochs_of, newest_anchor, newest_accepted, newest_last, IsNewestClock}
 use Rattle.receiver_rules.specs.History.{verdicts_of}
-use Rattle.receiver_rules.specs.Bounds.{IsEarlyAnchor, IsMidHighest}
+use Rattle.receiver_rules.specs.Bounds.{IsEarlyAnchor, IsMidHighest, IsClockWithin}
 use Rattle.receiver_plain.specs.Kept.{kept_packets, packets_before}
 
 -- bounds, and that the highest kept packet is known
 pub record IsSmallRun (run : Run) : Type 0 where
   pub time : run.time < 2 ^ 61
   pub anchor : ForSome run.anchor (IsEarlyAnchor run.time)
+  pub clock : ForSome run.anchor (λ a. IsClockWithin a.time (length run.kept.items) run.clock)
   pub highest : ForSome run.highest IsMidHighest
   pub known : run.highest ≡ highest_of (kept_packets run.kept.items)
   pub last : run.last ≤ run.time
@@ -32,3 +33,4 @@ pub record RunShows (limits : Limits) (run : Run) (history : List Step) : Type 0
   pub ended : run.has_ended ≡ has_ended history
   pub epochs : EpochsShow run (epochs_of limits history)
   pub verdicts : run.verdicts.items ≡ verdicts_of limits history
+  pub clock : IsNewestClock limits run.clock (epochs_of limits history)

@@ -10,7 +10,7 @@ ghost use Rattle.receiver_plain.specs.Kept.{kept_packet, kept_packets};
 ghost use Rattle.receiver_plain.specs.Inside.Kept.{at_number, at_deadline};
 
 use receiver_rules::place::Position;
-use receiver_rules::{Anchor, Arrival, Limits, Verdict};
+use receiver_rules::{Anchor, Arrival, Clock, Limits, Verdict};
 use std::alloc::{AllocError, Global};
 
 /// A packet that was kept.
@@ -25,6 +25,7 @@ pub struct Kept<'a> {
 pub fn judge_arrival(
     limits: &Limits,
     anchor: &Anchor,
+    clock: &Clock,
     kept: &[Kept<'_>],
     t: u64,
     arrival: &Arrival<'_>,
@@ -33,8 +34,8 @@ pub fn judge_arrival(
     requires limits { AreInRange limits.now }
     requires moment { t < 2 ^ 61 }
     requires place { IsPlaceOf place.now
-        (placed_packet limits.now anchor.now (highest_of (kept_packets kept.now)) (seen arrival.now)) }
-    ensures { result ≡ verdict_of limits.now anchor.now (kept_packets kept.now) t (seen arrival.now) }
+        (placed_packet limits.now anchor.now clock.now.base (highest_of (kept_packets kept.now)) (seen arrival.now)) }
+    ensures { result ≡ verdict_of limits.now anchor.now clock.now.base (kept_packets kept.now) t (seen arrival.now) }
 {
     judge(limits, anchor, kept, t, arrival.flow, place)
 }
@@ -119,10 +120,10 @@ fn is_behind(kept: &[Kept<'_>], until: Option<u64>, number: u64) -> bool
 
 fn is_any_ahead(kept: &[Kept<'_>], until: Option<u64>, number: u64) -> bool
     requires { ForSome until (λ t. t < 2 ^ 61) }
-    ensures { result ≡ list_any (λ k. is_played_out (kept_packets kept.now) (moment_of until)
-        (at_number k.place.number) && nat_le number k.place.number) kept.now }
+    ensures { result ≡ list_any (λ k. nat_le number k.place.number
+        && is_played_out (kept_packets kept.now) (moment_of until) (at_number k.place.number)) kept.now }
 {
-    kept.iter().any(|k| is_out(kept, until, k.place.number) && number <= k.place.number)
+    kept.iter().any(|k| number <= k.place.number && is_out(kept, until, k.place.number))
 }
 
 fn is_twice(kept: &[Kept<'_>], number: u64) -> bool
@@ -146,11 +147,11 @@ fn is_outside_span(limits: &Limits, kept: &[Kept<'_>], until: Option<u64>, numbe
 
 fn is_any_far(kept: &[Kept<'_>], capacity: u64, until: Option<u64>, number: u64) -> bool
     requires { ForSome until (λ t. t < 2 ^ 61) }
-    ensures { result ≡ list_any (λ k. not (is_played_out (kept_packets kept.now) (moment_of until)
-        (at_number k.place.number)) && nat_le capacity (distance k.place.number number)) kept.now }
+    ensures { result ≡ list_any (λ k. nat_le capacity (distance k.place.number number)
+        && not (is_played_out (kept_packets kept.now) (moment_of until) (at_number k.place.number))) kept.now }
 {
-    kept.iter().any(|k| !is_out(kept, until, k.place.number)
-        && k.place.number.abs_diff(number) >= capacity)
+    kept.iter().any(|k| k.place.number.abs_diff(number) >= capacity
+        && !is_out(kept, until, k.place.number))
 }
 
 /// Whether some packet waits at a time.

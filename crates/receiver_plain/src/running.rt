@@ -1,5 +1,5 @@
 //! What a plain program knows after some steps.
-ghost use Rattle.std.specs.Prelude.{◌≡◌, ◌<◌, ◌^◌, [], ◌∷◌, ◌++◌, List, if◌then◌else◌, IfOk, OnOk, unwrap_or};
+ghost use Rattle.std.specs.Prelude.{◌≡◌, ◌<◌, ◌^◌, [], ◌∷◌, ◌++◌, ◌&&◌, List, length, not, if◌then◌else◌, IfOk, OnOk, unwrap_or};
 ghost use Rattle.std.specs.List.{All};
 ghost use Rattle.std.specs.Option.{ForSome};
 ghost use Rattle.seq_unwrap.specs.Nearest.{cycle_of};
@@ -7,17 +7,18 @@ ghost use Rattle.receiver_rules.specs.declared.limits.Limits.{Limits};
 ghost use Rattle.receiver_rules.specs.Steps.{Step as RuleStep};
 ghost use Rattle.receiver_rules.specs.Packets.{highest_of, is_kept, insert_by_number};
 ghost use Rattle.receiver_rules.specs.Epochs.{new_anchor as anchor_fixed, epochs_of, opens_epoch};
-ghost use Rattle.receiver_rules.specs.Seen.{seen, packet_at};
-ghost use Rattle.receiver_rules.specs.Bounds.{AreInRange, IsEarlyAnchor};
+ghost use Rattle.receiver_rules.specs.Seen.{seen, packet_at, start_of};
+ghost use Rattle.receiver_rules.specs.Bounds.{AreInRange, IsEarlyAnchor, IsClockWithin, IsNearBase};
 ghost use Rattle.receiver_plain.specs.Told.{step_of, history_of, IsFit};
 ghost use Rattle.receiver_plain.specs.Kept.{kept_packets};
 ghost use Rattle.receiver_plain.specs.Run.{IsSmallRun, RunShows};
-ghost use Rattle.receiver_plain.specs.Inside.Run.{kept_with, ordered_with, opens_here, SameButKept, IsBrought, IsKeptAfter, IsTurned, IsTaken};
+ghost use Rattle.receiver_plain.specs.Inside.Run.{clock_now, kept_with, ordered_with, opens_here, SameButKept, IsBrought, IsKeptAfter, IsTurned, IsTaken};
 
 use crate::kept::{Kept, insert_in_order, is_any_buffered, judge_arrival};
 use crate::steps::{Event, Step};
+use receiver_rules::clock::{clock_in, clock_with};
 use receiver_rules::place::{Position, highest_after, new_anchor, place_of};
-use receiver_rules::{Anchor, Arrival, Highest, Limits, Verdict};
+use receiver_rules::{Anchor, Arrival, Clock, Highest, Limits, Verdict};
 use std::alloc::{AllocError, Global};
 
 /// What a plain program knows after some steps.
@@ -29,6 +30,8 @@ pub struct Run<'a> {
     pub has_ended: bool,
     /// What the current epoch's first arrival fixed.
     pub anchor: Option<Anchor>,
+    /// What its deadlines count from.
+    pub clock: Clock,
     /// The packet with the highest number that it has kept.
     pub highest: Option<Highest>,
     /// All that it has kept, the newest first.
@@ -65,6 +68,7 @@ pub fn nothing_yet<'a>(alloc: Global) -> Run<'a>
         time: 0,
         has_ended: false,
         anchor: None,
+        clock: Clock::starting(0),
         highest: None,
         kept: Vec::new(alloc),
         ordered: Vec::new(alloc),
@@ -175,10 +179,12 @@ fn judge<'a>(run: &mut Run<'a>, limits: &Limits, arrival: &Arrival<'a>) -> Resul
     ensures after { OnOk result (IsBrought limits.now (seen arrival.now) run.old run.new) }
 {
     let anchor = first_of(run.anchor, run.time, arrival);
-    let place = place_of(limits, &anchor, run.highest, arrival);
+    let clock = clock_of(run);
+    let place = place_of(limits, &anchor, &clock, run.highest, arrival);
     let verdict = judge_arrival(
         limits,
         &anchor,
+        &clock,
         run.kept.as_slice(),
         run.time,
         arrival,
@@ -186,7 +192,10 @@ fn judge<'a>(run: &mut Run<'a>, limits: &Limits, arrival: &Arrival<'a>) -> Resul
     );
     run.anchor = Some(anchor);
     run.verdicts.push(verdict)?;
-    settle(run, verdict, place, arrival.payload)
+    let counts = verdict.counts(arrival.again);
+    run.clock = clock_with(limits, &anchor, &clock, run.time, place.timestamp, counts);
+    settle(run, verdict, place, arrival.payload)?;
+    Ok(())
 }
 
 fn first_of(first: Option<Anchor>, time: u64, arrival: &Arrival<'_>) -> Anchor
@@ -199,6 +208,17 @@ fn first_of(first: Option<Anchor>, time: u64, arrival: &Arrival<'_>) -> Anchor
         Some(anchor) => anchor,
         None => new_anchor(time, arrival),
     }
+}
+
+/// The clock of the current epoch, which may begin now.
+fn clock_of(run: &Run<'_>) -> Clock
+    requires small { IsSmallRun run.now }
+    ensures value { result ≡ clock_now run.now }
+    ensures within { IsClockWithin (start_of run.now.anchor run.now.time) (length run.now.kept.items) result }
+    ensures few { length run.now.kept.items < 2 ^ 63 }
+    ensures base { IsNearBase (start_of run.now.anchor run.now.time) result.base }
+{
+    clock_in(run.anchor, &run.clock, run.time)
 }
 
 /// Keeps a packet where its verdict says so.

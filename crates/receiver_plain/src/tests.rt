@@ -1,5 +1,5 @@
 //! The worked runs, by the plain programs.
-ghost use Rattle.std.specs.Prelude.{◌<◌, ◌≤◌, ◌^◌};
+ghost use Rattle.std.specs.Prelude.{◌<◌, ◌≤◌, ◌^◌, IfOk};
 ghost use Rattle.std.specs.List.{All};
 ghost use Rattle.receiver_rules.specs.Bounds.{AreInRange};
 ghost use Rattle.receiver_plain.specs.Told.{IsFit};
@@ -19,6 +19,7 @@ fn restarting(restart_time: u64) -> Limits
         playout_delay: 90_000,
         capacity: 8,
         restart_time,
+        drift: false,
     }
 }
 
@@ -29,6 +30,7 @@ fn media(flow: u32, tick: u64, word: u32, stamp: u32, payload: &[u8]) -> Step<'_
 {
     let arrival = Arrival {
         flow,
+        again: false,
         width: Width::W16,
         word,
         stamp,
@@ -212,6 +214,49 @@ fn another_flow_takes_over_once_nothing_waits_and_the_restart_time_has_passed(
             answers_under(alloc, restart_time, &steps, want, written)?,
             "at {tick}"
         );
+    }
+    Ok(())
+}
+
+/// A delay of one second and a span of 2,048, with compensation of drift or without.
+fn drifting(drift: bool) -> Limits
+    ensures { AreInRange result }
+{
+    Limits {
+        playout_delay: 90_000,
+        capacity: 2048,
+        restart_time: 0,
+        drift,
+    }
+}
+
+/// Number 0, with timestamp 0, at tick 50, the numbers from 1 to 1,023 at their timestamps of 90 ticks each, and then
+/// number 1,024 at a tick.
+fn drifted_run(alloc: Global, last: u64) -> Result<Vec<Step<'static>>, AllocError>
+    requires { last < 2 ^ 61 }
+    ensures { IfOk result (λ steps. All IsFit steps.items) }
+{
+    let mut steps = Vec::new(alloc);
+    steps.push(brings(50, 0, 0, b""))?;
+    for k in 1..1024_u32 {
+        steps.push(brings(90 * u64::from(k), k, 90 * k, b""))?;
+    }
+    steps.push(brings(last, 1024, 92_160, b""))?;
+    Ok(steps)
+}
+
+#[test]
+fn deadlines_follow_a_clock_that_drifts(rt: HostRuntime) -> Result<(), Fail> {
+    let alloc = rt.alloc();
+    for (drift, tick, want) in [
+        (true, 182_200, Verdict::Kept),
+        (true, 182_201, Verdict::Late),
+        (false, 182_209, Verdict::Kept),
+        (false, 182_210, Verdict::Late),
+    ] {
+        let steps = drifted_run(alloc, tick)?;
+        let given = verdicts(alloc, &drifting(drift), steps.as_slice())?;
+        assert!(rt; given.as_slice().last() == Some(&want), "at {tick}");
     }
     Ok(())
 }

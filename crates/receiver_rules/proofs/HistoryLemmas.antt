@@ -1,6 +1,6 @@
 -- Facts about whole histories.
 use Rattle.std.proofs.Common.{◌≡◌, max, ℕ, ◌+◌, ◌*◌, ◌^◌, ◌≤◌, pos, Bool, true, false, cond, not, ◌||◌, ◌&&◌, List, [], ◌∷◌, ◌++◌, None, refl, sym, ◌∙◌, ap, arith, append_assoc}
-use Rattle.std.specs.Prelude.{nat_le, nat_lt, ◌==◌, int_lt}
+use Rattle.std.specs.Prelude.{ℤ, nat_le, nat_lt, ◌==◌, int_lt}
 use Rattle.std.proofs.lemmas.Bool.{not-true, and_parts, or_parts, eq-eqb}
 use Rattle.std.proofs.lemmas.List.{append-nil}
 use Rattle.std.proofs.lemmas.List.Concat.{flat_map-append}
@@ -11,7 +11,7 @@ use Rattle.receiver_rules.specs.declared.limits.Limits.{Limits}
 use Rattle.receiver_rules.specs.declared.anchor.Anchor.{Anchor}
 use Rattle.receiver_rules.specs.Steps.{Arrival, Event, Media, TimeOnly, End, Step, effective_time, is_end, has_ended, media_step, time_step}
 use Rattle.receiver_rules.specs.Packets.{Packet, highest_of, Moment, At, Ever, placed_packet, is_past_deadline, is_played_out, is_buffered, is_behind_playout, is_duplicate, is_beyond_capacity, verdict_of, is_kept, playout_floor, by_number, insert_by_number, IsRising, is_below}
-use Rattle.receiver_rules.specs.Epochs.{Epoch, new_epoch, opens_next, verdict_in, packet_in, epoch_with, epochs_after, epochs_of, newest_anchor, newest_accepted}
+use Rattle.receiver_rules.specs.Epochs.{Epoch, base_of, new_epoch, opens_next, verdict_in, packet_in, epoch_with, epochs_after, epochs_of, newest_anchor, newest_accepted}
 use Rattle.receiver_rules.specs.History.{anchor_of, accepted_packets, current_moment, packets_over, playout_of, played_out_packets}
 use Rattle.receiver_rules.specs.Playouts.{playouts_over, playouts_at, playouts_of}
 use Rattle.receiver_rules.proofs.PacketLemmas.{is_behind_playout-floor, is_played_out-floor, any-by_number, filter_same, rising-insert, rising-filter, filter-insert_refused, IsLater, later_At, later_Ever, played_out_later}
@@ -29,14 +29,14 @@ pub now_open : (history : List Step) → has_ended history ≡ false → current
 now_open history h = ap (λ b. cond b Ever (At (effective_time history))) h
 
 -- what the verdict Kept says
-pub record IsKept (limits : Limits) (anchor : Anchor) (packets : List Packet) (t : ℕ) (arrival : Arrival) : Type 0 where
+pub record IsKept (limits : Limits) (anchor : Anchor) (base : ℤ) (packets : List Packet) (t : ℕ) (arrival : Arrival) : Type 0 where
   pub known : not (arrival.flow == anchor.flow) ≡ false
-  pub small : nat_le (2 ^ 62) (placed_packet limits anchor (highest_of packets) arrival).number ≡ false
-  pub in_time : is_past_deadline (At t) (placed_packet limits anchor (highest_of packets) arrival) ≡ false
-  pub ahead : is_behind_playout packets (At t) (placed_packet limits anchor (highest_of packets) arrival) ≡ false
-  pub nearest : int_lt (pos (t + 2 * limits.playout_delay)) (placed_packet limits anchor (highest_of packets) arrival).deadline ≡ false
-  pub once : is_duplicate packets (placed_packet limits anchor (highest_of packets) arrival) ≡ false
-  pub within : is_beyond_capacity limits packets (At t) (placed_packet limits anchor (highest_of packets) arrival) ≡ false
+  pub small : nat_le (2 ^ 62) (placed_packet limits anchor base (highest_of packets) arrival).number ≡ false
+  pub in_time : is_past_deadline (At t) (placed_packet limits anchor base (highest_of packets) arrival) ≡ false
+  pub ahead : is_behind_playout packets (At t) (placed_packet limits anchor base (highest_of packets) arrival) ≡ false
+  pub nearest : int_lt (pos (t + 2 * limits.playout_delay)) (placed_packet limits anchor base (highest_of packets) arrival).deadline ≡ false
+  pub once : is_duplicate packets (placed_packet limits anchor base (highest_of packets) arrival) ≡ false
+  pub within : is_beyond_capacity limits packets (At t) (placed_packet limits anchor base (highest_of packets) arrival) ≡ false
 
 pub chain : (a b c d e f g : Bool) → is_kept (cond a Stranger (cond b Exhausted (cond c Late (cond d Behind (cond e Early (cond f Twice (cond g Span Kept))))))) ≡ true → (a ≡ false) × (b ≡ false) × (c ≡ false) × (d ≡ false) × (e ≡ false) × (f ≡ false) × (g ≡ false)
 chain true b c d e f g h = cc
@@ -48,8 +48,8 @@ chain false false false false false true g h = cc
 chain false false false false false false true h = cc
 chain false false false false false false false h = (refl, refl, refl, refl, refl, refl, refl)
 
-pub accepted_parts : (limits : Limits) (anchor : Anchor) (packets : List Packet) (t : ℕ) (arrival : Arrival) → is_kept (verdict_of limits anchor packets t arrival) ≡ true → IsKept limits anchor packets t arrival
-accepted_parts limits anchor packets t arrival h =
+pub accepted_parts : (limits : Limits) (anchor : Anchor) (base : ℤ) (packets : List Packet) (t : ℕ) (arrival : Arrival) → is_kept (verdict_of limits anchor base packets t arrival) ≡ true → IsKept limits anchor base packets t arrival
+accepted_parts limits anchor base packets t arrival h =
     let c = chain _ _ _ _ _ _ _ h in
     record { known = c.0; small = c.1; in_time = c.2; ahead = c.3; nearest = c.4; once = c.5; within = c.6 }
 
@@ -111,7 +111,7 @@ AreDistinct (epoch ∷ earlier) = IsRising 0 (by_number epoch.accepted) × AreDi
 distinct_with : (limits : Limits) (epoch : Epoch) (t : ℕ) (arrival : Arrival) → IsRising 0 (by_number epoch.accepted) → IsRising 0 (by_number (epoch_with limits epoch t arrival).accepted)
 distinct_with limits epoch t arrival r =
     elim (is_kept (verdict_in limits epoch t arrival)) as (λ c. is_kept (verdict_in limits epoch t arrival) ≡ c → IsRising 0 (by_number (cond c (packet_in limits epoch arrival ∷ epoch.accepted) epoch.accepted))) [
-      | true ↦ λ e. rising-insert 0 (packet_in limits epoch arrival) (by_number epoch.accepted) (omega arith) (any-by_number _ epoch.accepted ∙ (accepted_parts limits epoch.anchor epoch.accepted t arrival e).once) r
+      | true ↦ λ e. rising-insert 0 (packet_in limits epoch arrival) (by_number epoch.accepted) (omega arith) (any-by_number _ epoch.accepted ∙ (accepted_parts limits epoch.anchor (base_of limits epoch) epoch.accepted t arrival e).once) r
       | false ↦ λ e. r
     ] refl
 
@@ -179,7 +179,7 @@ playout_with : (limits : Limits) (epoch : Epoch) (t : ℕ) (arrival : Arrival)
 playout_with limits epoch t arrival =
     let p : Packet = packet_in limits epoch arrival in
     elim (is_kept (verdict_in limits epoch t arrival)) as (λ c. is_kept (verdict_in limits epoch t arrival) ≡ c → filter (is_played_out (cond c (p ∷ epoch.accepted) epoch.accepted) (At t)) (by_number (cond c (p ∷ epoch.accepted) epoch.accepted)) ≡ filter (is_played_out epoch.accepted (At t)) (by_number epoch.accepted)) [
-      | true ↦ λ k. let parts = accepted_parts limits epoch.anchor epoch.accepted t arrival k in
+      | true ↦ λ k. let parts = accepted_parts limits epoch.anchor (base_of limits epoch) epoch.accepted t arrival k in
           played_out-cons epoch.accepted (At t) p parts.in_time (buffered_when_accepted epoch.accepted (At t) p parts.ahead)
       | false ↦ λ k. refl
     ] refl

@@ -1,5 +1,5 @@
 -- Whether an arrival opened an epoch, by how many there are.
-use Rattle.std.proofs.Common.{◌≡◌, ℕ, ◌+◌, ◌-◌, Bool, true, false, cond, List, [], ◌∷◌, unwrap_or, length, refl, ap, arith}
+use Rattle.std.proofs.Common.{◌≡◌, ℕ, ◌+◌, ◌-◌, true, false, List, [], ◌∷◌, unwrap_or, length, refl, ap, arith}
 use Rattle.receiver_rules.specs.declared.limits.Limits.{Limits}
 use Rattle.receiver_rules.specs.Steps.{Arrival, Media}
 use Rattle.receiver_rules.specs.Epochs.{Epoch, new_anchor, new_epoch, opens_next, opens_epoch, epoch_with, epochs_after, newest_anchor, newest_accepted}

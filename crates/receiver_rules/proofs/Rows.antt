@@ -1,5 +1,5 @@
 -- The worked runs, computed from the definitions.
-use Rattle.std.specs.Prelude.{◌≡◌, ℕ, ◌+◌, ◌*◌, ◌-◌, List, [], ◌∷◌, reverse}
+use Rattle.std.specs.Prelude.{◌≡◌, ℕ, false, true, pos, negsuc, replicate, ◌++◌, ◌+◌, ◌*◌, ◌-◌, ◌^◌, Bool, List, [], ◌∷◌, map, reverse}
 use Rattle.seq_unwrap.specs.declared.width.Width.TheVariants.{W16}
 use Rattle.receiver_rules.specs.Sent.{SentStream, CopyOf, reached_numbers}
 use Rattle.receiver_rules.specs.SentEpochs.{CopyIn, sent_epochs, reached_payloads}
@@ -7,6 +7,10 @@ use Rattle.std.proofs.Common.{refl}
 use Rattle.receiver_rules.specs.declared.verdict.Verdict.TheVariants.{Kept, Stranger, Late, Behind, Early, Twice, Span}
 use Rattle.receiver_rules.specs.declared.verdict.Verdict.{Verdict}
 use Rattle.receiver_rules.specs.declared.limits.Limits.{Limits}
+use Rattle.receiver_rules.specs.declared.anchor.Anchor.{Anchor}
+use Rattle.receiver_rules.specs.Clock.{clock_base, clock_of, base_towards}
+use Rattle.receiver_rules.specs.Packets.{Packet, deadline_of}
+use Rattle.receiver_rules.specs.Epochs.{Epoch, base_of, epoch_with}
 use Rattle.receiver_rules.specs.Steps.{Media, Step, time_step, end_step}
 use Rattle.receiver_rules.specs.History.{verdicts_of, released_bytes}
 use Rattle.seq_unwrap.specs.Nearest.{nearest}
@@ -15,15 +19,15 @@ use Rattle.seq_unwrap.specs.Nearest.{nearest}
 
 -- a delay of one second, and a span of 8
 abbrev usual : Limits
-usual = record { playout_delay = 90000; capacity = 8; restart_time = 0 }
+usual = record { playout_delay = 90000; capacity = 8; restart_time = 0; drift = false }
 
 -- an arrival of flow 1, with one octet
 abbrev brings : ℕ → ℕ → ℕ → ℕ → Step
-brings tick word timestamp octet = record { tick = tick; event = Media (record { flow = 1; width = W16; word = word; timestamp = timestamp; payload = octet ∷ [] }) }
+brings tick word timestamp octet = record { tick = tick; event = Media (record { flow = 1; again = false; width = W16; word = word; timestamp = timestamp; payload = octet ∷ [] }) }
 
 -- an arrival of flow 2
 abbrev stranger : ℕ → Step
-stranger tick = record { tick = tick; event = Media (record { flow = 2; width = W16; word = 11; timestamp = 900; payload = 66 ∷ [] }) }
+stranger tick = record { tick = tick; event = Media (record { flow = 2; again = false; width = W16; word = 11; timestamp = 900; payload = 66 ∷ [] }) }
 
 -- the verdicts of a run
 abbrev verdicts : List Step → List Verdict
@@ -35,11 +39,11 @@ written run = released_bytes usual (reverse run)
 
 -- an arrival of a flow, with one octet
 abbrev brings_of : ℕ → ℕ → ℕ → ℕ → Step
-brings_of flow tick word octet = record { tick = tick; event = Media (record { flow = flow; width = W16; word = word; timestamp = 0; payload = octet ∷ [] }) }
+brings_of flow tick word octet = record { tick = tick; event = Media (record { flow = flow; again = false; width = W16; word = word; timestamp = 0; payload = octet ∷ [] }) }
 
 -- the same delay and span, and a restart time in ticks
 abbrev restarting : ℕ → Limits
-restarting restart = record { playout_delay = 90000; capacity = 8; restart_time = restart }
+restarting restart = record { playout_delay = 90000; capacity = 8; restart_time = restart; drift = false }
 
 -- the verdicts of a run under a restart time, and what it releases
 abbrev verdicts_under : ℕ → List Step → List Verdict
@@ -107,8 +111,71 @@ wraps = refl
 
 -- the same in sent numbers: 65,536 never comes in time, and 65,537 comes twice
 late_copy : reached_numbers usual (record { flow = 1; width = W16; timestamp = λ n. 900 * (n - 65534); payload = λ n. n ∷ [] })
-    (record { tick = 91800; what = CopyOf 65536 } ∷ record { tick = 300; what = CopyOf 65535 } ∷ record { tick = 200; what = CopyOf 65537 } ∷ record { tick = 100; what = CopyOf 65537 } ∷ record { tick = 0; what = CopyOf 65534 } ∷ []) ≡ 65535 ∷ 65537 ∷ 65537 ∷ 65534 ∷ []
+    (record { tick = 91800; what = CopyOf 65536 false } ∷ record { tick = 300; what = CopyOf 65535 false } ∷ record { tick = 200; what = CopyOf 65537 false } ∷ record { tick = 100; what = CopyOf 65537 false } ∷ record { tick = 0; what = CopyOf 65534 false } ∷ []) ≡ 65535 ∷ 65537 ∷ 65537 ∷ 65534 ∷ []
 late_copy = refl
+
+-- ---- a clock that drifts
+
+-- a span of 2,048 packets, with compensation of drift
+abbrev drifting : Limits
+drifting = record { playout_delay = 90000; capacity = 2048; restart_time = 0; drift = true }
+
+-- number 0, with timestamp 0, comes at tick 50, and number k at 90 * k with that timestamp. Until 1,022 the base stays
+before_the_window : clock_base drifting 50 (replicate 1022 (pos 0) ++ pos 50 ∷ []) ≡ pos 50
+before_the_window = refl
+
+-- and after 1,023 it is 9 ticks nearer to the quickest
+after_a_window : clock_of drifting 50 (replicate 1023 (pos 0) ++ pos 50 ∷ []) ≡ record { base = pos 41; originals = 1024; least = pos 0 }
+after_a_window = refl
+
+-- number 1,024, with timestamp 92,160, is then due at 182,201, and at 182,210 where the base stays
+abbrev first_anchor : Anchor
+first_anchor = record { flow = 1; time = 50; number = 2 ^ 40; timestamp = 2 ^ 60 }
+
+due_nearer : deadline_of drifting first_anchor (pos 41) (2 ^ 60 + 92160) ≡ pos 182201
+due_nearer = refl
+
+due_as_ever : deadline_of usual first_anchor (clock_base usual 50 (replicate 1023 (pos 0) ++ pos 50 ∷ [])) (2 ^ 60 + 92160) ≡ pos 182210
+due_as_ever = refl
+
+-- a move is of 9 ticks at most either way, and ends at the quickest
+nearer : base_towards (pos 5) (pos 0) ≡ pos 0
+nearer = refl
+
+down : base_towards (pos 14) (pos 0) ≡ pos 5
+down = refl
+
+up : base_towards (pos 0) (pos 20) ≡ pos 9
+up = refl
+
+below : base_towards (pos 0) (negsuc 19) ≡ negsuc 8
+below = refl
+
+-- number 0 comes at 0, number k 20 ticks after its timestamp: the first window stays at 0, since its least is number
+-- 0's, and the second one moves up
+second_window : clock_base drifting 0 (replicate 2047 (pos 20) ++ pos 0 ∷ []) ≡ pos 9
+second_window = refl
+
+-- an epoch of which 1,023 originals have come, which were under way for 20 ticks. One more moves the
+-- base, a retransmission does not
+abbrev nearly : Epoch
+nearly = record { anchor = record { flow = 1; time = 0; number = 2 ^ 40; timestamp = 2 ^ 60 }; accepted = record { number = 2 ^ 40 + 1022; timestamp = 2 ^ 60 + 91980; deadline = pos 181980; payload = [] } ∷ []; last = 92000; transits = replicate 1023 (pos 20) }
+
+abbrev then : Bool → Epoch
+then again = epoch_with drifting nearly 92090 (record { flow = 1; again = again; width = W16; word = 1023; timestamp = 92070; payload = [] })
+
+an_original_counts : base_of drifting (then false) ≡ pos 9
+unfolding nearest
+an_original_counts = refl
+
+a_retransmission_does_not : base_of drifting (then true) ≡ pos 0
+unfolding nearest
+a_retransmission_does_not = refl
+
+-- what is kept keeps its deadline: the packet that ends the window has the old base's
+kept_deadlines : map (λ (p : Packet). p.deadline) (then false).accepted ≡ pos 182070 ∷ pos 181980 ∷ []
+unfolding nearest
+kept_deadlines = refl
 
 -- ---- a flow that restarts: flow 1's number 10 comes at tick 0 and is due at 90,000
 
@@ -164,6 +231,6 @@ abbrev stream_of : ℕ → SentStream
 stream_of epoch = record { flow = epoch + 1; width = W16; timestamp = λ n. 900 * n; payload = λ n. n ∷ epoch ∷ [] }
 
 two_streams : reached_payloads stream_of (sent_epochs (restarting 180000) stream_of
-    (record { tick = 270000; what = CopyIn 1 7 } ∷ record { tick = 180800; what = CopyIn 1 8 } ∷ record { tick = 180700; what = CopyIn 1 9 } ∷ record { tick = 600; what = CopyIn 0 10 } ∷ record { tick = 700; what = CopyIn 0 12 } ∷ record { tick = 600; what = CopyIn 0 11 } ∷ []))
+    (record { tick = 270000; what = CopyIn 1 7 false } ∷ record { tick = 180800; what = CopyIn 1 8 false } ∷ record { tick = 180700; what = CopyIn 1 9 false } ∷ record { tick = 600; what = CopyIn 0 10 false } ∷ record { tick = 700; what = CopyIn 0 12 false } ∷ record { tick = 600; what = CopyIn 0 11 false } ∷ []))
     ≡ (10 ∷ 0 ∷ []) ∷ (11 ∷ 0 ∷ []) ∷ (12 ∷ 0 ∷ []) ∷ (8 ∷ 1 ∷ []) ∷ (9 ∷ 1 ∷ []) ∷ []
 two_streams = refl

@@ -1,5 +1,6 @@
 pub mod Steps
 pub mod ReceiverSteps
+pub mod Clock
 pub mod Packets
 pub mod Epochs
 pub mod History

@@ -1,6 +1,7 @@
--- What a history means where no other flow ever takes the first one's place: there is one anchor, and all that was kept
--- is of its flow. Without a restart time this is what each history means.
-use Rattle.std.specs.Prelude.{ℕ, max, List, [], ◌∷◌, map, if◌then◌else◌, Option, None, Some, unwrap_or}
+-- What a history means where no other flow ever takes the first one's place and the base of deadlines stays: there is
+-- one anchor, all that was kept is of its flow, and deadlines count from the time of the first arrival. Without a
+-- restart time and without compensation of drift this is what each history means.
+use Rattle.std.specs.Prelude.{ℕ, pos, max, List, [], ◌∷◌, map, if◌then◌else◌, Option, None, Some, unwrap_or}
 use Rattle.std.specs.List.{filter}
 use Rattle.receiver_rules.specs.declared.verdict.Verdict.{Verdict}
 use Rattle.receiver_rules.specs.declared.limits.Limits.{Limits}
@@ -25,7 +26,7 @@ one_anchor (step ∷ before) = one_anchor_after (one_anchor before) (effective_t
 abbrev pub one_accepted_after : Limits → Option Anchor → List Packet → ℕ → Event → List Packet
 one_accepted_after limits first accepted t (Media arrival) =
     let a = unwrap_or first (new_anchor t arrival) in
-    if is_kept (verdict_of limits a accepted t arrival) then placed_packet limits a (highest_of accepted) arrival ∷ accepted else accepted
+    if is_kept (verdict_of limits a (pos a.time) accepted t arrival) then placed_packet limits a (pos a.time) (highest_of accepted) arrival ∷ accepted else accepted
 one_accepted_after limits first accepted t TimeOnly = accepted
 one_accepted_after limits first accepted t End = accepted
 
@@ -38,7 +39,8 @@ one_accepted limits (step ∷ before) = one_accepted_after limits (one_anchor be
 abbrev pub one_verdict : Limits → List Step → ℕ → Arrival → Verdict
 one_verdict limits before tick arrival =
     let t = max tick (effective_time before) in
-    verdict_of limits (unwrap_or (one_anchor before) (new_anchor t arrival)) (one_accepted limits before) t arrival
+    let a = unwrap_or (one_anchor before) (new_anchor t arrival) in
+    verdict_of limits a (pos a.time) (one_accepted limits before) t arrival
 
 -- the packets that were played out, by rising number
 abbrev pub one_playout : Limits → List Step → List Packet

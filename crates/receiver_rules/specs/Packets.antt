@@ -1,6 +1,6 @@
 -- The rules for one arrival, given the packets that were kept before it (this profile; numbers are extended in the
 -- sense of RFC 3550, appendix A.1, and a retransmission is a packet like any other: VSF TR-06-1).
-use Rattle.std.specs.Prelude.{ℕ, ℤ, pos, ◌-ℤ◌, int_le, int_lt, ◌≤◌, ◌+◌, ◌-◌, ◌*◌, ◌^◌, max, List, [], ◌∷◌, Bool, true, false, not, ◌&&◌, nat_le, nat_lt, ◌==◌, if◌then◌else◌, Option, None, Some}
+use Rattle.std.specs.Prelude.{ℕ, ℤ, pos, ◌+ℤ◌, ◌-ℤ◌, int_le, int_lt, ◌≤◌, ◌+◌, ◌-◌, ◌*◌, ◌^◌, max, List, [], ◌∷◌, Bool, true, false, not, ◌&&◌, nat_le, nat_lt, ◌==◌, if◌then◌else◌, Option, None, Some}
 use Rattle.std.specs.List.{list_any}
 use Rattle.receiver_rules.specs.declared.verdict.Verdict.{Verdict}
 use Rattle.receiver_rules.specs.declared.verdict.Verdict.TheVariants.{Kept, Stranger, Exhausted, Late, Behind, Early, Twice, Span}
@@ -35,23 +35,24 @@ abbrev pub number_of : Option Highest → Arrival → ℕ
 number_of None arrival = 2 ^ 40 + arrival.word
 number_of (Some highest) arrival = nearest (cycle_of arrival.width) highest.number arrival.word
 
--- the timestamp likewise, beside that of the highest kept packet
+-- the timestamp likewise, beside that of the highest kept packet; the first one's is 2^60 and its word, so that none
+-- falls below 0, however the deadlines of later packets move
 abbrev pub timestamp_of : Option Highest → Arrival → ℕ
-timestamp_of None arrival = 2 ^ 40 + arrival.timestamp
+timestamp_of None arrival = 2 ^ 60 + arrival.timestamp
 timestamp_of (Some highest) arrival = nearest 4294967296 highest.timestamp arrival.timestamp
 
--- when a packet is to be played out: as long after the anchor's arrival as its timestamp lies after the anchor's, and
--- the playout delay more
-abbrev pub deadline_of : Limits → Anchor → ℕ → ℤ
-deadline_of limits anchor timestamp = pos (anchor.time + timestamp + limits.playout_delay) -ℤ pos anchor.timestamp
+-- when a packet is to be played out: as long after the base as its timestamp lies after the anchor's, and the playout
+-- delay more. A packet that is kept keeps its deadline
+abbrev pub deadline_of : Limits → Anchor → ℤ → ℕ → ℤ
+deadline_of limits anchor base timestamp = base +ℤ (pos (timestamp + limits.playout_delay) -ℤ pos anchor.timestamp)
 
 -- an arrival with its place
-abbrev pub placed_packet : Limits → Anchor → Option Highest → Arrival → Packet
-placed_packet limits anchor highest arrival =
+abbrev pub placed_packet : Limits → Anchor → ℤ → Option Highest → Arrival → Packet
+placed_packet limits anchor base highest arrival =
     record {
       number = number_of highest arrival;
       timestamp = timestamp_of highest arrival;
-      deadline = deadline_of limits anchor (timestamp_of highest arrival);
+      deadline = deadline_of limits anchor base (timestamp_of highest arrival);
       payload = arrival.payload;
     }
 
@@ -145,9 +146,9 @@ tests_of limits anchor accepted t flow p =
     }
 
 -- the verdict on an arrival at an effective time
-abbrev pub verdict_of : Limits → Anchor → List Packet → ℕ → Arrival → Verdict
-verdict_of limits anchor accepted t arrival =
-    first_verdict (tests_of limits anchor accepted t arrival.flow (placed_packet limits anchor (highest_of accepted) arrival))
+abbrev pub verdict_of : Limits → Anchor → ℤ → List Packet → ℕ → Arrival → Verdict
+verdict_of limits anchor base accepted t arrival =
+    first_verdict (tests_of limits anchor accepted t arrival.flow (placed_packet limits anchor base (highest_of accepted) arrival))
 
 -- the verdict by which a packet is kept
 abbrev pub is_kept : Verdict → Bool

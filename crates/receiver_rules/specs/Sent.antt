@@ -1,5 +1,5 @@
--- What a sender sent, which copies of it came, and which of them came in time. Nothing here extends a sequence number,
--- and nothing speaks of what a receiver keeps.
+-- What a sender sent, which copies of it came, and which of them came in time, where deadlines count from one base.
+-- Nothing here extends a sequence number, and nothing speaks of what a receiver keeps.
 use Rattle.std.specs.Prelude.{◌≢◌, ℕ, ℤ, pos, ◌-ℤ◌, int_le, int_lt, ◌+◌, ◌*◌, ◌/◌, ◌%◌, ◌^◌, ◌<◌, ◌≤◌, max, List, [], ◌∷◌, Bool, not, ◌&&◌, nat_le, nat_lt, ◌==◌, if◌then◌else◌, Option, None, Some, unwrap_or}
 use Rattle.std.specs.List.{list_any}
 use Rattle.receiver_rules.specs.declared.limits.Limits.{Limits}
@@ -21,14 +21,14 @@ pub record SentStream : Type 0 where
 abbrev pub HasSteadyTimestamps : SentStream → Type 0
 HasSteadyTimestamps p = (m n : ℕ) → m ≤ n → p.timestamp m ≤ p.timestamp n
 
--- a copy of a number, as it is seen at the other end
-abbrev pub copy_of : SentStream → ℕ → Arrival
-copy_of p n =
-    record { flow = p.flow; width = p.width; word = n % cycle_of p.width; timestamp = p.timestamp n % 4294967296; payload = p.payload n }
+-- a copy of a number, the original or a retransmission, as it is seen at the other end
+abbrev pub copy_of : SentStream → ℕ → Bool → Arrival
+copy_of p n again =
+    record { flow = p.flow; again = again; width = p.width; word = n % cycle_of p.width; timestamp = p.timestamp n % 4294967296; payload = p.payload n }
 
--- what a step brings: a copy of this number, or no copy
+-- what a step brings: a copy of this number, which may be a retransmission, or no copy
 pub data Content : Type 0 where
-  CopyOf : ℕ → Content
+  CopyOf : ℕ → Bool → Content
   NoCopy : Content
 
 -- a step of a run. A run is a list of them, the newest first: under any loss, repeat, delay and order
@@ -38,7 +38,7 @@ pub record Delivery : Type 0 where
 
 -- the step as the receiver sees it
 abbrev pub event_of : SentStream → Content → Event
-event_of p (CopyOf n) = Media (copy_of p n)
+event_of p (CopyOf n again) = Media (copy_of p n again)
 event_of p NoCopy = TimeOnly
 
 -- the steps of a run as the receiver sees them
@@ -58,7 +58,7 @@ pub record Start : Type 0 where
 
 -- the start after one more step
 abbrev pub start_after : Option Start → ℕ → Content → Option Start
-start_after start t (CopyOf n) = Some (unwrap_or start (record { number = n; time = t }))
+start_after start t (CopyOf n again) = Some (unwrap_or start (record { number = n; time = t }))
 start_after start t NoCopy = start
 
 -- the start of a run, where a copy has come
@@ -80,7 +80,7 @@ arrives_in_window limits p s reached t n =
 
 -- the numbers that were reached, after one more step
 abbrev pub reached_after : Limits → SentStream → Option Start → List ℕ → ℕ → Content → List ℕ
-reached_after limits p first reached t (CopyOf n) =
+reached_after limits p first reached t (CopyOf n again) =
     if arrives_in_window limits p (unwrap_or first (record { number = n; time = t })) reached t n then n ∷ reached else reached
 reached_after limits p first reached t NoCopy = reached
 
@@ -107,7 +107,7 @@ pub record IsNear (p : SentStream) (first best n : ℕ) : Type 0 where
 abbrev pub IsNearAfter : Limits → SentStream → Option Start → List ℕ → Content → Type 0
 IsNearAfter limits p None reached what = Unit {0}
 IsNearAfter limits p (Some s) reached NoCopy = Unit {0}
-IsNearAfter limits p (Some s) reached (CopyOf n) = IsNear p s.number (greatest_of reached) n
+IsNearAfter limits p (Some s) reached (CopyOf n again) = IsNear p s.number (greatest_of reached) n
 
 -- each arrival is a copy of a sent number that its words tell apart
 abbrev pub AreDeliveriesOf : Limits → SentStream → List Delivery → Type 0
@@ -124,7 +124,12 @@ abbrev pub rising_numbers : List ℕ → List ℕ
 rising_numbers [] = []
 rising_numbers (n ∷ ns) = insert_number n (rising_numbers ns)
 
--- the verdict is none of these: of another flow, past the end of the numbers, behind what was played out
+-- the verdict is none of these: of another flow, past the end of the numbers
+pub record IsKnown (verdict : Verdict) : Type 0 where
+  pub known : verdict ≢ Stranger
+  pub small : verdict ≢ Exhausted
+
+-- nor behind what was played out
 pub record IsOrdinary (verdict : Verdict) : Type 0 where
   pub known : verdict ≢ Stranger
   pub small : verdict ≢ Exhausted

@@ -4,10 +4,11 @@
 use Rattle.seq_unwrap.specs.declared.width.Width.{Width}
 use Rattle.std.specs.Prelude.{ℕ, ◌*◌, ◌/◌, max, List, [], ◌∷◌, Bool, true, false, ◌||◌}
 
--- a media packet: its flow (the SSRC with its lowest bit cleared), its sequence number and its timestamp as they were
--- sent, and its payload
+-- a media packet: its flow (the SSRC with its lowest bit cleared), whether it is a retransmission (that bit is set: VSF
+-- TR-06-1), its sequence number and its timestamp as they were sent, and its payload
 pub record Arrival : Type 0 where
   pub flow : ℕ
+  pub again : Bool
   pub width : Width
   pub word : ℕ
   pub timestamp : ℕ

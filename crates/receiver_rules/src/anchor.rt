@@ -1,5 +1,5 @@
-/// What the media arrival that opens an epoch fixes: from it numbers and deadlines count. The first arrival opens the
-/// first epoch.
+/// What the media arrival that opens an epoch fixes: from it numbers count, and deadlines at first. The first arrival
+/// opens the first epoch.
 #[derive(Clone, Copy, Debug, PartialEq, Eq)]
 pub struct Anchor {
     /// The SSRC with its lowest bit cleared.
@@ -8,7 +8,7 @@ pub struct Anchor {
     pub time: u64,
     /// Its extended sequence number, from 2^40 on.
     pub number: u64,
-    /// Its extended RTP timestamp, from 2^40 on, in ticks.
+    /// Its extended RTP timestamp, from 2^60 on, in ticks.
     pub timestamp: u64,
 }
 

@@ -6,6 +6,8 @@ use seq_unwrap::Width;
 pub struct Arrival<'a> {
     /// The SSRC with its lowest bit cleared: an original and its retransmissions are one flow (VSF TR-06-1).
     pub flow: u32,
+    /// Whether it is a retransmission: the lowest bit of its SSRC is set.
+    pub again: bool,
     /// How many bits of the sequence number were sent.
     pub width: Width,
     /// The sequence number as sent. One of 16 bits is below 65,536.

@@ -6,6 +6,7 @@
 mod anchor;
 mod arrival;
 mod bounds;
+pub mod clock;
 pub mod laws;
 mod limits;
 pub mod place;
@@ -14,7 +15,8 @@ mod verdict;
 
 pub use anchor::{Anchor, Highest};
 pub use arrival::Arrival;
-pub use bounds::{MAX_DELAY, MAX_RESTART, MAX_SPAN};
+pub use bounds::{DRIFT_STEP, DRIFT_WINDOW, MAX_DELAY, MAX_RESTART, MAX_SPAN};
+pub use clock::Clock;
 pub use limits::Limits;
 pub use tick::tick_of;
 pub use verdict::Verdict;

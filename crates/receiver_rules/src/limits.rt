@@ -8,4 +8,6 @@ pub struct Limits {
     /// How long ago the last packet must have been kept before a packet of another flow opens a new epoch, in ticks.
     /// Where it is 0 the flow of the first packet stays the only one.
     pub restart_time: u64,
+    /// Whether what deadlines count from follows a sender's clock that drifts.
+    pub drift: bool,
 }

@@ -4,10 +4,11 @@ ghost use Rattle.seq_unwrap.specs.Nearest.{cycle_of};
 ghost use Rattle.receiver_rules.specs.Packets.{number_of, timestamp_of, deadline_of, placed_packet, is_due_by};
 ghost use Rattle.receiver_rules.specs.Epochs.{new_anchor as anchor_fixed};
 ghost use Rattle.receiver_rules.specs.Seen.{seen, moment_of, highest_with, IsPlaceOf};
-ghost use Rattle.receiver_rules.specs.Bounds.{AreInRange, IsEarlyAnchor, IsMidHighest};
+ghost use Rattle.receiver_rules.specs.Bounds.{AreInRange, IsEarlyAnchor, IsMidHighest, IsNearBase};
 
 use crate::anchor::{Anchor, Highest};
 use crate::arrival::Arrival;
+use crate::clock::Clock;
 use crate::limits::Limits;
 use seq_unwrap::{Width, nearest};
 
@@ -50,7 +51,7 @@ pub fn new_anchor(at: u64, arrival: &Arrival<'_>) -> Anchor
         flow: arrival.flow,
         time: at,
         number: (1 << 40) + u64::from(arrival.word),
-        timestamp: (1 << 40) + u64::from(arrival.stamp),
+        timestamp: (1 << 60) + u64::from(arrival.stamp),
     }
 }
 
@@ -64,23 +65,25 @@ pub fn highest_after(highest: Option<Highest>, number: u64, timestamp: u64) -> H
     }
 }
 
-/// Where an arrival belongs, beside the kept packet with the highest number.
+/// Where an arrival belongs, beside the kept packet with the highest number, by the clock of its epoch.
 pub fn place_of(
     limits: &Limits,
     anchor: &Anchor,
+    clock: &Clock,
     highest: Option<Highest>,
     arrival: &Arrival<'_>,
 ) -> Position
     requires limits { AreInRange limits.now }
     requires anchor { anchor.now.time < 2 ^ 61 }
-    requires start { anchor.now.timestamp < 2 ^ 41 }
+    requires base { IsNearBase anchor.now.time clock.now.base }
+    requires start { anchor.now.timestamp < 2 ^ 60 + 2 ^ 32 }
     requires highest { ForSome highest IsMidHighest }
     requires word { arrival.now.word < cycle_of arrival.now.width }
-    ensures { IsPlaceOf result (placed_packet limits.now anchor.now highest (seen arrival.now)) }
+    ensures { IsPlaceOf result (placed_packet limits.now anchor.now clock.now.base highest (seen arrival.now)) }
 {
     let number = extended_number(highest, arrival);
     let timestamp = extended_timestamp(highest, arrival);
-    let deadline = deadline(limits, anchor, timestamp);
+    let deadline = deadline(limits, anchor, clock, timestamp);
     Position {
         number,
         timestamp,
@@ -105,17 +108,18 @@ fn extended_timestamp(highest: Option<Highest>, arrival: &Arrival<'_>) -> u64
     ensures within { result < 2 ^ 62 + 2 ^ 32 }
 {
     match highest {
-        None => (1 << 40) + u64::from(arrival.stamp),
+        None => (1 << 60) + u64::from(arrival.stamp),
         Some(highest) => nearest(highest.timestamp, Width::W32, arrival.stamp),
     }
 }
 
-fn deadline(limits: &Limits, anchor: &Anchor, timestamp: u64) -> i64
+fn deadline(limits: &Limits, anchor: &Anchor, clock: &Clock, timestamp: u64) -> i64
     requires limits { AreInRange limits.now }
     requires anchor { anchor.now.time < 2 ^ 61 }
-    requires start { anchor.now.timestamp < 2 ^ 41 }
+    requires base { IsNearBase anchor.now.time clock.now.base }
+    requires start { anchor.now.timestamp < 2 ^ 60 + 2 ^ 32 }
     requires timestamp { timestamp < 2 ^ 62 + 2 ^ 32 }
-    ensures { result ≡ deadline_of limits.now anchor.now timestamp }
+    ensures { result ≡ deadline_of limits.now anchor.now clock.now.base timestamp }
 {
-    (anchor.time + timestamp + limits.playout_delay) as i64 - anchor.timestamp as i64
+    clock.base + ((timestamp + limits.playout_delay) as i64 - anchor.timestamp as i64)
 }

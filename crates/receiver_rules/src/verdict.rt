@@ -20,7 +20,7 @@ pub enum Verdict {
 }
 
 impl Verdict {
-    ghost use Rattle.std.specs.Prelude.{◌≡◌};
+    ghost use Rattle.std.specs.Prelude.{◌≡◌, ◌&&◌, not};
     ghost use Rattle.receiver_rules.specs.Packets.{is_kept};
 
     /// Whether the packet was accepted.
@@ -28,5 +28,12 @@ impl Verdict {
         ensures { result ≡ is_kept self }
     {
         matches!(self, Verdict::Kept)
+    }
+
+    /// Whether the packet counts for what deadlines count from: an original that was accepted.
+    pub fn counts(self, again: bool) -> bool
+        ensures { result ≡ (is_kept self && not again) }
+    {
+        self.is_kept() && !again
     }
 }

@@ -13,5 +13,5 @@ returns-in-Media-clause-shows c =
     on_ok_weaker c.bring.result
     (λ taken history s. subst (λ e. RunShows c.args.limits.now c.bring.new.run (record { tick = c.args.step.now.tick; event = event_of e } ∷ history)) (sym c.in-Media.is)
     (after_arrival c.args.limits.now c.args.run.now _ c.bring.new.run history c.args.step.now.tick (seen c.in-Media.arrival)
-    (record { time = t; ended = refl; anchor = refl; kept = refl; ordered = refl; last = refl; over = refl; verdicts = refl }) taken s))
+    (record { time = t; ended = refl; anchor = refl; kept = refl; ordered = refl; last = refl; over = refl; verdicts = refl; clock = refl }) taken s))
     c.bring.ensures.after
