@@ -140,6 +140,26 @@ lowest_straight low place places ticks blocks a sized rising first =
           ]
     ])
 
+stands_at : (o : Option Held) (n : ℕ) → option_map (λ (h : Held). h.number) o ≡ Some n → (held : Held) × (o ≡ Some held)
+stands_at None n e = absurd (none_some e)
+  where
+    none_some : ◌≡◌ {A = Option ℕ} None (Some n) → ⊥
+    none_some e = cc
+stands_at (Some held) n e = (held, refl)
+
+-- a packet that stands at the place of the number below which none is has that number
+pub lowest_here : (low number : ℕ) (places : List (Option Held)) (ticks : List ℕ) (blocks : List (List ℕ)) → IsAround low places ticks → length blocks ≡ length places → IsRising 0 (packets_in places blocks)
+    → option_map (λ (h : Held). h.number) (place_at places (low % length places)) ≡ Some number → Some number ≡ first_number (packets_in places blocks)
+lowest_here low number places ticks blocks a sized rising here =
+    let start = low % length places in
+    let found : (held : Held) × (place_at places start ≡ Some held) = stands_at (place_at places start) number here in
+    sym here ∙ lowest_straight low start places ticks blocks a sized rising (record {
+      from = omega arith;
+      there = omega (arith, inside places start found.0 found.1, long low places ticks a);
+      due = tick_low low places ticks start found.0 a found.1;
+      first = λ k least before. absurd (omega (arith, least, before));
+    })
+
 pub lowest_wrapped : (low place : ℕ) (places : List (Option Held)) (ticks : List ℕ) (blocks : List (List ℕ)) → IsAround low places ticks → length blocks ≡ length places → IsRising 0 (packets_in places blocks)
     → IsNoneFrom ticks (low % length places) (2 ^ 64 - 2) → IsFirstBy ticks 0 (2 ^ 64 - 2) place → option_map (λ (h : Held). h.number) (place_at places place) ≡ first_number (packets_in places blocks)
 lowest_wrapped low place places ticks blocks a sized rising none first =

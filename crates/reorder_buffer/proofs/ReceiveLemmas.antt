@@ -1,5 +1,5 @@
 -- What is due goes out and then an arrival is judged: as one step of the history.
-use Rattle.std.proofs.Common.{◌≡◌, ℕ, ◌≤◌, max, Bool, true, false, cond, List, ◌∷◌, ◌+◌, Option, refl, sym, ◌∙◌, ap, subst, map, arith}
+use Rattle.std.proofs.Common.{◌≡◌, ℕ, ◌≤◌, max, Bool, true, false, cond, List, ◌∷◌, ◌+◌, Option, refl, sym, ◌∙◌, ap, map, arith}
 use Rattle.std.specs.List.{concat}
 use Rattle.outside_io.specs.Told.{Appends, AppendsPart, Writes, WritesPart}
 use Rattle.receiver_rules.specs.declared.limits.Limits.{Limits}
@@ -15,7 +15,7 @@ use Rattle.receiver_rules.proofs.HistoryLemmas.{played_out_arrival}
 use Rattle.reorder_buffer.specs.State.{State, IsNoLower}
 use Rattle.reorder_buffer.specs.StateAfter.{Shows, IsStateAfter}
 use Rattle.reorder_buffer.specs.Inside.Tests.{judged, anchor_at, placed_at}
-use Rattle.reorder_buffer.specs.Inside.Changes.{holding, moved, taken, raised, is_opening, begun, opened_at}
+use Rattle.reorder_buffer.specs.Inside.Changes.{holding, moved, clock_then, taken, raised, is_opening, begun, opened_at}
 use Rattle.reorder_buffer.specs.Inside.Release.{floor_then, octets_below}
 use Rattle.reorder_buffer.specs.declared.phase.Phase.TheVariants.{Open}
 use Rattle.reorder_buffer.proofs.StateAfterLemmas.{Arrives, verdict_after_steps, state_after_arrival, shows_arrival, still_open}
@@ -66,7 +66,7 @@ shows_taken b history at arrival f =
 taken_timed : (b : State) (at : ℕ) (arrival : Arrival) → taken b at arrival ≡ taken (timed b at) at arrival
 taken_timed b at arrival = by_verdict (is_kept (judged b at arrival))
   where
-    by_verdict : (c : Bool) → moved (cond c (holding b (placed_at b at arrival)) b) at (anchor_at b at arrival) c ≡ moved (cond c (holding (timed b at) (placed_at b at arrival)) (timed b at)) at (anchor_at b at arrival) c
+    by_verdict : (c : Bool) → moved (cond c (holding b (placed_at b at arrival)) b) at (anchor_at b at arrival) (clock_then b at arrival c) c ≡ moved (cond c (holding (timed b at) (placed_at b at arrival)) (timed b at)) at (anchor_at b at arrival) (clock_then b at arrival c) c
     by_verdict true = refl
     by_verdict false = refl
 
@@ -135,14 +135,14 @@ no_lower_higher p (Some h) =
 -- an arrival of the epoch doesn't lower it
 highest_taken : (b : State) (t : ℕ) (arrival : Arrival) → IsNoLower b.highest (taken b t arrival).highest
 highest_taken b t arrival =
-    elim (is_kept (judged b t arrival)) as (λ c. IsNoLower b.highest (moved (cond c (holding b (placed_at b t arrival)) b) t (anchor_at b t arrival) c).highest) [
+    elim (is_kept (judged b t arrival)) as (λ c. IsNoLower b.highest (moved (cond c (holding b (placed_at b t arrival)) b) t (anchor_at b t arrival) (clock_then b t arrival c) c).highest) [
       | true ↦ no_lower_higher (placed_at b t arrival) b.highest
       | false ↦ no_lower_self b.highest
     ]
 
 pub epoch_taken : (b : State) (t : ℕ) (arrival : Arrival) → (taken b t arrival).epoch ≡ b.epoch
 epoch_taken b t arrival =
-    elim (is_kept (judged b t arrival)) as (λ c. (moved (cond c (holding b (placed_at b t arrival)) b) t (anchor_at b t arrival) c).epoch ≡ b.epoch) [ true ↦ refl | false ↦ refl ]
+    elim (is_kept (judged b t arrival)) as (λ c. (moved (cond c (holding b (placed_at b t arrival)) b) t (anchor_at b t arrival) (clock_then b t arrival c) c).epoch ≡ b.epoch) [ true ↦ refl | false ↦ refl ]
 
 -- nor does one that opens the first epoch
 pub highest_opened : (b : State) (t : ℕ) (arrival : Arrival) → (taken (opened_at b t arrival.flow) t arrival).epoch ≡ b.epoch → IsNoLower b.highest (taken (opened_at b t arrival.flow) t arrival).highest

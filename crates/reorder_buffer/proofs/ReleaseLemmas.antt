@@ -1,12 +1,13 @@
 -- A floor that rises: the state stays sound, and shows the history with one more step.
-use Rattle.std.proofs.Common.{◌≡◌, ℕ, ◌+◌, ◌^◌, ◌≤◌, max, Bool, true, false, cond, not, List, [], ◌∷◌, ◌++◌, Option, length, refl, sym, ◌∙◌, ap, subst, map, arith, append_assoc, length-append}
+use Rattle.std.proofs.Common.{◌≡◌, ℕ, ◌+◌, suc, ◌-◌, ◌^◌, ◌<◌, ◌≤◌, max, Bool, true, false, cond, not, List, [], ◌∷◌, ◌++◌, Option, length, refl, sym, ◌∙◌, ap, subst, map, arith, append_assoc, length-append}
 use Rattle.std.proofs.lemmas.List.{nil_from_length}
 use Rattle.std.specs.Prelude.{nat_lt}
-use Rattle.std.proofs.lemmas.Bool.{ltb-false}
+use Rattle.std.proofs.lemmas.Bool.{ltb-true, ltb-false}
+use Rattle.receiver_rules.proofs.ClockLemmas.{within_more}
 use Rattle.std.specs.List.{filter, concat}
 use Rattle.outside_io.specs.Told.{Appends, AppendsPart, Writes, WritesPart}
 use Rattle.receiver_rules.specs.Steps.{Step, effective_time, time_step, end_step}
-use Rattle.receiver_rules.specs.Packets.{Packet, Moment, At, Ever, is_played_out, is_buffered, playout_floor, by_number, IsRising, is_below, is_from}
+use Rattle.receiver_rules.specs.Packets.{Packet, Moment, At, Ever, is_past_deadline, is_played_out, is_buffered, playout_floor, by_number, IsRising, is_below, is_from}
 use Rattle.receiver_rules.specs.Epochs.{Epoch, epochs_of, newest_accepted}
 use Rattle.receiver_rules.specs.History.{accepted_packets, current_moment, packets_over, playout_of, released_payloads, released_bytes}
 use Rattle.receiver_rules.proofs.PacketLemmas.{rising-filter, IsLater, later_At, later_Ever, floor_later, buffered_later, played_out_later}
@@ -53,8 +54,32 @@ within-filter f span low (p ∷ ps) r w =
       | false ↦ within-filter f span (p.number + 1) ps r.1 (within-tail span (p.number + 1) p.number ps (omega arith) r.1 w)
     ]
 
-pub sound-raised : (b : State) (floor : ℕ) → IsSound b → IsSound (raised b floor)
-sound-raised b floor s =
+-- the packets that go out are no more than the numbers by which the floor rises
+few_out : (low floor : ℕ) (ps : List Packet) → IsRising low ps → length ps ≤ (floor - low) + length (filter (is_from floor) ps)
+few_out low floor [] r = omega arith
+few_out low floor (p ∷ ps) r =
+    elim (nat_lt p.number floor) as (λ b. nat_lt p.number floor ≡ b → suc (length ps) ≤ (floor - low) + length (cond (not b) (p ∷ filter (is_from floor) ps) (filter (is_from floor) ps))) [
+      | true ↦ λ e. omega (arith, r.0, ltb-true _ _ e, few_out (p.number + 1) floor ps r.1)
+      | false ↦ λ e. omega (arith, r.0, ltb-false _ _ e, few_out (p.number + 1) floor ps r.1)
+    ] refl
+
+-- no floor rises above the end of the numbers
+floor_small : (moment : Moment) (ps : List Packet) → AllBelow (2 ^ 62) ps → playout_floor ps moment ≤ 2 ^ 62
+floor_small moment [] b = omega arith
+floor_small moment (p ∷ ps) b =
+    elim (is_past_deadline moment p) as (λ c. cond c (max (p.number + 1) (playout_floor ps moment)) (playout_floor ps moment) ≤ 2 ^ 62) [
+      | true ↦ omega (arith, b.0, floor_small moment ps b.1)
+      | false ↦ floor_small moment ps b.1
+    ]
+
+pub floor_then_small : (b : State) (moment : Moment) → IsSound b → floor_then b moment ≤ 2 ^ 62
+floor_then_small b moment s = omega (arith, s.floor, floor_small moment b.held s.below)
+
+pub floor_then_rises : (b : State) (moment : Moment) → b.floor ≤ floor_then b moment
+floor_then_rises b moment = omega arith
+
+pub sound-raised : (b : State) (floor : ℕ) → b.floor ≤ floor → floor ≤ 2 ^ 62 → IsSound b → IsSound (raised b floor)
+sound-raised b floor up small s =
     record {
       limits = s.limits;
       anchor = s.anchor;
@@ -64,6 +89,8 @@ sound-raised b floor s =
       below = below-filter (is_from floor) (2 ^ 62) b.held s.below;
       last = s.last;
       epoch = s.epoch;
+      floor = small;
+      clock = λ live a e. within_more a.time (b.floor + length b.held) (floor + length (filter (is_from floor) b.held)) b.clock (omega (arith, up, few_out b.floor floor b.held s.rising)) (s.clock live a e);
     }
 
 -- rising numbers below a bound are no more than the numbers there
@@ -75,6 +102,10 @@ few_between low bound (p ∷ ps) r b = omega (arith, r.0, b.0, few_between (p.nu
 pub few_held : (span low : ℕ) (ps : List Packet) → 1 ≤ span → IsRising low ps → IsWithin span ps → length ps ≤ span
 few_held span low [] s r w = omega arith
 few_held span low (p ∷ ps) s r w = omega (arith, few_between (p.number + 1) (p.number + span) ps r.1 w)
+
+-- so the numbers below the floor and the packets that wait are less than 2^63
+pub few_in_all : (b : State) → IsSound b → b.floor + length b.held < 2 ^ 63
+few_in_all b s = omega (arith, s.floor, s.limits.capacity, few_held b.limits.capacity b.floor b.held s.limits.some s.rising s.within)
 
 -- ---- the history
 
@@ -195,10 +226,10 @@ end_follows b history stands live =
     record { shows = stands (not_failed b.phase live); same = refl; moment = refl; after = later_Ever (current_moment history) }
 
 abbrev pub timed : State → ℕ → State
-timed b t = record { limits = b.limits; phase = b.phase; time = t; anchor = b.anchor; highest = b.highest; floor = b.floor; held = b.held; last = b.last; epoch = b.epoch }
+timed b t = record { limits = b.limits; phase = b.phase; time = t; anchor = b.anchor; highest = b.highest; floor = b.floor; held = b.held; last = b.last; epoch = b.epoch; clock = b.clock }
 
 abbrev pub ended : State → State
-ended b = record { limits = b.limits; phase = Ended; time = b.time; anchor = b.anchor; highest = b.highest; floor = b.floor; held = b.held; last = b.last; epoch = b.epoch }
+ended b = record { limits = b.limits; phase = Ended; time = b.time; anchor = b.anchor; highest = b.highest; floor = b.floor; held = b.held; last = b.last; epoch = b.epoch; clock = b.clock }
 
 pub shows_pass : (b : State) (history : List Step) (at floor : ℕ) → IsStateAfter b history → b.phase ≡ Open → b.time ≤ at → floor ≡ floor_then b (At at) → Shows (timed (raised b floor) at) (time_step at ∷ history)
 shows_pass b history at floor stands live later e =
@@ -214,6 +245,7 @@ shows_pass b history at floor stands live later e =
       held = ap (λ n. filter (is_from n) b.held) e ∙ held_is b (accepted_packets b.limits history) (current_moment history) (At at) r ∙ ap (λ m. filter (is_buffered (accepted_packets b.limits history) m) (by_number (accepted_packets b.limits history))) (sym f.moment);
       last = f.shows.last;
       epoch = f.shows.epoch;
+      clock = f.shows.clock;
     }
 
 pub shows_end : (b : State) (history : List Step) (floor : ℕ) → IsStateAfter b history → b.phase ≡ Open → floor ≡ floor_then b Ever → Shows (ended (raised b floor)) (end_step ∷ history)
@@ -230,4 +262,5 @@ shows_end b history floor stands live e =
       held = ap (λ n. filter (is_from n) b.held) e ∙ held_is b (accepted_packets b.limits history) (current_moment history) Ever r;
       last = f.shows.last;
       epoch = f.shows.epoch;
+      clock = f.shows.clock;
     }

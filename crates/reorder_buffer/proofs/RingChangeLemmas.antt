@@ -207,6 +207,26 @@ dropped_around low places ticks i inside a = record {
   below = λ k other at. let b = a.below k other (still places i k other inside at).1 in omega (arith, length-set places i None);
 }
 
+-- the others are above the lowest
+pub raised_around : (low : ℕ) (places : List (Option Held)) (ticks : List ℕ) (i : ℕ) → i < length places → i ≡ low % length places → IsAround low places ticks
+    → IsAround (low + 1) (slice_set places i None) (slice_set ticks i (2 ^ 64 - 1))
+raised_around low places ticks i inside is a =
+    let d = dropped_around low places ticks i inside a in
+    record {
+      some = d.some;
+      indexed = d.indexed;
+      placed = d.placed;
+      from = λ k other at.
+          let s = still places i k other inside at in
+          elim (cases_lt low other.number) [
+            | inl above ↦ let h : low < other.number = above in omega arith
+            | inr under ↦
+                let same : other.number ≡ low = let f = a.from k other s.1 in omega arith in
+                absurd (s.0 (sym (a.placed k other s.1).stands ∙ ap (λ n. n % length places) same ∙ sym is))
+          ];
+      below = λ k other at. let b = d.below k other at in omega arith;
+    }
+
 -- the ends of what is left
 left_ends : (p : Packet) (ps : List Packet) (e : Ends) → ends_of (p ∷ ps) ≡ Some e → ends_from (first_number ps) e.high ≡ ends_of ps
 left_ends p [] e b = refl

@@ -1,24 +1,29 @@
 -- What a state shows of its history, before and after an arrival.
 use Rattle.std.proofs.Common.{◌≡◌, ◌||◌, ℕ, suc, ◌+◌, ◌-◌, ◌*◌, ◌^◌, ◌<◌, ◌≤◌, max, pos, Bool, true, false, cond, not, ◌&&◌, List, [], ◌∷◌, Option, Some, None, unwrap_or, length, refl, sym, ◌∙◌, ap, subst, arith}
-use Rattle.std.specs.Prelude.{nat_lt, nat_le, nat_eq, ◌==◌, int_le, int_lt, IsSome, IsNone, ◌-ℤ◌}
-use Rattle.std.proofs.lemmas.Bool.{ltb-false, and_parts, eqb-true, ne_eqb}
+use Rattle.std.specs.Prelude.{ℤ, nat_lt, nat_le, nat_eq, ◌==◌, int_le, int_lt, IsSome, IsNone}
+use Rattle.std.proofs.lemmas.Bool.{ltb-false, leb-false, and_parts, eqb-true, ne_eqb}
 use Rattle.std.specs.List.{filter, list_any}
 use Rattle.receiver_rules.specs.declared.verdict.Verdict.TheVariants.{Kept, Stranger, Exhausted, Late, Behind, Early, Twice, Span}
 use Rattle.receiver_rules.specs.declared.anchor.Anchor.{Anchor}
 use Rattle.receiver_rules.specs.declared.limits.Limits.{Limits}
 use Rattle.receiver_rules.specs.Steps.{Arrival, Event, Media, Step, effective_time, is_end, has_ended, media_step, time_step}
 use Rattle.receiver_rules.specs.Packets.{Packet, Moment, At, Ever, number_of, timestamp_of, deadline_of, placed_packet, distance, is_buffered, verdict_of, is_kept, playout_floor, by_number, highest_of, higher, insert_by_number, is_from}
-use Rattle.receiver_rules.specs.Epochs.{Epoch, new_anchor, new_epoch, opens_next, opens_epoch, epoch_at, earlier_at, verdict_in, packet_in, epoch_with, epochs_after, epochs_of, newest_anchor, newest_accepted, newest_last}
+use Rattle.receiver_rules.specs.Epochs.{Epoch, base_of, IsNewestClock, new_anchor, new_epoch, opens_next, opens_epoch, epoch_at, earlier_at, verdict_in, packet_in, epoch_with, epochs_after, epochs_of, newest_anchor, newest_accepted, newest_last}
 use Rattle.receiver_rules.specs.History.{accepted_packets, current_moment, verdict}
 use Rattle.receiver_rules.proofs.PacketLemmas.{any_same, filter_same, any-filter, any-by_number, is_behind_playout-floor, is_buffered-floor, buffered-cons}
 use Rattle.receiver_rules.proofs.HistoryLemmas.{chain as kept_chain, now_open, IsKept, accepted_parts, buffered_when_accepted}
 use Rattle.std.proofs.lemmas.Int.{ints}
-use Rattle.receiver_rules.specs.declared.anchor.Highest.{Highest}
-use Rattle.receiver_rules.specs.Bounds.{AreInRange, IsEarlyAnchor, IsMid}
+use Rattle.receiver_rules.specs.Bounds.{AreInRange, IsEarlyAnchor, IsNearBase}
+use Rattle.receiver_rules.specs.Clock.{transit_of, clock_of}
+use Rattle.receiver_rules.specs.Seen.{packet_at, IsPlaceOf, begun_clock, counted_clock}
+use Rattle.receiver_rules.specs.declared.place.Position.{Position}
+use Rattle.receiver_rules.specs.declared.clock.Clock.{Clock}
+use Rattle.receiver_rules.proofs.BoundLemmas.{mid_in_window}
+use Rattle.receiver_rules.proofs.ClockLemmas.{counted_follows}
 use Rattle.reorder_buffer.specs.State.{State}
 use Rattle.reorder_buffer.specs.StateAfter.{Shows, IsStateAfter}
-use Rattle.reorder_buffer.specs.Inside.Tests.{verdict_here, anchor_at, placed_at, judged}
-use Rattle.reorder_buffer.specs.Inside.Changes.{holding, moved, taken, is_opening, begun, opened_at}
+use Rattle.reorder_buffer.specs.Inside.Tests.{IsAdmissible, verdict_here, anchor_at, clock_at, placed_at, judged}
+use Rattle.reorder_buffer.specs.Inside.Changes.{holding, moved, clock_then, taken, is_opening, begun, opened_at}
 use Rattle.reorder_buffer.specs.declared.phase.Phase.TheVariants.{Open, Ended}
 use Rattle.reorder_buffer.proofs.PhaseLemmas.{not_failed}
 
@@ -51,10 +56,10 @@ chain a b c d false e f f' g g' p q r =
     ∙ ap (λ x. cond a Stranger (cond b Exhausted (cond c Late (cond e Early (cond x Twice (cond g Span Kept)))))) (q refl)
     ∙ ap (λ x. cond a Stranger (cond b Exhausted (cond c Late (cond e Early (cond f' Twice (cond x Span Kept)))))) r
 
-pub verdict_same : (b : State) (packets : List Packet) (t : ℕ) (a : Anchor) (arrival : Arrival) → IsAt b packets t
-    → verdict_here b a t arrival.flow (number_of (highest_of packets) arrival) (deadline_of b.limits a (timestamp_of (highest_of packets) arrival)) ≡ verdict_of b.limits a packets t arrival
-verdict_same b packets t a arrival is =
-    let p : Packet = placed_packet b.limits a (highest_of packets) arrival in
+pub verdict_same : (b : State) (packets : List Packet) (t : ℕ) (a : Anchor) (base : ℤ) (arrival : Arrival) → IsAt b packets t
+    → verdict_here b a t arrival.flow (number_of (highest_of packets) arrival) (deadline_of b.limits a base (timestamp_of (highest_of packets) arrival)) ≡ verdict_of b.limits a base packets t arrival
+verdict_same b packets t a base arrival is =
+    let p : Packet = placed_packet b.limits a base (highest_of packets) arrival in
     let held : b.held ≡ filter (is_from (playout_floor packets (At t))) (by_number packets) = is.held ∙ filter_held in
     chain _ _ _ _ _ _ _ _ _ _
     (ap (λ n. nat_lt p.number n) is.floor ∙ sym (is_behind_playout-floor packets (At t) p))
@@ -66,29 +71,32 @@ verdict_same b packets t a arrival is =
     filter_held : filter (is_buffered packets (At t)) (by_number packets) ≡ filter (is_from (playout_floor packets (At t))) (by_number packets)
     filter_held = filter_same _ _ (is_buffered-floor packets (At t)) (by_number packets)
 
--- ---- what a kept packet may be the top of
+-- ---- a packet that is kept may wait
 
-pub mid_kept : (b : State) (a : Anchor) (t : ℕ) (arrival : Arrival) → AreInRange b.limits → IsEarlyAnchor t a → t < 2 ^ 61
-    → is_kept (verdict_here b a t arrival.flow (number_of b.highest arrival) (deadline_of b.limits a (timestamp_of b.highest arrival))) ≡ true → IsMid b.highest (placed_packet b.limits a b.highest arrival)
-mid_kept b a t arrival small early h e =
+pub admissible : (b : State) (a : Anchor) (base : ℤ) (t : ℕ) (arrival : Arrival) (place : Position) (payload : List ℕ) → AreInRange b.limits → IsEarlyAnchor t a → IsNearBase a.time base → t < 2 ^ 61
+    → IsPlaceOf place (placed_packet b.limits a base b.highest arrival) → is_kept (verdict_here b a t arrival.flow place.number place.deadline) ≡ true → IsAdmissible b (packet_at place payload)
+admissible b a base t arrival place payload small early near h at e =
     let c = kept_chain _ _ _ _ _ _ _ e in
-    let late : int_le (deadline_of b.limits a (timestamp_of b.highest arrival)) (pos t) ≡ false = c.2 in
-    let nearest : int_lt (pos (t + 2 * b.limits.playout_delay)) (deadline_of b.limits a (timestamp_of b.highest arrival)) ≡ false = c.4 in
+    let mid = mid_in_window b.limits a base t b.highest arrival small early near h (ap (λ d. int_le d (pos t)) (sym at.deadline) ∙ c.2) (ap (λ d. int_lt (pos (t + 2 * b.limits.playout_delay)) d) (sym at.deadline) ∙ c.4) in
     record {
-      first = λ none. first_number b.highest arrival none;
-      timestamp_low = low_stamp a.time a.timestamp b.limits.playout_delay (timestamp_of b.highest arrival) t early.since early.low small.delay late;
-      timestamp_high = high_stamp a.time a.timestamp b.limits.playout_delay (timestamp_of b.highest arrival) t early.timestamp small.delay h nearest;
+      low = ltb-false _ _ c.3;
+      high = leb-false _ _ c.1;
+      mid = record {
+        first = λ none. subst (λ n. 2 ^ 40 ≤ n) (sym at.number) (mid.first none);
+        timestamp_low = subst (λ n. 2 ^ 59 ≤ n) (sym at.timestamp) mid.timestamp_low;
+        timestamp_high = subst (λ n. n < 2 ^ 62) (sym at.timestamp) mid.timestamp_high;
+      };
+      positive = positive place.deadline t c.2;
+      soon = soon place.deadline t b.limits.playout_delay h small.delay c.4;
+      new = c.5;
+      near = c.6;
     }
   where
-    first_number : (highest : Option Highest) (arrival : Arrival) → IsNone highest → 2 ^ 40 ≤ number_of highest arrival
-    first_number None arrival none = omega arith
-    first_number (Some highest) arrival none = cc
+    positive : (d : ℤ) (t : ℕ) → int_le d (pos t) ≡ false → int_lt d (pos 0) ≡ false
+    positive d t late = grind (arith, ints)
 
-    low_stamp : (time from delay timestamp t : ℕ) → time ≤ t → 2 ^ 40 ≤ from → delay ≤ 2700000 → int_le (pos (time + timestamp + delay) -ℤ pos from) (pos t) ≡ false → 2 ^ 39 ≤ timestamp
-    low_stamp time from delay timestamp t since low small late = grind (arith, ints)
-
-    high_stamp : (time from delay timestamp t : ℕ) → from < 2 ^ 41 → delay ≤ 2700000 → t < 2 ^ 61 → int_lt (pos (t + 2 * delay)) (pos (time + timestamp + delay) -ℤ pos from) ≡ false → timestamp < 2 ^ 62
-    high_stamp time from delay timestamp t high small h nearest = grind (arith, ints)
+    soon : (d : ℤ) (t delay : ℕ) → t < 2 ^ 61 → delay ≤ 2700000 → int_lt (pos (t + 2 * delay)) d ≡ false → int_lt d (pos (2 ^ 62)) ≡ true
+    soon d t delay h small early = grind (arith, ints)
 
 -- ---- an arrival of an epoch
 
@@ -99,6 +107,7 @@ pub record Faces (b : State) (epoch : Epoch) (earlier : List Epoch) (t : ℕ) (a
   pub at : IsAt b epoch.accepted t
   pub last : b.last ≡ epoch.last
   pub place : b.epoch ≡ length earlier
+  pub clock : clock_at b t ≡ clock_of b.limits epoch.anchor.time epoch.transits
 
 -- what a state shows of the epochs at a moment
 pub record ShowsEpochs (b : State) (epochs : List Epoch) (m : Moment) : Type 0 where
@@ -108,35 +117,40 @@ pub record ShowsEpochs (b : State) (epochs : List Epoch) (m : Moment) : Type 0 w
   pub held : b.held ≡ filter (is_buffered (newest_accepted epochs) m) (by_number (newest_accepted epochs))
   pub last : b.last ≡ newest_last epochs
   pub epoch : b.epoch ≡ length epochs - 1
+  pub clock : IsNewestClock b.limits b.clock epochs
 
 pub judged_faced : (b : State) (epoch : Epoch) (earlier : List Epoch) (t : ℕ) (arrival : Arrival) → Faces b epoch earlier t arrival → judged b t arrival ≡ verdict_in b.limits epoch t arrival
 judged_faced b epoch earlier t arrival f =
-    ap (λ highest. verdict_here b (anchor_at b t arrival) t arrival.flow (number_of highest arrival) (deadline_of b.limits (anchor_at b t arrival) (timestamp_of highest arrival))) f.highest
-    ∙ ap (λ a. verdict_here b a t arrival.flow (number_of (highest_of epoch.accepted) arrival) (deadline_of b.limits a (timestamp_of (highest_of epoch.accepted) arrival))) f.anchor
-    ∙ verdict_same b epoch.accepted t epoch.anchor arrival f.at
+    ap (λ highest. verdict_here b (anchor_at b t arrival) t arrival.flow (number_of highest arrival) (deadline_of b.limits (anchor_at b t arrival) (clock_at b t).base (timestamp_of highest arrival))) f.highest
+    ∙ ap (λ a. verdict_here b a t arrival.flow (number_of (highest_of epoch.accepted) arrival) (deadline_of b.limits a (clock_at b t).base (timestamp_of (highest_of epoch.accepted) arrival))) f.anchor
+    ∙ ap (λ (k : Clock). verdict_here b epoch.anchor t arrival.flow (number_of (highest_of epoch.accepted) arrival) (deadline_of b.limits epoch.anchor k.base (timestamp_of (highest_of epoch.accepted) arrival))) f.clock
+    ∙ verdict_same b epoch.accepted t epoch.anchor (base_of b.limits epoch) arrival f.at
 
 placed_faced : (b : State) (epoch : Epoch) (earlier : List Epoch) (t : ℕ) (arrival : Arrival) → Faces b epoch earlier t arrival → placed_at b t arrival ≡ packet_in b.limits epoch arrival
 placed_faced b epoch earlier t arrival f =
-    ap (λ a. placed_packet b.limits a b.highest arrival) f.anchor ∙ ap (λ highest. placed_packet b.limits epoch.anchor highest arrival) f.highest
+    ap (λ a. placed_packet b.limits a (clock_at b t).base b.highest arrival) f.anchor
+    ∙ ap (λ (k : Clock). placed_packet b.limits epoch.anchor k.base b.highest arrival) f.clock
+    ∙ ap (λ highest. placed_packet b.limits epoch.anchor (base_of b.limits epoch) highest arrival) f.highest
 
 same_length : (n : ℕ) → n ≡ suc n - 1
 same_length n = omega arith
 
 -- an arrival that isn't kept
-moved_shows : (b : State) (epoch : Epoch) (earlier : List Epoch) (t : ℕ) (arrival : Arrival) → Faces b epoch earlier t arrival → ShowsEpochs (moved b t epoch.anchor false) (epoch ∷ earlier) (At t)
-moved_shows b epoch earlier t arrival f =
-    record { anchor = refl; highest = f.highest; floor = f.at.floor; held = f.at.held; last = f.last; epoch = f.place ∙ same_length (length earlier) }
+moved_shows : (b : State) (epoch : Epoch) (earlier : List Epoch) (t : ℕ) (arrival : Arrival) (clock : Clock) → Faces b epoch earlier t arrival → clock ≡ clock_of b.limits epoch.anchor.time epoch.transits
+    → ShowsEpochs (moved b t epoch.anchor clock false) (epoch ∷ earlier) (At t)
+moved_shows b epoch earlier t arrival clock f is =
+    record { anchor = refl; highest = f.highest; floor = f.at.floor; held = f.at.held; last = f.last; epoch = f.place ∙ same_length (length earlier); clock = is }
 
 -- the epoch with one more packet
-abbrev kept_in : Limits → Epoch → ℕ → Arrival → Epoch
-kept_in limits epoch t arrival = record { anchor = epoch.anchor; accepted = packet_in limits epoch arrival ∷ epoch.accepted; last = t }
+abbrev kept_in : Limits → Epoch → ℕ → Arrival → List ℤ → Epoch
+kept_in limits epoch t arrival transits = record { anchor = epoch.anchor; accepted = packet_in limits epoch arrival ∷ epoch.accepted; last = t; transits = transits }
 
 -- an arrival that is kept
-holding_shows : (b : State) (epoch : Epoch) (earlier : List Epoch) (t : ℕ) (arrival : Arrival) → Faces b epoch earlier t arrival → is_kept (verdict_in b.limits epoch t arrival) ≡ true
-    → ShowsEpochs (moved (holding b (packet_in b.limits epoch arrival)) t epoch.anchor true) (kept_in b.limits epoch t arrival ∷ earlier) (At t)
-holding_shows b epoch earlier t arrival f kept =
+holding_shows : (b : State) (epoch : Epoch) (earlier : List Epoch) (t : ℕ) (arrival : Arrival) (clock : Clock) (transits : List ℤ) → Faces b epoch earlier t arrival → is_kept (verdict_in b.limits epoch t arrival) ≡ true → clock ≡ clock_of b.limits epoch.anchor.time transits
+    → ShowsEpochs (moved (holding b (packet_in b.limits epoch arrival)) t epoch.anchor clock true) (kept_in b.limits epoch t arrival transits ∷ earlier) (At t)
+holding_shows b epoch earlier t arrival clock transits f kept is =
     let p : Packet = packet_in b.limits epoch arrival in
-    let parts : IsKept b.limits epoch.anchor epoch.accepted t arrival = accepted_parts b.limits epoch.anchor epoch.accepted t arrival kept in
+    let parts : IsKept b.limits epoch.anchor (base_of b.limits epoch) epoch.accepted t arrival = accepted_parts b.limits epoch.anchor (base_of b.limits epoch) epoch.accepted t arrival kept in
     record {
       anchor = refl;
       highest = ap (λ o. Some (higher p o)) f.highest;
@@ -144,21 +158,33 @@ holding_shows b epoch earlier t arrival f kept =
       held = ap (insert_by_number p) f.at.held ∙ sym (buffered-cons p epoch.accepted (At t) parts.in_time (buffered_when_accepted epoch.accepted (At t) p parts.ahead));
       last = refl;
       epoch = f.place ∙ same_length (length earlier);
+      clock = is;
     }
+
+-- the clock after an arrival
+clock_faced : (b : State) (epoch : Epoch) (earlier : List Epoch) (t : ℕ) (arrival : Arrival) (kept : Bool) → Faces b epoch earlier t arrival
+    → clock_then b t arrival kept ≡ clock_of b.limits epoch.anchor.time (cond (kept && not arrival.again) (transit_of epoch.anchor t (packet_in b.limits epoch arrival).timestamp ∷ epoch.transits) epoch.transits)
+clock_faced b epoch earlier t arrival kept f =
+    ap (λ a. counted_clock b.limits a (clock_at b t) t (placed_at b t arrival).timestamp (kept && not arrival.again)) f.anchor
+    ∙ ap (λ k. counted_clock b.limits epoch.anchor k t (placed_at b t arrival).timestamp (kept && not arrival.again)) f.clock
+    ∙ ap (λ (p : Packet). counted_clock b.limits epoch.anchor (clock_of b.limits epoch.anchor.time epoch.transits) t p.timestamp (kept && not arrival.again)) (placed_faced b epoch earlier t arrival f)
+    ∙ counted_follows b.limits epoch.anchor t (packet_in b.limits epoch arrival).timestamp epoch.transits (kept && not arrival.again)
 
 -- what an arrival leaves shows the epochs with it
 pub taken_shows : (b : State) (epoch : Epoch) (earlier : List Epoch) (t : ℕ) (arrival : Arrival) → Faces b epoch earlier t arrival → ShowsEpochs (taken b t arrival) (epoch_with b.limits epoch t arrival ∷ earlier) (At t)
 taken_shows b epoch earlier t arrival f =
     let same : is_kept (judged b t arrival) ≡ is_kept (verdict_in b.limits epoch t arrival) = ap is_kept (judged_faced b epoch earlier t arrival f) in
-    let after = λ (c : Bool) (p : Packet) (a : Anchor). moved (cond c (holding b p) b) t a c in
-    let is : taken b t arrival ≡ after (is_kept (verdict_in b.limits epoch t arrival)) (packet_in b.limits epoch arrival) epoch.anchor =
-    ap (λ c. after c (placed_at b t arrival) (anchor_at b t arrival)) same
-    ∙ ap (λ p. after (is_kept (verdict_in b.limits epoch t arrival)) p (anchor_at b t arrival)) (placed_faced b epoch earlier t arrival f)
-    ∙ ap (λ a. after (is_kept (verdict_in b.limits epoch t arrival)) (packet_in b.limits epoch arrival) a) f.anchor in
+    let more : Bool → List ℤ = λ c. cond (c && not arrival.again) (transit_of epoch.anchor t (packet_in b.limits epoch arrival).timestamp ∷ epoch.transits) epoch.transits in
+    let after : Bool → Packet → Anchor → Clock → State = λ c p a k. moved (cond c (holding b p) b) t a k c in
+    let is : taken b t arrival ≡ after (is_kept (verdict_in b.limits epoch t arrival)) (packet_in b.limits epoch arrival) epoch.anchor (clock_of b.limits epoch.anchor.time (more (is_kept (verdict_in b.limits epoch t arrival)))) =
+    ap (λ c. after c (placed_at b t arrival) (anchor_at b t arrival) (clock_then b t arrival c)) same
+    ∙ ap (λ p. after (is_kept (verdict_in b.limits epoch t arrival)) p (anchor_at b t arrival) (clock_then b t arrival (is_kept (verdict_in b.limits epoch t arrival)))) (placed_faced b epoch earlier t arrival f)
+    ∙ ap (λ a. after (is_kept (verdict_in b.limits epoch t arrival)) (packet_in b.limits epoch arrival) a (clock_then b t arrival (is_kept (verdict_in b.limits epoch t arrival)))) f.anchor
+    ∙ ap (after (is_kept (verdict_in b.limits epoch t arrival)) (packet_in b.limits epoch arrival) epoch.anchor) (clock_faced b epoch earlier t arrival (is_kept (verdict_in b.limits epoch t arrival)) f) in
     subst (λ s. ShowsEpochs s (epoch_with b.limits epoch t arrival ∷ earlier) (At t)) (sym is)
-    (elim (is_kept (verdict_in b.limits epoch t arrival)) as (λ c. is_kept (verdict_in b.limits epoch t arrival) ≡ c → ShowsEpochs (after c (packet_in b.limits epoch arrival) epoch.anchor) (record { anchor = epoch.anchor; accepted = cond c (packet_in b.limits epoch arrival ∷ epoch.accepted) epoch.accepted; last = cond c t epoch.last } ∷ earlier) (At t)) [
-      | true ↦ λ e. holding_shows b epoch earlier t arrival f e
-      | false ↦ λ e. moved_shows b epoch earlier t arrival f
+    (elim (is_kept (verdict_in b.limits epoch t arrival)) as (λ c. is_kept (verdict_in b.limits epoch t arrival) ≡ c → ShowsEpochs (after c (packet_in b.limits epoch arrival) epoch.anchor (clock_of b.limits epoch.anchor.time (more c))) (record { anchor = epoch.anchor; accepted = cond c (packet_in b.limits epoch arrival ∷ epoch.accepted) epoch.accepted; last = cond c t epoch.last; transits = more c } ∷ earlier) (At t)) [
+      | true ↦ λ e. holding_shows b epoch earlier t arrival (clock_of b.limits epoch.anchor.time (more true)) (more true) f e refl
+      | false ↦ λ e. moved_shows b epoch earlier t arrival (clock_of b.limits epoch.anchor.time epoch.transits) f refl
     ] refl)
 
 -- ---- an arrival after a history
@@ -187,6 +213,7 @@ pub record Meets (b : State) (epochs : List Epoch) (at : ℕ) : Type 0 where
   pub held : IsNone b.anchor → b.held ≡ []
   pub last : b.last ≡ newest_last epochs
   pub epoch : b.epoch ≡ length epochs - 1
+  pub clock : IsNewestClock b.limits b.clock epochs
 
 no_floor : (epochs : List Epoch) (m : Moment) → newest_anchor epochs ≡ None → playout_floor (newest_accepted epochs) m ≡ 0
 no_floor [] m e = refl
@@ -213,6 +240,7 @@ meets b history at h =
       held = λ none. s.held ∙ nothing_held (epochs_of b.limits history) (current_moment history) (sym s.anchor ∙ is_none b.anchor none);
       last = s.last;
       epoch = s.epoch;
+      clock = s.clock;
     }
   where
     is_none : (o : Option Anchor) → IsNone o → o ≡ None
@@ -239,11 +267,11 @@ opening_is b (current ∷ earlier) at arrival m =
 first_faces : (b : State) (at : ℕ) (arrival : Arrival) → Meets b [] at → Faces (begun b None at) (new_epoch at arrival) [] at arrival
 first_faces b at arrival m =
     let none : IsNone b.anchor = subst IsNone (sym m.anchor) refl in
-    record { anchor = ap (λ o. unwrap_or o (new_anchor at arrival)) m.anchor; highest = m.highest; at = record { floor = m.floor none; held = m.held none }; last = refl; place = m.epoch }
+    record { anchor = ap (λ o. unwrap_or o (new_anchor at arrival)) m.anchor; highest = m.highest; at = record { floor = m.floor none; held = m.held none }; last = refl; place = m.epoch; clock = ap (λ o. begun_clock o b.clock at) m.anchor }
 
 next_faces : (b : State) (at : ℕ) (arrival : Arrival) (a : Anchor) (epochs : List Epoch) → b.held ≡ [] → b.epoch + 1 ≡ length epochs → Faces (begun b (Some a) at) (new_epoch at arrival) epochs at arrival
 next_faces b at arrival a epochs empty place =
-    record { anchor = refl; highest = refl; at = record { floor = refl; held = empty }; last = refl; place = place }
+    record { anchor = refl; highest = refl; at = record { floor = refl; held = empty }; last = refl; place = place; clock = refl }
 
 no_packets : (ps : List Packet) → nat_eq (length ps) 0 ≡ true → ps ≡ []
 no_packets [] e = refl
@@ -280,6 +308,7 @@ found b (current ∷ earlier) at arrival m P given =
             at = m.here (subst IsSome (sym m.anchor) refl);
             last = m.last;
             place = m.epoch ∙ sym (same_length (length earlier));
+            clock = ap (λ o. begun_clock o b.clock at) m.anchor ∙ m.clock;
           })
     ] same)
 
@@ -299,7 +328,7 @@ pub record Keeps (b after : State) (at : ℕ) : Type 0 where
 
 keeps_taken : (b c : State) (at : ℕ) (arrival : Arrival) → c.limits ≡ b.limits → c.phase ≡ b.phase → Keeps b (taken c at arrival) at
 keeps_taken b c at arrival limits phase =
-    elim (is_kept (judged c at arrival)) as (λ k. Keeps b (moved (cond k (holding c (placed_at c at arrival)) c) at (anchor_at c at arrival) k) at) [
+    elim (is_kept (judged c at arrival)) as (λ k. Keeps b (moved (cond k (holding c (placed_at c at arrival)) c) at (anchor_at c at arrival) (clock_then c at arrival k) k) at) [
       | true ↦ record { limits = limits; phase = phase; time = refl }
       | false ↦ record { limits = limits; phase = phase; time = refl }
     ]
@@ -332,6 +361,7 @@ shown_history b after history at arrival h k s =
       held = own.held;
       last = own.last;
       epoch = own.epoch;
+      clock = own.clock;
     }
 
 -- what an arrival leaves stands for the history with that arrival
@@ -364,11 +394,11 @@ to_time : (b : State) (history : List Step) (event : Event) (t : ℕ) (step : St
 to_time b history event t step same time s =
     subst (λ n. ShowsAt b history event n) time
     (subst (λ x. ShowsAt b history x (max step.tick (effective_time history))) same
-    (record { phase = s.phase; time = s.time; epochs = record { anchor = s.anchor; highest = s.highest; floor = s.floor; held = s.held; last = s.last; epoch = s.epoch } }))
+    (record { phase = s.phase; time = s.time; epochs = record { anchor = s.anchor; highest = s.highest; floor = s.floor; held = s.held; last = s.last; epoch = s.epoch; clock = s.clock } }))
 
 from_time : (b : State) (history : List Step) (tick : ℕ) (event : Event) → ShowsAt b history event (max tick (effective_time history)) → Shows b (record { tick = tick; event = event } ∷ history)
 from_time b history tick event s =
-    record { phase = s.phase; time = s.time; anchor = s.epochs.anchor; highest = s.epochs.highest; floor = s.epochs.floor; held = s.epochs.held; last = s.epochs.last; epoch = s.epochs.epoch }
+    record { phase = s.phase; time = s.time; anchor = s.epochs.anchor; highest = s.epochs.highest; floor = s.epochs.floor; held = s.epochs.held; last = s.epochs.last; epoch = s.epochs.epoch; clock = s.epochs.clock }
 
 -- a step at the effective time is the step at its own tick
 pub shows_told : (b : State) (history : List Step) (tick at : ℕ) (event : Event) → at ≡ max tick (effective_time history) → Shows b (record { tick = at; event = event } ∷ history) → Shows b (record { tick = tick; event = event } ∷ history)
@@ -381,4 +411,4 @@ shows_arrival b history tick at arrival e s =
     let same : max at (max at (effective_time history)) ≡ max tick (effective_time history) = omega arith in
     from_time b history tick (Media arrival)
     (subst (λ n. ShowsAt b history (Media arrival) n) same
-    (record { phase = s.phase; time = s.time; epochs = record { anchor = s.anchor; highest = s.highest; floor = s.floor; held = s.held; last = s.last; epoch = s.epoch } }))
+    (record { phase = s.phase; time = s.time; epochs = record { anchor = s.anchor; highest = s.highest; floor = s.floor; held = s.held; last = s.last; epoch = s.epoch; clock = s.clock } }))

@@ -3,6 +3,7 @@ use Rattle.std.specs.Prelude.{ℕ, ◌-◌, ◌≤◌, ◌==◌, if◌then◌els
 use Rattle.receiver_rules.specs.declared.limits.Limits.{Limits}
 use Rattle.receiver_rules.specs.declared.anchor.Anchor.{Anchor}
 use Rattle.receiver_rules.specs.declared.anchor.Highest.{Highest}
+use Rattle.receiver_rules.specs.declared.clock.Clock.{Clock}
 use Rattle.receiver_rules.specs.Packets.{Packet}
 use Rattle.reorder_buffer.specs.declared.phase.Phase.{Phase}
 use Rattle.reorder_buffer.specs.declared.phase.Phase.TheVariants.{Failed}
@@ -24,6 +25,8 @@ pub record State : Type 0 where
   pub last : ℕ
   -- how often the flow has restarted
   pub epoch : ℕ
+  -- what the deadlines of the next packets count from
+  pub clock : Clock
 
 -- the number just below a floor
 abbrev pub number_below : ℕ → Option ℕ
@@ -31,7 +34,7 @@ number_below floor = if floor == 0 then None else Some (floor - 1)
 
 -- after a failed write all is as it was, but that nothing waits
 abbrev pub failed : State → State
-failed b = record { limits = b.limits; phase = Failed; time = b.time; anchor = b.anchor; highest = b.highest; floor = b.floor; held = []; last = b.last; epoch = b.epoch }
+failed b = record { limits = b.limits; phase = Failed; time = b.time; anchor = b.anchor; highest = b.highest; floor = b.floor; held = []; last = b.last; epoch = b.epoch; clock = b.clock }
 
 -- the highest number is no lower than it was
 abbrev pub IsNoLower : Option Highest → Option Highest → Type 0

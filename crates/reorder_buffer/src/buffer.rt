@@ -4,8 +4,9 @@ use crate::phase::Phase;
 use crate::release::put_due;
 use crate::ring::{MAX_PAYLOAD, Ring};
 use outside_io::{NoMemory, Sink, WriteFault};
+use receiver_rules::clock::{clock_in, clock_with};
 use receiver_rules::place::{Position, highest_after, new_anchor, place_of};
-use receiver_rules::{Anchor, Arrival, Highest, Limits, Verdict};
+use receiver_rules::{Anchor, Arrival, Clock, Highest, Limits, Verdict};
 use std::alloc::Global;
 use std::marker::Model;
 
@@ -23,6 +24,7 @@ pub struct Buffer {
     ring: Ring,
     last: u64,
     epoch: u64,
+    clock: Clock,
 }
 
 impl Model for Buffer {
@@ -48,24 +50,26 @@ impl Buffer {
     ghost use Rattle.seq_unwrap.specs.Nearest.{cycle_of};
     ghost use Rattle.receiver_rules.specs.Steps.{Step, media_step, time_step, end_step};
     ghost use Rattle.receiver_rules.specs.Packets.{is_below, placed_packet};
-    ghost use Rattle.receiver_rules.specs.Seen.{seen, moment_of, packet_at, IsPlaceOf};
-    ghost use Rattle.receiver_rules.specs.Bounds.{AreInRange, IsEarlyAnchor};
+    ghost use Rattle.receiver_rules.specs.Seen.{seen, moment_of, packet_at, start_of, IsPlaceOf};
+    ghost use Rattle.receiver_rules.specs.Bounds.{AreInRange, IsEarlyAnchor, IsClockWithin, IsNearBase};
     ghost use Rattle.reorder_buffer.specs.State.{failed, number_below, IsNoLower};
     ghost use Rattle.reorder_buffer.specs.StateAfter.{IsStateAfter};
     ghost use Rattle.reorder_buffer.specs.OneMore.{StandsAfter, Judges, Releases, ReleasesPart, ReleasesNothing, Counts, IsKept};
     ghost use Rattle.reorder_buffer.specs.Inside.Release.{octets_below, floor_then};
     ghost use Rattle.reorder_buffer.specs.Inside.Changes.{holding, moved, taken, raised, is_opening, next_epoch, begun, opened_at};
-    ghost use Rattle.reorder_buffer.specs.Inside.Tests.{verdict_here, judged, anchor_at, IsAdmissible};
+    ghost use Rattle.reorder_buffer.specs.Inside.Tests.{verdict_here, judged, anchor_at, clock_at, IsAdmissible};
     ghost use Rattle.receiver_rules.specs.declared.bounds.TheConstants.{MAX_DELAY, MAX_RESTART, MAX_SPAN};
 
     /// A buffer of `span` packets (1 to 16,384) that plays each out `delay_ms` milliseconds (1 to 30,000) after its
     /// time. Another flow takes the place of the current one once nothing waits and no packet was kept for `restart_ms`
-    /// milliseconds (up to 60,000); where that is 0 none ever does. It takes the memory for all packets.
+    /// milliseconds (up to 60,000); where that is 0 none ever does. With `drift` deadlines follow a sender's clock that
+    /// drifts. It takes the memory for all packets.
     pub fn with_limits(
         alloc: Global,
         span: u64,
         delay_ms: u64,
         restart_ms: u64,
+        drift: bool,
     ) -> Result<Buffer, NoMemory>
         requires span { (1 ≤ span) × (span ≤ MAX_SPAN) }
         requires delay { (1 ≤ delay_ms) × (delay_ms ≤ MAX_DELAY) }
@@ -73,6 +77,7 @@ impl Buffer {
         ensures delay { IfOk result (λ b. b.limits.playout_delay ≡ 90 * delay_ms) }
         ensures span { IfOk result (λ b. b.limits.capacity ≡ span) }
         ensures restart { IfOk result (λ b. b.limits.restart_time ≡ 90 * restart_ms) }
+        ensures drift { IfOk result (λ b. b.limits.drift ≡ drift) }
         ensures running { IfOk result (λ b. b.phase ≡ Phase.Open) }
         ensures state { IfOk result (λ b. IsStateAfter b []) }
     {
@@ -82,6 +87,7 @@ impl Buffer {
                 playout_delay: 90 * delay_ms,
                 capacity: span,
                 restart_time: 90 * restart_ms,
+                drift,
             },
             phase: Phase::Open,
             time: 0,
@@ -91,6 +97,7 @@ impl Buffer {
             ring,
             last: 0,
             epoch: 0,
+            clock: Clock::starting(0),
         })
     }
 
@@ -257,6 +264,7 @@ impl Buffer {
 
     /// An arrival, by what the buffer keeps.
     fn take(&mut self, at: u64, arrival: &Arrival<'_>) -> Verdict
+        requires running { self.old.phase ≡ Phase.Open }
         requires tick { at < 2 ^ 61 }
         requires clock { self.old.time ≤ at }
         requires word { arrival.now.word < cycle_of arrival.now.width }
@@ -274,6 +282,7 @@ impl Buffer {
         requires clock { self.old.time ≤ at }
         ensures opened { self.new ≡ opened_at self.old at flow }
         ensures clock { self.new.time ≤ at }
+        ensures phase { self.new.phase ≡ self.old.phase }
     {
         if self.is_opening(at, flow) {
             self.begin_epoch(at);
@@ -318,6 +327,7 @@ impl Buffer {
 
     /// An arrival of the current epoch.
     fn take_in_epoch(&mut self, at: u64, arrival: &Arrival<'_>) -> Verdict
+        requires running { self.old.phase ≡ Phase.Open }
         requires tick { at < 2 ^ 61 }
         requires clock { self.old.time ≤ at }
         requires word { arrival.now.word < cycle_of arrival.now.width }
@@ -326,12 +336,15 @@ impl Buffer {
         ensures taken { self.new ≡ taken self.old at (seen arrival.now) }
     {
         let anchor = self.anchor_for(at, arrival);
-        let place = self.place(&anchor, arrival);
+        let clock = self.clock_for(at);
+        let place = self.place(&anchor, &clock, arrival);
         let verdict = self.verdict(&anchor, at, arrival.flow, &place);
+        let counts = verdict.counts(arrival.again);
+        let clock = clock_with(&self.limits, &anchor, &clock, at, place.timestamp, counts);
         if verdict.is_kept() {
             self.hold(&place, arrival.payload);
         }
-        self.move_to(at, anchor, verdict.is_kept());
+        self.move_to(at, anchor, clock, verdict.is_kept());
         verdict
     }
 
@@ -348,16 +361,29 @@ impl Buffer {
         }
     }
 
+    /// The epoch's clock, which may begin now.
+    fn clock_for(&self, at: u64) -> Clock
+        requires running { self.now.phase ≡ Phase.Open }
+        requires tick { at < 2 ^ 61 }
+        ensures value { result ≡ clock_at self.now at }
+        ensures within { IsClockWithin (start_of self.now.anchor at) (self.now.floor + length self.now.held) result }
+        ensures few { result.originals + 1 < 2 ^ 64 }
+        ensures base { IsNearBase (start_of self.now.anchor at) result.base }
+    {
+        clock_in(self.anchor, &self.clock, at)
+    }
+
     /// An arrival's place in the flow.
-    fn place(&self, anchor: &Anchor, arrival: &Arrival<'_>) -> Position
+    fn place(&self, anchor: &Anchor, clock: &Clock, arrival: &Arrival<'_>) -> Position
         requires anchor { anchor.now.time < 2 ^ 61 }
-        requires start { anchor.now.timestamp < 2 ^ 41 }
+        requires base { IsNearBase anchor.now.time clock.now.base }
+        requires start { anchor.now.timestamp < 2 ^ 60 + 2 ^ 32 }
         requires word { arrival.now.word < cycle_of arrival.now.width }
         ensures place { IsPlaceOf result
-            (placed_packet self.now.limits anchor.now self.now.highest (seen arrival.now)) }
+            (placed_packet self.now.limits anchor.now clock.now.base self.now.highest (seen arrival.now)) }
         ensures limits { AreInRange self.now.limits }
     {
-        place_of(&self.limits, anchor, self.highest, arrival)
+        place_of(&self.limits, anchor, clock, self.highest, arrival)
     }
 
     /// The first test that fits.
@@ -394,13 +420,16 @@ impl Buffer {
         self.highest = Some(highest_after(self.highest, place.number, place.timestamp));
     }
 
-    /// The epoch's first arrival fixes the anchor, each moves the time, and one that is kept is the last.
-    fn move_to(&mut self, at: u64, anchor: Anchor, kept: bool)
+    /// The epoch's first arrival fixes the anchor, each moves the time, one that is kept is the last, and an original
+    /// that is kept moves the clock.
+    fn move_to(&mut self, at: u64, anchor: Anchor, clock: Clock, kept: bool)
         requires anchor { IsEarlyAnchor at anchor }
         requires clock { self.old.time ≤ at }
-        ensures { self.new ≡ moved self.old at anchor kept }
+        requires within { IsClockWithin anchor.time (self.old.floor + length self.old.held) clock }
+        ensures { self.new ≡ moved self.old at anchor clock kept }
     {
         self.anchor = Some(anchor);
+        self.clock = clock;
         self.last = if kept { at } else { self.last };
         self.time = at;
     }

@@ -16,6 +16,10 @@ pub fn lowest_from(places: &[Option<Held>], index: &DeadlineIndex, low: u64) -> 
         → IsRising 0 (packets_in places.now blocks) → result ≡ first_number (packets_in places.now blocks) }
 {
     let start = (low % places.len() as u64) as usize;
+    // Mostly this number waits itself.
+    if let Some(number) = number_at(places, start) {
+        return Some(number);
+    }
     let first = match index.first_by(start, NEVER - 1) {
         Some(place) => Some(place),
         None => index.first_by(0, NEVER - 1),

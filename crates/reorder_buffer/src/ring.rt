@@ -201,7 +201,10 @@ impl Ring {
         self.places[place] = None;
         self.index.set(place, NEVER);
         self.count -= 1;
-        self.ends = ends_from(lowest_from(&self.places, &self.index, ends.low), ends.high);
+        self.ends = ends_from(
+            lowest_from(&self.places, &self.index, ends.low + 1),
+            ends.high,
+        );
     }
 
     /// Takes all packets out.

@@ -1,8 +1,9 @@
 //! The worked runs on the buffer, and generated ones beside the plain programs of the rules. Each run is made with releases
 //! and arrivals apart, and with both as one step.
-ghost use Rattle.std.specs.Prelude.{◌<◌, ◌≤◌, ◌^◌, IfOk};
+ghost use Rattle.std.specs.Prelude.{◌≡◌, ◌<◌, ◌≤◌, ◌^◌, ◌+◌, ◌*◌, [], IfOk};
 ghost use Rattle.std.specs.List.{All};
 ghost use Rattle.receiver_plain.specs.Told.{IsFit};
+ghost use Rattle.reorder_buffer.specs.StateAfter.{IsStateAfter};
 
 use crate::{Arrival, Buffer, MAX_PAYLOAD, Phase, Verdict, WriteFault};
 use outside_io::Store8;
@@ -30,7 +31,21 @@ fn play(alloc: Global, restart_ms: u64, steps: &[Step<'_>], sink: Store8) -> Res
     requires restart { restart_ms ≤ 2000 }
     requires steps { All IsFit steps.now }
 {
-    let mut buffer = Buffer::with_limits(alloc, SPAN, DELAY_MS, restart_ms)?;
+    let mut buffer = Buffer::with_limits(alloc, SPAN, DELAY_MS, restart_ms, false)?;
+    play_on(alloc, &mut buffer, steps, sink)
+}
+
+/// Plays steps on a new buffer.
+fn play_on(
+    alloc: Global,
+    buffer: &mut Buffer,
+    steps: &[Step<'_>],
+    sink: Store8,
+) -> Result<Played, Fail>
+    requires running { buffer.old.phase ≡ Phase.Open }
+    requires state { IsStateAfter buffer.old [] }
+    requires steps { All IsFit steps.now }
+{
     let mut played = Played {
         verdicts: Vec::new(alloc),
         sink,
@@ -70,7 +85,7 @@ fn play_as_one(
     requires restart { restart_ms ≤ 2000 }
     requires steps { All IsFit steps.now }
 {
-    let mut buffer = Buffer::with_limits(alloc, SPAN, DELAY_MS, restart_ms)?;
+    let mut buffer = Buffer::with_limits(alloc, SPAN, DELAY_MS, restart_ms, false)?;
     let mut played = Played {
         verdicts: Vec::new(alloc),
         sink,
@@ -147,6 +162,7 @@ fn agrees(alloc: Global, restart_ms: u64, steps: &[Step<'_>]) -> Result<bool, Fa
         playout_delay: 90 * DELAY_MS,
         capacity: SPAN,
         restart_time: 90 * restart_ms,
+        drift: false,
     };
     let apart = play(alloc, restart_ms, steps, Store8::with(alloc, 64, &[])?)?;
     let as_one = play_as_one(alloc, restart_ms, steps, Store8::with(alloc, 64, &[])?)?;
@@ -166,6 +182,7 @@ fn media(flow: u32, tick: u64, word: u32, stamp: u32, payload: &[u8]) -> Step<'_
 {
     let arrival = Arrival {
         flow,
+        again: false,
         width: Width::W16,
         word,
         stamp,
@@ -183,6 +200,26 @@ fn brings(tick: u64, word: u32, stamp: u32, payload: &[u8]) -> Step<'_>
     ensures { IsFit result }
 {
     media(0x1020_3040, tick, word, stamp, payload)
+}
+
+/// A retransmission of the same flow, without octets.
+fn resent(tick: u64, word: u32, stamp: u32) -> Step<'static>
+    requires tick { tick < 2 ^ 61 }
+    requires word { word < 2 ^ 16 }
+    ensures { IsFit result }
+{
+    let arrival = Arrival {
+        flow: 0x1020_3040,
+        again: true,
+        width: Width::W16,
+        word,
+        stamp,
+        payload: b"",
+    };
+    Step {
+        tick,
+        event: Event::Media(arrival),
+    }
 }
 
 fn passes(tick: u64) -> Step<'static>
@@ -244,9 +281,10 @@ fn the_span_counts_against_what_is_buffered(rt: HostRuntime) -> Result<(), Fail>
             b"AB"
         )?
     );
-    let mut widest = Buffer::with_limits(alloc, 16_384, 30_000, 60_000)?;
+    let mut widest = Buffer::with_limits(alloc, 16_384, 30_000, 60_000, true)?;
     let first = Arrival {
         flow: 7,
+        again: false,
         width: Width::W16,
         word: 3,
         stamp: 0,
@@ -288,10 +326,11 @@ fn a_failed_write_leaves_a_front_part_and_ends_the_buffer(rt: HostRuntime) -> Re
     let as_one = play_as_one(alloc, 0, &steps, Store8::with(alloc, 64, &[1])?)?;
     assert!(rt; as_one.failed);
     assert!(rt; gave(&as_one, &[Verdict::Kept, Verdict::Kept], b"A"));
-    let mut buffer = Buffer::with_limits(alloc, SPAN, DELAY_MS, 0)?;
+    let mut buffer = Buffer::with_limits(alloc, SPAN, DELAY_MS, 0, false)?;
     assert!(rt; buffer.flow().is_none() && buffer.first().is_none() && !buffer.ended());
     let arrival = Arrival {
         flow: 7,
+        again: false,
         width: Width::W16,
         word: 3,
         stamp: 0,
@@ -310,9 +349,10 @@ fn a_failed_write_leaves_a_front_part_and_ends_the_buffer(rt: HostRuntime) -> Re
 #[test]
 fn nothing_waits_after_a_failed_write(rt: HostRuntime) -> Result<(), Fail> {
     let alloc = rt.alloc();
-    let mut buffer = Buffer::with_limits(alloc, SPAN, DELAY_MS, 0)?;
+    let mut buffer = Buffer::with_limits(alloc, SPAN, DELAY_MS, 0, false)?;
     let first = Arrival {
         flow: 7,
+        again: false,
         width: Width::W16,
         word: 3,
         stamp: 0,
@@ -367,10 +407,11 @@ fn another_flow_takes_over_once_nothing_waits_and_the_restart_time_has_passed(
 #[test]
 fn a_flow_that_was_there_before_opens_an_epoch_again(rt: HostRuntime) -> Result<(), Fail> {
     let alloc = rt.alloc();
-    let mut buffer = Buffer::with_limits(alloc, SPAN, DELAY_MS, 500)?;
+    let mut buffer = Buffer::with_limits(alloc, SPAN, DELAY_MS, 500, false)?;
     let mut sink = Store8::with(alloc, 64, &[])?;
     let first = Arrival {
         flow: 7,
+        again: false,
         width: Width::W16,
         word: 60_000,
         stamp: 900,
@@ -460,6 +501,74 @@ fn generated_runs_agree_with_the_plain_programs(rt: HostRuntime) -> Result<(), F
         assert!(rt;
             agrees(rt.alloc(), restart_ms, steps.as_slice())?,
             "case {case}"
+        );
+    }
+    Ok(())
+}
+
+/// Number 0, with timestamp 0, at a tick, and each number from 1 up to another so many ticks after its timestamp, of
+/// which there are 90 for a number.
+fn drifting_run(
+    alloc: Global,
+    first: u64,
+    count: u32,
+    lag: u64,
+) -> Result<Vec<Step<'static>>, AllocError>
+    requires first { first ≤ 1000 }
+    requires count { count ≤ 10000 }
+    requires lag { lag ≤ 1000 }
+    ensures { IfOk result (λ steps. All IsFit steps.items) }
+{
+    let mut steps = Vec::new(alloc);
+    steps.push(brings(first, 0, 0, b""))?;
+    for k in 1..count {
+        steps.push(brings(90 * u64::from(k) + lag, k, 90 * k, b""))?;
+    }
+    Ok(steps)
+}
+
+/// The verdict on the last packet of a run, where there is room for 2,048.
+fn last_verdict(alloc: Global, drift: bool, steps: &[Step<'_>]) -> Result<Option<Verdict>, Fail>
+    requires { All IsFit steps.now }
+{
+    let mut buffer = Buffer::with_limits(alloc, 2048, DELAY_MS, 0, drift)?;
+    let played = play_on(alloc, &mut buffer, steps, Store8::with(alloc, 64, &[])?)?;
+    Ok(played.verdicts.as_slice().last().copied())
+}
+
+#[test]
+fn deadlines_follow_a_fast_clock(rt: HostRuntime) -> Result<(), Fail> {
+    let alloc = rt.alloc();
+    // The first packet was 50 ticks slower than all others: after a window the base is 41, and after six it is 0.
+    for (drift, number, tick, want) in [
+        (true, 1024, 182_200, Verdict::Kept),
+        (true, 1024, 182_201, Verdict::Late),
+        (false, 1024, 182_209, Verdict::Kept),
+        (false, 1024, 182_210, Verdict::Late),
+        (true, 6144, 642_959, Verdict::Kept),
+        (true, 6144, 642_960, Verdict::Late),
+    ] {
+        let mut steps = drifting_run(alloc, 50, number, 0)?;
+        steps.push(brings(tick, number, 90 * number, b""))?;
+        assert!(rt;
+            last_verdict(alloc, drift, steps.as_slice())? == Some(want),
+            "number {number} at {tick}"
+        );
+    }
+    Ok(())
+}
+
+#[test]
+fn a_kept_packet_keeps_its_deadline(rt: HostRuntime) -> Result<(), Fail> {
+    let alloc = rt.alloc();
+    // 2,048 ends the second window and is due at 274,230. Then the base is 9, and 2,047 is due at 274,239.
+    for (tick, want) in [(274_229, Verdict::Kept), (274_230, Verdict::Behind)] {
+        let mut steps = drifting_run(alloc, 0, 2047, 20)?;
+        steps.push(brings(184_250, 2048, 184_230, b""))?;
+        steps.push(resent(tick, 2047, 184_230))?;
+        assert!(rt;
+            last_verdict(alloc, true, steps.as_slice())? == Some(want),
+            "at {tick}"
         );
     }
     Ok(())

@@ -3,8 +3,10 @@ use Rattle.std.specs.Prelude.{ℕ, ◌+◌, Bool, true, not, ◌&&◌, ◌==◌,
 use Rattle.receiver_rules.specs.declared.anchor.Anchor.{Anchor}
 use Rattle.receiver_rules.specs.Packets.{Packet, insert_by_number, is_from, higher, is_kept}
 use Rattle.std.specs.List.{filter}
+use Rattle.receiver_rules.specs.declared.clock.Clock.{Clock}
+use Rattle.receiver_rules.specs.Seen.{counted_clock}
 use Rattle.receiver_rules.specs.Steps.{Arrival}
-use Rattle.reorder_buffer.specs.Inside.Tests.{anchor_at, placed_at, judged}
+use Rattle.reorder_buffer.specs.Inside.Tests.{anchor_at, clock_at, placed_at, judged}
 use Rattle.reorder_buffer.specs.State.{State}
 
 -- one more packet waits
@@ -20,11 +22,13 @@ holding b p =
       held = insert_by_number p b.held;
       last = b.last;
       epoch = b.epoch;
+      clock = b.clock;
     }
 
--- the first arrival of an epoch fixes the anchor, each moves the time, and one that is kept is the last
-abbrev pub moved : State → ℕ → Anchor → Bool → State
-moved b t a kept =
+-- the first arrival of an epoch fixes the anchor, each moves the time, one that is kept is the last, and an original
+-- that is kept moves the clock
+abbrev pub moved : State → ℕ → Anchor → Clock → Bool → State
+moved b t a clock kept =
     record {
       limits = b.limits;
       phase = b.phase;
@@ -35,13 +39,18 @@ moved b t a kept =
       held = b.held;
       last = if kept then t else b.last;
       epoch = b.epoch;
+      clock = clock;
     }
+
+-- the clock after an arrival of the epoch
+abbrev pub clock_then : State → ℕ → Arrival → Bool → Clock
+clock_then b t arrival kept = counted_clock b.limits (anchor_at b t arrival) (clock_at b t) t (placed_at b t arrival).timestamp (kept && not arrival.again)
 
 -- what one arrival of the epoch leaves
 abbrev pub taken : State → ℕ → Arrival → State
 taken b t arrival =
     let kept = is_kept (judged b t arrival) in
-    moved (if kept then holding b (placed_at b t arrival) else b) t (anchor_at b t arrival) kept
+    moved (if kept then holding b (placed_at b t arrival) else b) t (anchor_at b t arrival) (clock_then b t arrival kept) kept
 
 -- the packets below the floor have gone out
 abbrev pub raised : State → ℕ → State
@@ -56,6 +65,7 @@ raised b floor =
       held = filter (is_from floor) b.held;
       last = b.last;
       epoch = b.epoch;
+      clock = b.clock;
     }
 
 -- ---- epochs
@@ -85,6 +95,7 @@ begun b None t =
       held = b.held;
       last = t;
       epoch = b.epoch;
+      clock = b.clock;
     }
 begun b (Some anchor) t =
     record {
@@ -97,6 +108,7 @@ begun b (Some anchor) t =
       held = b.held;
       last = t;
       epoch = b.epoch + 1;
+      clock = b.clock;
     }
 
 -- what a packet of this flow finds: a new epoch, where it opens one

@@ -26,4 +26,5 @@ state_of b =
       held = b.ring.packets;
       last = b.last;
       epoch = b.epoch;
+      clock = b.clock;
     }

@@ -6,6 +6,8 @@ use Rattle.receiver_rules.specs.declared.anchor.Anchor.{Anchor}
 use Rattle.receiver_rules.specs.Steps.{Arrival}
 use Rattle.receiver_rules.specs.Epochs.{new_anchor}
 use Rattle.receiver_rules.specs.Packets.{Packet, Tests, first_verdict, distance, placed_packet}
+use Rattle.receiver_rules.specs.declared.clock.Clock.{Clock}
+use Rattle.receiver_rules.specs.Seen.{begun_clock}
 use Rattle.receiver_rules.specs.Bounds.{IsMid}
 use Rattle.reorder_buffer.specs.State.{State}
 
@@ -30,9 +32,13 @@ verdict_here b anchor t flow number deadline = first_verdict (tests_here b ancho
 abbrev pub anchor_at : State → ℕ → Arrival → Anchor
 anchor_at b t arrival = unwrap_or b.anchor (new_anchor t arrival)
 
+-- and by which clock, which may begin then
+abbrev pub clock_at : State → ℕ → Clock
+clock_at b t = begun_clock b.anchor b.clock t
+
 -- an arrival with its place
 abbrev pub placed_at : State → ℕ → Arrival → Packet
-placed_at b t arrival = placed_packet b.limits (anchor_at b t arrival) b.highest arrival
+placed_at b t arrival = placed_packet b.limits (anchor_at b t arrival) (clock_at b t).base b.highest arrival
 
 -- the verdict on an arrival, where nothing more goes out before
 abbrev pub judged : State → ℕ → Arrival → Verdict

@@ -1,8 +1,11 @@
 -- What goes out at the end is what the history says.
-use Rattle.std.proofs.Common.{◌∷◌, ◌∙◌, ap, refl, sym, subst}
+use Rattle.std.proofs.Common.{◌≡◌, ◌∷◌, ◌∙◌, ap, refl, sym, subst}
 use Rattle.receiver_rules.specs.Steps.{end_step}
 use Rattle.receiver_rules.specs.Packets.{Ever}
+use Rattle.reorder_buffer.specs.State.{State}
 use Rattle.reorder_buffer.specs.StateAfter.{Shows}
+use Rattle.reorder_buffer.specs.declared.phase.Phase.TheVariants.{Open}
+use Rattle.reorder_buffer.proofs.PhaseLemmas.{not_failed}
 use Rattle.reorder_buffer.proofs.WriteLemmas.{on_err_always}
 use Rattle.reorder_buffer.proofs.ReleaseLemmas.{ended, end_follows, shows_end, written_then, part_then, count_then, nothing_then}
 use Rattle.reorder_buffer.proofs.buffer.Buffer.flush.Goals as goal
@@ -29,3 +32,23 @@ pub returns-in_err-count-clause-complete : goal.returns-in_err-count-clause-comp
 returns-in_err-count-clause-complete g c none =
     let fine = c.in_err-count.ensures.complete (nothing_then c.args.self.now none.0 end_step Ever (end_follows c.args.self.now none.0 none.1 c.requires.running) none.2) in
     cc
+
+pub invariant_of-self : goal.invariant_of-self
+invariant_of-self g c =
+    let i = c.self.invariant.state in
+    let was : c.self.inside.phase ≡ Open = ap (λ (b : State). b.phase) (c.self.view_is ∙ c.in_ok-count.ensures.ok) ∙ c.requires.running in
+    record {
+      state = record {
+        limits = i.limits;
+        anchor = i.anchor;
+        highest = i.highest;
+        rising = i.rising;
+        within = i.within;
+        below = i.below;
+        last = i.last;
+        epoch = i.epoch;
+        floor = i.floor;
+        clock = λ live. i.clock (not_failed c.self.inside.phase was);
+      };
+      places = c.self.invariant.places;
+    }

@@ -7,7 +7,7 @@ use Rattle.reorder_buffer.specs.State.{State}
 use Rattle.reorder_buffer.specs.Inside.Shown.{state_of}
 use Rattle.reorder_buffer.specs.Inside.Release.{floor_then}
 use Rattle.reorder_buffer.specs.Inside.Sound.{IsSound}
-use Rattle.reorder_buffer.proofs.ReleaseLemmas.{few_held, sound-raised}
+use Rattle.reorder_buffer.proofs.ReleaseLemmas.{few_held, floor_then_rises, floor_then_small, sound-raised}
 use Rattle.reorder_buffer.proofs.buffer.Buffer.let_out.Goals as goal
 
 pub put_due-requires-clause-few : goal.put_due-requires-clause-few
@@ -22,10 +22,10 @@ invariant_of-self g c =
     let m = moment_of c.args.until in
     let floor = floor_then b m in
     record {
-      state = subst (λ n. IsSound (record { limits = b.limits; phase = b.phase; time = b.time; anchor = b.anchor; highest = b.highest; floor = n; held = c.put_due.new.ring.packets; last = b.last; epoch = b.epoch })) (sym c.in-Ok.ensures.floor)
-          (subst (λ packets. IsSound (record { limits = b.limits; phase = b.phase; time = b.time; anchor = b.anchor; highest = b.highest; floor = floor; held = packets; last = b.last; epoch = b.epoch }))
+      state = subst (λ n. IsSound (record { limits = b.limits; phase = b.phase; time = b.time; anchor = b.anchor; highest = b.highest; floor = n; held = c.put_due.new.ring.packets; last = b.last; epoch = b.epoch; clock = b.clock })) (sym c.in-Ok.ensures.floor)
+          (subst (λ packets. IsSound (record { limits = b.limits; phase = b.phase; time = b.time; anchor = b.anchor; highest = b.highest; floor = floor; held = packets; last = b.last; epoch = b.epoch; clock = b.clock }))
           (sym c.in-Ok.ensures.rest)
-          (sound-raised b floor c.self.invariant.state));
+          (sound-raised b floor (floor_then_rises b m) (floor_then_small b m c.self.invariant.state) c.self.invariant.state));
       places = c.put_due.ensures.capacity ∙ c.self.invariant.places;
     }
 

@@ -1,20 +1,28 @@
 -- The place of the lowest number is free.
-use Rattle.std.proofs.Common.{◌≡◌, ◌%◌, ◌<◌, ◌-◌, None, length, ap, sym, ◌∙◌, subst}
+use Rattle.std.proofs.Common.{◌≡◌, ◌+◌, ◌%◌, ◌<◌, ◌-◌, None, length, ap, sym, ◌∙◌, subst, arith}
 use Rattle.std.specs.Prelude.{slice_set}
 use Rattle.reorder_buffer.specs.Inside.Ring.{Waiting, packets_in, after_first, first_number, IsRing, ends_from}
 use Rattle.receiver_rules.specs.Packets.{IsRising}
 use Rattle.reorder_buffer.specs.Inside.Around.{IsAround}
-use Rattle.reorder_buffer.proofs.RingChangeLemmas.{ring_around, dropped_around, ring_taken, ring_dropped}
+use Rattle.reorder_buffer.proofs.RingChangeLemmas.{ring_around, raised_around, ring_taken, ring_dropped}
+use Rattle.reorder_buffer.proofs.SpanLemmas.{low_high}
 use Rattle.reorder_buffer.proofs.ring.Ring.drop_first.Goals as goal
+
+pub overflow_add-ends : goal.overflow_add-ends
+overflow_add-ends c =
+    let high = c.self.invariant.high c.in-Some.ends c.in-Some.is in
+    let low = low_high (packets_in c.self.inside.places.items c.self.inside.pool.items) c.in-Some.ends (sym c.self.invariant.bounded ∙ c.in-Some.is) c.self.invariant.rising in
+    omega arith
 
 pub lowest_from-requires : goal.lowest_from-requires
 lowest_from-requires c =
     let wide = ap (λ (w : Waiting). w.capacity) c.self.view_is in
     let low = subst (λ n. c.place_of-place.result < n) (sym wide) c.place_of-place.ensures.within in
-    let a = dropped_around c.in-Some.ends.low c.self.inside.places.items c.self.inside.index c.place_of-place.result low
+    let at = c.place_of-place.ensures.value ∙ ap (λ n. c.in-Some.ends.low % n) (sym wide) in
+    let a = raised_around c.in-Some.ends.low c.self.inside.places.items c.self.inside.index c.place_of-place.result low at
     (ring_around c.self.inside.places.items c.self.inside.pool.items c.self.inside.index c.self.inside.ends c.self.inside.count c.in-Some.ends c.self.invariant c.in-Some.is) in
-    subst (λ xs. IsAround c.in-Some.ends.low xs c.set.new.self) (sym c.deref.ensures.value)
-    (subst (IsAround c.in-Some.ends.low (slice_set c.self.inside.places.items c.place_of-place.result None)) (sym c.set.ensures.value) a)
+    subst (λ xs. IsAround (c.in-Some.ends.low + 1) xs c.set.new.self) (sym c.deref.ensures.value)
+    (subst (IsAround (c.in-Some.ends.low + 1) (slice_set c.self.inside.places.items c.place_of-place.result None)) (sym c.set.ensures.value) a)
 
 pub invariant_of-self : goal.invariant_of-self
 invariant_of-self c =
