@@ -83,6 +83,7 @@ fn play_fit(alloc: Global, setting: &Setting, steps: &[Step<'_>]) -> Result<Vec<
         setting.span,
         setting.delay_ms,
         setting.restart_ms,
+        false,
     )?;
     let mut timer = Timer::with_span(alloc, setting.span, setting.settings)?;
     let mut known = None;
@@ -186,6 +187,7 @@ fn ask(
         playout_delay: 90 * setting.delay_ms,
         capacity: setting.span,
         restart_time: 90 * setting.restart_ms,
+        drift: false,
     };
     let policy = setting.settings.policy();
     let rtt = tick_of(longest_rtt(before));
@@ -228,6 +230,7 @@ fn comes(tick: u64, word: u32, stamp: u32) -> Step<'static> {
 fn comes_of(flow: u32, tick: u64, word: u32, stamp: u32) -> Step<'static> {
     let arrival = Arrival {
         flow,
+        again: false,
         width: Width::W16,
         word,
         stamp,

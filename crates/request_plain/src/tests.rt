@@ -13,6 +13,7 @@ const LIMITS: Limits = Limits {
     playout_delay: 90_000,
     capacity: 8,
     restart_time: 180_000,
+    drift: false,
 };
 
 /// A tolerance of 25 ms, and at least 50 ms between two requests.
@@ -34,6 +35,7 @@ fn packet(tick: u64, word: u32, stamp: u32) -> Step<'static>
 {
     let arrival = Arrival {
         flow: 0x1020_3040,
+        again: false,
         width: Width::W16,
         word,
         stamp,

@@ -1,5 +1,5 @@
 -- The worked runs, computed from the definitions.
-use Rattle.std.specs.Prelude.{◌≡◌, ℕ, List, [], ◌∷◌, ◌++◌, length, true, Option, None, Some}
+use Rattle.std.specs.Prelude.{◌≡◌, ℕ, List, [], ◌∷◌, ◌++◌, length, true, Option, None, Some, false}
 use Rattle.std.specs.List.{range_with_len}
 use Rattle.std.proofs.Common.{refl}
 use Rattle.rist_rtt.specs.Echo.{EchoOf}
@@ -138,7 +138,7 @@ one_alone = refl
 
 -- a run across 65,536 stays one word
 abbrev wide_span : Limits
-wide_span = record { playout_delay = 90000; capacity = 16; restart_time = 0 }
+wide_span = record { playout_delay = 90000; capacity = 16; restart_time = 0; drift = false }
 
 across : words_at wide_span (patient Range 8) (comes W16 0 65530 0 ∷ comes W16 0 4 900 ∷ []) 2250 ≡ word 65531 8 ∷ []
 unfolding nearest

@@ -1,5 +1,5 @@
 -- Worked runs. A run is written in the order in which it happened.
-use Rattle.std.specs.Prelude.{ℕ, ◌+◌, ◌*◌, ◌-◌, ◌/◌, ◌^◌, max, List, [], map, reverse, None, Some}
+use Rattle.std.specs.Prelude.{ℕ, ◌+◌, ◌*◌, ◌-◌, ◌/◌, ◌^◌, max, List, [], map, reverse, None, Some, false}
 use Rattle.std.specs.List.{range_with_len}
 use Rattle.receiver_rules.specs.declared.limits.Limits.{Limits}
 use Rattle.seq_unwrap.specs.declared.width.Width.{Width}
@@ -13,11 +13,11 @@ use Rattle.request_rules.specs.Requests.{asked_words}
 
 -- a delay of one second, and a span of 8
 abbrev pub usual : Limits
-usual = record { playout_delay = 90000; capacity = 8; restart_time = 0 }
+usual = record { playout_delay = 90000; capacity = 8; restart_time = 0; drift = false }
 
 -- and a restart time of two seconds
 abbrev pub restarting : Limits
-restarting = record { playout_delay = 90000; capacity = 8; restart_time = 180000 }
+restarting = record { playout_delay = 90000; capacity = 8; restart_time = 180000; drift = false }
 
 -- a tolerance of 25 ms, at least 50 ms between two requests, and so many of them
 abbrev pub patient : NackKind → ℕ → Policy
@@ -26,7 +26,7 @@ patient kind tries = record { reorder_tolerance = 2250; retry_interval = 4500; r
 -- a packet of a flow on link 0, with a width and no payload
 abbrev pub comes_of : ℕ → Width → ℕ → ℕ → ℕ → Step
 comes_of flow width tick word timestamp =
-    let arrival : Arrival = record { flow = flow; width = width; word = word; timestamp = timestamp; payload = [] } in
+    let arrival : Arrival = record { flow = flow; again = false; width = width; word = word; timestamp = timestamp; payload = [] } in
     record { link = 0; tick = tick; input = Media arrival }
 
 -- the same of one flow

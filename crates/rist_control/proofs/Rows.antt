@@ -114,7 +114,7 @@ in_a_generic_nack = refl
 
 -- where numbers have 32 bits an extension stands before each group: a run across 65,536 stands in the group of its first number
 abbrev wide_span : Limits
-wide_span = record { playout_delay = 90000; capacity = 16; restart_time = 0 }
+wide_span = record { playout_delay = 90000; capacity = 16; restart_time = 0; drift = false }
 
 extended : made (end_of wide_span (patient Range 8) false) (clock 0 ∷ comes W32 0 65530 0 ∷ comes W32 0 65538 900 ∷ comes W32 0 65541 1800 ∷ []) (clock 2250)
     ≡ Compound (opening 7 ++ application 1 270544960 rist_name (0 ∷ 0 ∷ 0 ∷ 0 ∷ []) ∷ application 0 270544960 rist_name (255 ∷ 251 ∷ 0 ∷ 6 ∷ [])
