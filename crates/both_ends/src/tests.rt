@@ -135,6 +135,7 @@ impl Far {
         let settings = rist_ends::Settings {
             delay: 1000,
             restart: 500,
+            drift: false,
             span: 64,
             reorder: 25,
             least: 50,

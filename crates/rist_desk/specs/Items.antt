@@ -21,7 +21,7 @@ use Rattle.rist_desk.specs.Made.{echoes_of, event_of}
 
 -- media with its null packets restored
 abbrev pub packet_read : MediaValue → Packet
-packet_read m = record { flow = m.flow; width = m.width; word = m.word; stamp = m.stamp; payload = content_of m }
+packet_read m = record { flow = m.flow; again = m.again; width = m.width; word = m.word; stamp = m.stamp; payload = content_of m }
 
 -- what a datagram brings at a moment in microseconds: its item, or that it was refused
 abbrev pub event_read : ℕ → Result Item WireBad → Event

@@ -166,7 +166,7 @@ fn served_anew<L: Link + Drop + Send, R: Threads + Wait + Sync>(
     requires some { 0 < length workers.old }
     requires few { length workers.old ≤ 16 }
 {
-    let receiver = Receiver::with(alloc, &Settings::muted(1000, 8, 0), &simple(), None)?;
+    let receiver = Receiver::with(alloc, &Settings::muted(1000, 8, 0, false), &simple(), None)?;
     let trace: Kept<Step> = Kept::with(alloc, 64)?;
     let sink = Store8::with(alloc, 64, &[])?;
     Ok(served::<Brand, L, R>(rt, receiver, trace, sink, workers))

@@ -54,6 +54,7 @@ fn bring<N: Name, T: StepTrace + Drop, K: Sink + Drop>(
         us: 0,
         what: What::Media(Arrival {
             flow: 0x1020_3040,
+            again: false,
             width: Width::W16,
             word: word as u32,
             stamp: (word as u32).saturating_sub(10) * 900,
@@ -98,7 +99,7 @@ fn stepped<N: Name, T: StepTrace + Drop>(
 
 /// The same with a trace of so many steps.
 fn kept(alloc: Global, limit: usize, order: &[u8; 4]) -> Result<Run<Kept<Step>>, Fail> {
-    let receiver = Receiver::with(alloc, &Settings::muted(1000, 8, 0), &simple(), None)?;
+    let receiver = Receiver::with(alloc, &Settings::muted(1000, 8, 0, false), &simple(), None)?;
     let trace: Kept<Step> = Kept::with(alloc, limit)?;
     let sink = Store8::with(alloc, 64, &[])?;
     stepped::<Brand, Kept<Step>>(alloc, receiver, trace, sink, order)
@@ -106,7 +107,7 @@ fn kept(alloc: Global, limit: usize, order: &[u8; 4]) -> Result<Run<Kept<Step>>,
 
 /// The same with a trace that keeps nothing, and a sink whose third write fails.
 fn silent(alloc: Global, order: &[u8; 4]) -> Result<Run<Quiet>, Fail> {
-    let receiver = Receiver::with(alloc, &Settings::muted(1000, 8, 0), &simple(), None)?;
+    let receiver = Receiver::with(alloc, &Settings::muted(1000, 8, 0, false), &simple(), None)?;
     let sink = Store8::with(alloc, 64, &[2])?;
     stepped::<Brand, Quiet>(alloc, receiver, Quiet::new(), sink, order)
 }
@@ -212,7 +213,7 @@ fn looked<N: Name>(
 
 /// The same in memory.
 fn looking(alloc: Global) -> Result<(Side, Side, Kept<Step>, Counting), Fail> {
-    let receiver = Receiver::with(alloc, &Settings::muted(1000, 8, 0), &simple(), None)?;
+    let receiver = Receiver::with(alloc, &Settings::muted(1000, 8, 0, false), &simple(), None)?;
     let trace: Kept<Step> = Kept::with(alloc, 8)?;
     let sink = Counting {
         inner: Store8::with(alloc, 64, &[])?,

@@ -84,7 +84,7 @@ end_state b new history now tick at g s live =
     let shows : Shows new (end_step ∷ time_step at ∷ history) = s live in
     let time = shows.time in
     let e = same_time b history now tick at g in
-    record { phase = shows.phase; time = omega (arith, time, e); anchor = shows.anchor; highest = shows.highest; floor = shows.floor; held = shows.held; last = shows.last; epoch = shows.epoch }
+    record { phase = shows.phase; time = omega (arith, time, e); anchor = shows.anchor; highest = shows.highest; floor = shows.floor; held = shows.held; last = shows.last; epoch = shows.epoch; clock = shows.clock }
 
 pub writes_both : (a b c : Option (List ℕ)) (first middle whole : List ℕ) → Writes a b first middle → Writes b c middle whole → Writes a c first whole
 writes_both a b c first middle whole v w = (

@@ -1,5 +1,5 @@
 -- What a receiver is set to.
-use Rattle.std.specs.Prelude.{ℕ, ◌≤◌, ◌*◌, true}
+use Rattle.std.specs.Prelude.{ℕ, Bool, ◌≤◌, ◌*◌, true}
 use Rattle.receiver_rules.specs.declared.bounds.TheConstants.{MAX_DELAY, MAX_RESTART, MAX_SPAN}
 use Rattle.receiver_rules.specs.declared.limits.Limits.{Limits}
 use Rattle.nack_timer.specs.declared.settings.Settings.{Settings as TimerSettings}
@@ -24,7 +24,7 @@ pub record IsInRange (settings : Settings) : Type 0 where
 
 -- the limits of its buffer, in ticks and packets
 abbrev pub limits_of : Settings → Limits
-limits_of settings = record { playout_delay = 90 * settings.delay; capacity = settings.span; restart_time = 90 * settings.restart }
+limits_of settings = record { playout_delay = 90 * settings.delay; capacity = settings.span; restart_time = 90 * settings.restart; drift = settings.drift }
 
 -- when it asks
 abbrev pub timer_settings : Settings → TimerSettings
@@ -42,6 +42,6 @@ control_settings settings session =
     }
 
 -- a receiver that plays out and sends nothing back
-abbrev pub muted_settings : ℕ → ℕ → ℕ → Settings
-muted_settings delay span restart =
-    record { delay = delay; span = span; restart = restart; reorder = 25; least = 50; tries = 0; nack = Range; own = 7; muted = true }
+abbrev pub muted_settings : ℕ → ℕ → ℕ → Bool → Settings
+muted_settings delay span restart drift =
+    record { delay = delay; span = span; restart = restart; drift = drift; reorder = 25; least = 50; tries = 0; nack = Range; own = 7; muted = true }

@@ -32,6 +32,7 @@ fn arrival_in<'a>(media: &Media<'a>, block: &'a mut [u8; MAX_PAYLOAD]) -> Arriva
 {
     Arrival {
         flow: media.flow,
+        again: media.again,
         width: media.width,
         word: media.word,
         stamp: media.stamp,

@@ -63,7 +63,13 @@ impl Receiver {
         ensures running { IfOk result (λ r. r.buffer.phase ≡ Open) }
         ensures state { IfOk result (λ r. IsReceiverAfter r []) }
     {
-        let buffer = Buffer::with_limits(alloc, settings.span, settings.delay, settings.restart)?;
+        let buffer = Buffer::with_limits(
+            alloc,
+            settings.span,
+            settings.delay,
+            settings.restart,
+            settings.drift,
+        )?;
         let reporter = Reporter::with(
             alloc,
             settings.span,

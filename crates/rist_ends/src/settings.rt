@@ -14,6 +14,8 @@ pub struct Settings {
     /// How long no packet must have been kept before another flow takes over, in milliseconds: at most 60,000. Where it
     /// is 0 none does.
     pub restart: u64,
+    /// Whether deadlines follow a sender's clock that drifts.
+    pub drift: bool,
     /// How long a packet may be missing before it is asked for, in milliseconds: at most 1,000.
     pub reorder: u64,
     /// The least time between two requests for one packet, in milliseconds: 5 to 1,000. A longer round-trip time counts
@@ -30,15 +32,16 @@ pub struct Settings {
 }
 
 impl Settings {
-    /// Those of a receiver that plays out and sends nothing back: its delay in milliseconds, its span in packets, and
-    /// its restart time in milliseconds.
-    pub fn muted(delay: u64, span: u64, restart: u64) -> Settings
-        ensures value { result ≡ muted_settings delay span restart }
+    /// Those of a receiver that plays out and sends nothing back: its delay in milliseconds, its span in packets, its
+    /// restart time in milliseconds, and whether deadlines follow a clock that drifts.
+    pub fn muted(delay: u64, span: u64, restart: u64, drift: bool) -> Settings
+        ensures value { result ≡ muted_settings delay span restart drift }
     {
         Settings {
             delay,
             span,
             restart,
+            drift,
             reorder: 25,
             least: 50,
             tries: 0,

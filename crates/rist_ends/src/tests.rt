@@ -1,5 +1,5 @@
 //! Worked runs on a receiver, its counts, how it stops, and what it sends back.
-ghost use Rattle.std.specs.Prelude.{◌≡◌, ◌<◌, ◌≤◌, ◌^◌, None, false, length};
+ghost use Rattle.std.specs.Prelude.{◌≡◌, ◌<◌, ◌≤◌, ◌^◌, None, false, length, IfOk};
 ghost use Rattle.rist_wire.specs.Session.{IsSession};
 ghost use Rattle.rist_ends.specs.Settings.{IsInRange};
 ghost use Rattle.std.specs.List.{All};
@@ -24,6 +24,8 @@ const LATE: Answer = Answer::Verdict(Verdict::Late);
 const TWICE: Answer = Answer::Verdict(Verdict::Twice);
 
 const STRANGER: Answer = Answer::Verdict(Verdict::Stranger);
+
+const BEHIND: Answer = Answer::Verdict(Verdict::Behind);
 
 /// The session of RIST's Simple Profile.
 fn simple() -> Session
@@ -53,7 +55,21 @@ struct Played {
 fn play(alloc: Global, steps: &[Told<'_>], sink: Store8) -> Result<Played, Fail>
     requires { All IsFit steps.now }
 {
-    let mut receiver = Receiver::with(alloc, &Settings::muted(1000, 8, 2000), &simple(), None)?;
+    let settings = Settings::muted(1000, 8, 2000, false);
+    let receiver = Receiver::with(alloc, &settings, &simple(), None)?;
+    play_on(alloc, receiver, steps, sink)
+}
+
+/// Steps what is told on a receiver.
+fn play_on(
+    alloc: Global,
+    receiver: Receiver,
+    steps: &[Told<'_>],
+    sink: Store8,
+) -> Result<Played, Fail>
+    requires { All IsFit steps.now }
+{
+    let mut receiver = receiver;
     let mut outs = Outs::none();
     let mut answers = Vec::new(alloc);
     let mut sink = sink;
@@ -82,6 +98,7 @@ fn media(flow: u32, us: u64, word: u32, payload: &[u8]) -> Told<'_>
 {
     let arrival = Arrival {
         flow,
+        again: false,
         width: Width::W16,
         word,
         stamp: 900 * (word - 10),
@@ -282,6 +299,90 @@ fn another_flow_takes_over_after_the_restart_time(rt: HostRuntime) -> Result<(),
     Ok(())
 }
 
+/// A packet without octets at a tick.
+fn comes(tick: u64, word: u32, stamp: u32, again: bool) -> Told<'static>
+    requires tick { tick < 2 ^ 40 }
+    requires word { word < 2 ^ 16 }
+    ensures { IsFit result }
+{
+    let arrival = Arrival {
+        flow: 0x1020_3040,
+        again,
+        width: Width::W16,
+        word,
+        stamp,
+        payload: b"",
+    };
+    Told {
+        link: 0,
+        us: (100 * tick).div_ceil(9),
+        what: What::Media(arrival),
+    }
+}
+
+/// Number 0, with timestamp 0, at a tick, and each number from 1 up to another so many ticks after its timestamp, of
+/// which there are 90 for a number.
+fn drifting_run(alloc: Global, first: u64, count: u32, lag: u64) -> Result<Vec<Told<'static>>, Fail>
+    requires first { first ≤ 1000 }
+    requires count { count ≤ 10000 }
+    requires lag { lag ≤ 1000 }
+    ensures { IfOk result (λ steps. All IsFit steps.items) }
+{
+    let mut steps = Vec::new(alloc);
+    steps.push(comes(first, 0, 0, false))?;
+    for number in 1..count {
+        let tick = 90 * u64::from(number) + lag;
+        steps.push(comes(tick, number, 90 * number, false))?;
+    }
+    Ok(steps)
+}
+
+/// What a receiver with a span of 2,048 answers to the last of some steps, with compensation of drift or without.
+fn last_answer(alloc: Global, drift: bool, steps: &[Told<'_>]) -> Result<Option<Answer>, Fail>
+    requires { All IsFit steps.now }
+{
+    let settings = Settings::muted(1000, 2048, 0, drift);
+    let receiver = Receiver::with(alloc, &settings, &simple(), None)?;
+    let played = play_on(alloc, receiver, steps, Store8::with(alloc, 64, &[])?)?;
+    Ok(played.answers.as_slice().last().copied())
+}
+
+#[test]
+fn deadlines_follow_a_clock_that_drifts(rt: HostRuntime) -> Result<(), Fail> {
+    let alloc = rt.alloc();
+    // The first packet was 50 ticks slower than all others: after a window the base is 41.
+    for (drift, tick, want) in [
+        (true, 182_200, KEPT),
+        (true, 182_201, LATE),
+        (false, 182_209, KEPT),
+        (false, 182_210, LATE),
+    ] {
+        let mut steps = drifting_run(alloc, 50, 1024, 0)?;
+        steps.push(comes(tick, 1024, 92_160, false))?;
+        assert!(rt;
+            last_answer(alloc, drift, steps.as_slice())? == Some(want),
+            "at {tick}"
+        );
+    }
+    Ok(())
+}
+
+#[test]
+fn a_kept_packet_keeps_its_deadline(rt: HostRuntime) -> Result<(), Fail> {
+    let alloc = rt.alloc();
+    // 2,048 ends the second window and is due at 274,230. Then the base is 9, and 2,047 is due at 274,239.
+    for (tick, want) in [(274_229, KEPT), (274_230, BEHIND)] {
+        let mut steps = drifting_run(alloc, 0, 2047, 20)?;
+        steps.push(comes(184_250, 2048, 184_230, false))?;
+        steps.push(comes(tick, 2047, 184_230, true))?;
+        assert!(rt;
+            last_answer(alloc, true, steps.as_slice())? == Some(want),
+            "at {tick}"
+        );
+    }
+    Ok(())
+}
+
 /// A receiver with SSRC 7, a delay of a second, a span of 8, a tolerance of 25 ms and eight tries.
 fn asking(nack: NackKind, least: u64) -> Settings
     requires { (5 ≤ least) × (least ≤ 1000) }
@@ -292,6 +393,7 @@ fn asking(nack: NackKind, least: u64) -> Settings
         delay: 1000,
         span: 8,
         restart: 2000,
+        drift: false,
         reorder: 25,
         least,
         tries: 8,
@@ -519,6 +621,7 @@ fn brings_wide(us: u64, word: u32, stamp: u32) -> Told<'static>
         us,
         what: What::Media(Arrival {
             flow: 0x1020_3040,
+            again: false,
             width: Width::W32,
             word,
             stamp,

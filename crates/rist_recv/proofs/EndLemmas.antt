@@ -197,15 +197,15 @@ torn_by given d new failed r outs read own tear t f some told is = record {
 -- ---- what was reached
 
 pub whole_is_exact : (given : Given) (p : SentStream) (run : List Delivery) (steps : List Step) (kept : Option (List Step)) (contents : Option (List ℕ)) (octets : List ℕ)
-    → IsWhole given (Some steps) kept contents → contents ≡ Some octets → IsRunOf p run steps → 1 ≤ given.settings.limits.playout_delay → HasSteadyTimestamps p
+    → IsWhole given (Some steps) kept contents → contents ≡ Some octets → IsRunOf p run steps → 1 ≤ given.settings.limits.playout_delay → HasSteadyTimestamps p → given.settings.limits.drift ≡ false
     → AreDeliveriesOf given.settings.limits p run → octets ≡ concat (reached_payloads given.settings.limits p run)
-whole_is_exact given p run steps kept contents octets whole told is some steady honest =
+whole_is_exact given p run steps kept contents octets whole told is some steady stays honest =
     let all : List Step = steps ++ the_end ∷ [] in
     let back : reverse all ≡ the_end ∷ reverse steps = reverse_more steps the_end in
     whole.sink all octets whole.ended told
     ∙ ap (released_by (setup_of given)) back
     ∙ ap (λ h. concat (released_payloads given.settings.limits (end_step ∷ h))) is
-    ∙ ap concat (sent.release_set given.settings.limits p run steady some honest)
+    ∙ ap concat (sent.release_set given.settings.limits p run steady some stays honest)
 
 -- and of one epoch after another
 pub whole_by_epochs : (given : Given) (streams : SentStreams) (run : List Transfer) (steps : List Step) (kept : Option (List Step)) (contents : Option (List ℕ)) (octets : List ℕ)

@@ -129,8 +129,8 @@ pub exactly : (given : Given) (desk : DeskState) (own : List (List Step)) (count
     → ((steps : List Step) → desk.kept ≡ Some steps → StandsFor given desk (reverse steps)) → HasReceived given desk.kept desk.contents own → IsExact given desk own counts
 exactly given desk own counts delay settings same stands received = record {
   received = received;
-  reached = λ steps octets p run before told is steady honest.
-      whole_is_exact given p run steps desk.kept desk.contents octets (subst (λ b. IsWhole given b desk.kept desk.contents) before received.whole) told is delay steady honest;
+  reached = λ steps octets p run before told is steady stays honest.
+      whole_is_exact given p run steps desk.kept desk.contents octets (subst (λ b. IsWhole given b desk.kept desk.contents) before received.whole) told is delay steady stays honest;
   epochs = λ steps octets streams run before told is steady are.
       whole_by_epochs given streams run steps desk.kept desk.contents octets (subst (λ b. IsWhole given b desk.kept desk.contents) before received.whole) told is delay steady are;
   counted = counted given desk counts received.before received.whole.ended settings same stands;

@@ -26,13 +26,14 @@ told_lists workers = own_lists (λ trace. trace.list) workers
 
 -- What was received is exact. The steps before the end are those of the links, each link's once and in its order; the
 -- sink holds all that they release; and where they are a run of copies of what one sender sent, near enough for their
--- words to tell them apart, that is the payloads of the numbers that were reached, by rising number, each once. Where
--- flows restart it is that of one epoch after another. The counts are those of the steps.
+-- words to tell them apart, and the base of deadlines stays, that is the payloads of the numbers that were reached, by
+-- rising number, each once. Where flows restart it is that of one epoch after another. The counts are those of the
+-- steps.
 pub record IsExact (given : Given) (desk : DeskState) (own : List (List Step)) (counts : Counts) : Type 0 where
   pub received : HasReceived given desk.kept desk.contents own
   pub reached : (steps : List Step) (octets : List ℕ) (p : SentStream) (run : List Delivery)
       → received.before ≡ Some steps → desk.contents ≡ Some octets → IsRunOf p run steps
-      → HasSteadyTimestamps p → AreDeliveriesOf given.settings.limits p run
+      → HasSteadyTimestamps p → given.settings.limits.drift ≡ false → AreDeliveriesOf given.settings.limits p run
       → octets ≡ concat (reached_payloads given.settings.limits p run)
   pub epochs : (steps : List Step) (octets : List ℕ) (streams : SentStreams) (run : List Transfer)
       → received.before ≡ Some steps → desk.contents ≡ Some octets → IsRunOfAll streams run steps

@@ -96,7 +96,7 @@ fn run<U: StepTrace + Drop + Send, R: Threads + Wait + Sync>(
 ) -> Result<Received<U, Store8>, Fail>
     requires empty { (steps : List Step) → U.list trace ≡ Some steps → steps ≡ [] }
 {
-    let receiver = Receiver::with(alloc, &Settings::muted(1000, 8, 0), &simple(), None)?;
+    let receiver = Receiver::with(alloc, &Settings::muted(1000, 8, 0, false), &simple(), None)?;
     let sink = Store8::with(alloc, 64, failing)?;
     let (first, second) = traces;
     let mut workers = Vec::new(alloc);
