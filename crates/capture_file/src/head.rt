@@ -26,6 +26,9 @@ const MAX_END: u64 = 1 << 40;
 
 const MAX_LENGTH: u16 = 2048;
 
+/// How many octets a head has.
+pub(crate) const HEAD_LEN: usize = 12;
+
 fn channel_of(code: u8) -> Option<Channel>
     ensures some { IfSome result (λ channel. channel_code channel ≡ code) }
     ensures none { IfNone result (2 < code) }

@@ -1,17 +1,18 @@
 //! Reads the records of a capture.
-ghost use Rattle.std.specs.Prelude.{◌≡◌, ◌≤◌, ◌<◌, ◌+◌, ◌^◌, false, true, IfOk, IsErrOf, IfSome, take, length, []};
+ghost use Rattle.std.specs.Prelude.{◌≡◌, ◌≤◌, ◌<◌, ◌+◌, ◌^◌, false, true, IfOk, OnOk, IsErrOf, IfSome, take, length, []};
 ghost use Rattle.capture_file.specs.declared.reader.CapBad.TheVariants.{ReadFault};
 ghost use Rattle.outside_io.specs.Causes.{HasReadCause, fault_by};
 ghost use Rattle.outside_io.specs.Told.{Takes};
 ghost use Rattle.block_source.specs.Block.{most_ahead};
+ghost use Rattle.block_source.specs.Lending.{TakesLent, ReturnsLent};
 ghost use Rattle.capture_file.specs.Reader.{ReaderState, new_reader};
 ghost use Rattle.capture_file.specs.Reading.{ReadsNext, read_fault, offset_at, spent_by};
 ghost use Rattle.capture_file.specs.Inside.Steps.{ReadsName, ReadsHead, ReadsBody, Enters, ReadsRecord};
 
 use crate::Head;
-use crate::head::head_of;
+use crate::head::{HEAD_LEN, head_of};
 use block_source::Block;
-use outside_io::{Failed, Source, read_full};
+use outside_io::{Failed, Source, copy_front};
 use std::fmt::{self, Display, Formatter, Write};
 use std::marker::Model;
 
@@ -85,63 +86,63 @@ impl From<Failed> for CapBad {
 
 pub(crate) const MAGIC: [u8; 8] = *b"RISTCAP1";
 
-// Reads the name.
+// Takes the name.
 fn begin<S: Source>(source: &mut Block<S>) -> Result<(), CapBad>
     ensures value { ReadsName source.old.remaining source.new.remaining result }
     ensures ahead { IsErrOf result ReadFault → source.new.ahead ≡ [] }
     ensures cause { HasReadCause (fault_by read_fault result) source.old.faults source.new.faults }
 {
-    let mut name = [0; 8];
-    let Ok(count) = read_full(source, &mut name) else {
+    let Ok(count) = source.take(MAGIC.len()) else {
         return Err(CapBad::ReadFault);
     };
-    if count < 8 {
+    if count < MAGIC.len() {
         return Err(CapBad::Bad(CapKind::Magic, 0));
     }
-    if name != MAGIC {
+    if source.taken() != MAGIC.as_slice() {
         return Err(CapBad::Bad(CapKind::Magic, 0));
     }
     Ok(())
 }
 
-// Reads the head of the record at this offset, if the source doesn't end here.
+// Takes the head of the record at this offset, if the source doesn't end here.
 fn head_at<S: Source>(source: &mut Block<S>, at: u64) -> Result<Option<Head>, CapBad>
     ensures value { ReadsHead at source.old.remaining source.new.remaining result }
     ensures ahead { IsErrOf result ReadFault → source.new.ahead ≡ [] }
     ensures cause { HasReadCause (fault_by read_fault result) source.old.faults source.new.faults }
 {
-    let mut octets = [0; 12];
-    let Ok(count) = read_full(source, &mut octets) else {
+    let Ok(count) = source.take(HEAD_LEN) else {
         return Err(CapBad::ReadFault);
     };
     if count == 0 {
         return Ok(None);
     }
-    if count < 12 {
+    if count < HEAD_LEN {
         return Err(CapBad::Bad(CapKind::Truncated, at));
     }
-    match head_of(&octets, at) {
+    match head_of(source.taken(), at) {
         Ok(head) => Ok(Some(head)),
         Err(kind) => Err(CapBad::Bad(kind, at)),
     }
 }
 
-// Reads the octets of the record at this offset.
-fn body<S: Source>(source: &mut Block<S>, at: u64, buf: &mut [u8]) -> Result<(), CapBad>
-    ensures value { ReadsBody at (length buf.old) source.old.remaining source.new.remaining buf.new result }
+// Takes the octets of the record at this offset, so many.
+fn body<S: Source>(source: &mut Block<S>, at: u64, size: usize) -> Result<(), CapBad>
+    requires { size ≤ most_ahead }
+    ensures value { ReadsBody at size source.old.remaining source.new.remaining source.new.taken result }
+    ensures size { OnOk result (length source.new.taken ≡ size) }
     ensures ahead { IsErrOf result ReadFault → source.new.ahead ≡ [] }
     ensures cause { HasReadCause (fault_by read_fault result) source.old.faults source.new.faults }
 {
-    let Ok(count) = read_full(source, buf) else {
+    let Ok(count) = source.take(size) else {
         return Err(CapBad::ReadFault);
     };
-    if count < buf.len() {
+    if count < size {
         return Err(CapBad::Bad(CapKind::Truncated, at));
     }
     Ok(())
 }
 
-// Reads the name where a reader stands at 0, and says where its next record stands.
+// Takes the name where a reader stands at 0, and says where its next record stands.
 fn enter<S: Source>(source: &mut Block<S>, at: u64) -> Result<u64, CapBad>
     ensures value { Enters at source.old.remaining source.new.remaining result }
     ensures ahead { IsErrOf result ReadFault → source.new.ahead ≡ [] }
@@ -156,15 +157,11 @@ fn enter<S: Source>(source: &mut Block<S>, at: u64) -> Result<u64, CapBad>
     }
 }
 
-// Reads the record at this offset, if the source doesn't end here.
-fn record_at<S: Source>(
-    source: &mut Block<S>,
-    at: u64,
-    buf: &mut [u8; 2048],
-) -> Result<Option<Head>, CapBad>
-    ensures value { ReadsRecord at source.old.remaining source.new.remaining buf.new result }
+// Takes the record at this offset, if the source doesn't end here.
+fn record_at<S: Source>(source: &mut Block<S>, at: u64) -> Result<Option<Head>, CapBad>
+    ensures value { ReadsRecord at source.old.remaining source.new.remaining source.new.taken result }
     ensures within { IfOk result (λ o. IfSome o (λ head. at + 12 + head.length ≤ 2 ^ 40)) }
-    ensures size { IfOk result (λ o. IfSome o (λ head. length (take head.length buf.new) ≡ head.length)) }
+    ensures size { IfOk result (λ o. IfSome o (λ head. length source.new.taken ≡ head.length)) }
     ensures ahead { IsErrOf result ReadFault → source.new.ahead ≡ [] }
     ensures cause { HasReadCause (fault_by read_fault result) source.old.faults source.new.faults }
 {
@@ -173,7 +170,7 @@ fn record_at<S: Source>(
         Ok(None) => return Ok(None),
         Err(bad) => return Err(bad),
     };
-    match body(source, at, &mut buf[..head.length as usize]) {
+    match body(source, at, head.length as usize) {
         Ok(()) => Ok(Some(head)),
         Err(bad) => Err(bad),
     }
@@ -196,6 +193,7 @@ impl<S: Source> Model for Reader<S> {
       at = r.at;
       faults = r.source.faults;
       spent = r.spent;
+      octets = r.source.taken;
     } };
 }
 
@@ -240,6 +238,28 @@ impl<S: Source> Reader<S> {
         ensures ahead { IsErrOf result ReadFault → self.new.ahead ≡ [] }
         ensures cause { HasReadCause (fault_by read_fault result) self.old.faults self.new.faults }
     {
+        match self.advance() {
+            Ok(Some(head)) => {
+                copy_front(self.octets(), buf);
+                Ok(Some(head))
+            }
+            Ok(None) => Ok(None),
+            Err(bad) => Err(bad),
+        }
+    }
+
+    /// Reads the next record, whose octets then stand in the reader, or answers none at the end.
+    pub fn advance(&mut self) -> Result<Option<Head>, CapBad>
+        requires running { self.old.spent ≡ false }
+        ensures value { ReadsNext self.old.at self.old.remaining self.new.remaining self.new.octets result }
+        ensures at { IfOk result (λ o. IfSome o (λ head. self.new.at ≡ offset_at self.old.at + 12 + head.length)) }
+        ensures within { IfOk result (λ o. IfSome o (λ head. self.new.at ≤ 2 ^ 40)) }
+        ensures size { IfOk result (λ o. IfSome o (λ head. length self.new.octets ≡ head.length)) }
+        ensures spent { self.new.spent ≡ spent_by result }
+        // At a fault all that was taken from the source was read.
+        ensures ahead { IsErrOf result ReadFault → self.new.ahead ≡ [] }
+        ensures cause { HasReadCause (fault_by read_fault result) self.old.faults self.new.faults }
+    {
         let at = match enter(&mut self.source, self.at) {
             Ok(at) => at,
             Err(bad) => {
@@ -247,7 +267,7 @@ impl<S: Source> Reader<S> {
                 return Err(bad);
             }
         };
-        match record_at(&mut self.source, at, buf) {
+        match record_at(&mut self.source, at) {
             Ok(Some(head)) => {
                 self.at = at + 12 + head.length as u64;
                 Ok(Some(head))
@@ -261,5 +281,27 @@ impl<S: Source> Reader<S> {
                 Err(bad)
             }
         }
+    }
+
+    /// The octets of the record that was read last.
+    pub fn octets(&self) -> &[u8]
+        ensures value { result.now ≡ self.now.octets }
+    {
+        self.source.taken()
+    }
+
+    /// Lends the octets of the record that was read last to a call, which may change them where they stand.
+    pub fn lend<A, B, R, F: FnOnce(&mut [u8], &mut A, &mut B) -> R>(
+        &mut self,
+        one: &mut A,
+        other: &mut B,
+        call: F,
+    ) -> R
+        requires call { TakesLent (F.pre call) self.old.octets one.old other.old }
+        ensures called { ReturnsLent (F.post call) self.old.octets self.new.octets one.old one.new
+            other.old other.new result }
+        ensures rest { self.new ≡ record self.old { octets = self.new.octets } }
+    {
+        self.source.lend(one, other, call)
     }
 }

@@ -1,7 +1,6 @@
 -- A reader of a pcap file's datagrams goes on from frame to frame.
-use Rattle.std.proofs.Common.{◌≡◌, ◌⊎◌, ℕ, ◌+◌, ◌^◌, ◌<◌, ◌≤◌, List, [], ◌∷◌, ◌++◌, length, take, map, flat_map, All, refl, sym, ap, ap₂, ◌∙◌, subst, append_assoc, append-nil, arith, length-append, IfSome}
-use mathlib.Core.Logic.{inl, inr}
-use Rattle.std.specs.Prelude.{Result, Ok, Err}
+use Rattle.std.proofs.Common.{◌≡◌, ℕ, ◌+◌, List, [], ◌∷◌, ◌++◌, length, flat_map, refl, sym, ap, ap₂, ◌∙◌, subst, append_assoc, append-nil, arith, length-append, IfSome}
+use Rattle.std.specs.Prelude.{Ok}
 use Rattle.std.specs.declared.option.Option.{Option}
 use Rattle.std.specs.declared.option.Option.TheVariants.{None, Some}
 use Rattle.std.specs.Option.{option_map}
@@ -9,10 +8,10 @@ use Rattle.std.proofs.lemmas.List.{map-append}
 use Rattle.std.proofs.lemmas.List.Elements.{All-push, All-nil}
 use Rattle.std.proofs.lemmas.Grind.{flat_map-append}
 use Rattle.outside_io.specs.declared.profile.Profile.{Profile}
-use Rattle.outside_io.specs.Told.{Takes, IsEmpty, IsReadTo}
+use Rattle.outside_io.specs.Told.{Takes, IsEmpty}
 use Rattle.outside_io.proofs.ToldLemmas.{takes_both, takes_none}
 use Rattle.capture_file.specs.Capture.{Record}
-use Rattle.pcap_file.specs.Pcap.{Packet, Fits, IsHeader, IsPcap, HasFrames, Captured, head_spelling, spelling, frame_of}
+use Rattle.pcap_file.specs.Pcap.{Packet, Fits, HasFrames, Captured, head_spelling, spelling, frame_of}
 use Rattle.pcap_file.specs.Converted.{converted, datagram_of, records_at}
 use Rattle.pcap_file.specs.Reader.{ReaderState, new_reader}
 use Rattle.pcap_file.specs.Reading.{BeginsWith, Ends}
@@ -171,10 +170,10 @@ ends_on (Some b) old new done read e =
     )
 
 -- a new reader has read nothing
-pub new_has_read : (remaining : Option (List ℕ)) (faults : ℕ) (frames : ReaderState) (profile : Profile) (port : ℕ) → frames ≡ new_reader remaining faults
-    → HasReadPort frames.remaining (record { frames = frames; profile = profile; port = port }) []
-new_has_read remaining faults frames profile port is =
-    subst (λ (r : ReaderState). HasReadPort r.remaining (record { frames = r; profile = profile; port = port }) []) (sym is) (record {
+pub new_has_read : (remaining : Option (List ℕ)) (faults : ℕ) (frames : ReaderState) (profile : Profile) (port : ℕ) (octets : List ℕ) → frames ≡ new_reader remaining faults
+    → HasReadPort frames.remaining (record { frames = frames; profile = profile; port = port; octets = octets }) []
+new_has_read remaining faults frames profile port octets is =
+    subst (λ (r : ReaderState). HasReadPort r.remaining (record { frames = r; profile = profile; port = port; octets = octets }) []) (sym is) (record {
       frames = [];
       taken = (refl, takes_none remaining, refl);
       bound = omega arith;

@@ -6,7 +6,7 @@ ghost use Rattle.capture_file.specs.Heads.{record_of};
 ghost use Rattle.pcap_file.specs.Converted.{datagram_of, records_at};
 ghost use Rattle.pcap_file.specs.Reader.{new_reader};
 ghost use Rattle.capture_walk.specs.Port.{PortState};
-ghost use Rattle.capture_walk.specs.Inside.Frames.{HasReadPort, IsTurn, IfGiven, IfFrame, records_given, spent_after, turn_fault};
+ghost use Rattle.capture_walk.specs.Inside.Frames.{HasReadPort, IsTurn, IfGiven, IfFrame, length_given, records_given, spent_after, turn_fault};
 ghost use Rattle.capture_walk.specs.declared.walk_bad.WalkBad.TheVariants.{ReadFault, WriteFault, Memory};
 
 use crate::records::Records;
@@ -19,6 +19,9 @@ use std::marker::Model;
 /// The most octets of a frame that are given.
 const FRAME_LEN: usize = 4096;
 
+/// The most octets of a datagram that are given.
+const BLOCK_LEN: usize = 2048;
+
 /// Reads the datagrams that the frames of a pcap file carry to a UDP port: in the Main Profile the tunnel, in the Simple
 /// Profile media at the port and control at the next one. Each is a record on link 0 at its frame's time; other frames are
 /// stepped over.
@@ -28,12 +31,22 @@ pub struct PortReader<S: Source> {
     profile: Profile,
     port: u16,
     frame: [u8; FRAME_LEN],
+    block: [u8; BLOCK_LEN],
+    /// How many octets of the block the record has that was read last.
+    length: usize,
 }
 
 impl<S: Source> Model for PortReader<S> {
     ghost Value = { PortState };
 
-    ghost view = { λ r. record { frames = r.frames; profile = r.profile; port = r.port } };
+    ghost view = { λ r. record {
+      frames = r.frames;
+      profile = r.profile;
+      port = r.port;
+      octets = take r.length r.block;
+    } };
+
+    ghost invariant = { λ r. r.length ≤ 2048 };
 }
 
 /// What a turn of a reader comes to.
@@ -55,6 +68,7 @@ impl<S: Source> PortReader<S> {
           frames = new_reader (S.remaining source) (S.faults source);
           profile = profile;
           port = port;
+          octets = [];
         } }
         // Nothing is read yet.
         ensures start { HasReadPort result.frames.remaining result [] }
@@ -64,15 +78,17 @@ impl<S: Source> PortReader<S> {
             profile,
             port,
             frame: [0; FRAME_LEN],
+            block: [0; BLOCK_LEN],
+            length: 0,
         }
     }
 
     // Reads a frame, and the datagram that it carries to the port, if it carries one.
-    fn turn(&mut self, block: &mut [u8; 2048]) -> Turn
+    fn turn(&mut self) -> Turn
         requires running { self.old.frames.spent ≡ false }
-        ensures value { IsTurn self.old self.new block.new result }
-        ensures fits { IfGiven result (λ head. Fits (record_of head (take head.length block.new))) }
-        ensures size { IfGiven result (λ head. length (take head.length block.new) ≡ head.length) }
+        ensures value { IsTurn self.old self.new self.new.octets result }
+        ensures fits { IfGiven result (λ head. Fits (record_of head self.new.octets)) }
+        ensures size { IfGiven result (λ head. length self.new.octets ≡ head.length) }
         ensures same { (self.new.profile ≡ self.old.profile) × (self.new.port ≡ self.old.port) }
         ensures progress { IfFrame result ((self.old.frames.at < self.new.frames.at)
             × (self.new.frames.at ≤ 2 ^ 40)) }
@@ -84,14 +100,16 @@ impl<S: Source> PortReader<S> {
         match self.frames.next(&mut self.frame) {
             Ok(Some(frame)) => {
                 let octets = &self.frame[..frame.length];
-                Turn::Frame(taken(
+                let given = taken(
                     frame.at_us,
                     frame.link_type,
                     octets,
                     self.profile,
                     self.port,
-                    block,
-                ))
+                    &mut self.block,
+                );
+                self.length = length_given(given);
+                Turn::Frame(given)
             }
             Ok(None) => Turn::End,
             Err(bad) => Turn::Bad(WalkBad::from(bad)),
@@ -107,10 +125,10 @@ fn taken(
     octets: &[u8],
     profile: Profile,
     port: u16,
-    block: &mut [u8; 2048],
+    block: &mut [u8; BLOCK_LEN],
 ) -> Option<Head>
     ensures value { records_at us (datagram_of profile port link_type octets.now)
-        ≡ records_given result block.new }
+        ≡ records_given result (take (length_given result) block.new) }
     ensures fits { IfSome result (λ head. Fits (record_of head (take head.length block.new))) }
     ensures size { IfSome result (λ head. length (take head.length block.new) ≡ head.length) }
 {
@@ -122,6 +140,16 @@ fn taken(
         length: length as u16,
         us,
     })
+}
+
+// How many octets a record has, if there is one.
+fn length_given(given: Option<Head>) -> usize
+    ensures value { result ≡ length_given given }
+{
+    match given {
+        Some(head) => head.length as usize,
+        None => 0,
+    }
 }
 
 impl<S: Source> Records for PortReader<S> {
@@ -141,17 +169,28 @@ impl<S: Source> Records for PortReader<S> {
 
     ghost spent = { λ r. r.frames.spent };
 
+    ghost octets = { λ r. r.octets };
+
     ghost has_read = { λ r first done. HasReadPort first r done };
 
-    fn next_record(&mut self, block: &mut [u8; 2048]) -> Result<Option<Head>, WalkBad> {
+    fn next_record(&mut self) -> Result<Option<Head>, WalkBad> {
         loop {
-            match self.turn(block) {
+            match self.turn() {
                 Turn::Frame(Some(head)) => return Ok(Some(head)),
                 Turn::Frame(None) => {}
                 Turn::End => return Ok(None),
                 Turn::Bad(bad) => return Err(bad),
             }
         }
+    }
+
+    fn lend<A, B, R, F: FnOnce(&mut [u8], &mut A, &mut B) -> R>(
+        &mut self,
+        one: &mut A,
+        other: &mut B,
+        call: F,
+    ) -> R {
+        call(&mut self.block[..self.length], one, other)
     }
 
     fn back(self) -> S {

@@ -1,5 +1,5 @@
 -- What a reader of a pcap file's datagrams has read, and what a turn of it comes to.
-use Rattle.std.specs.Prelude.{◌≡◌, ◌⊎◌, ◌^◌, ◌+◌, ◌≤◌, ℕ, List, [], ◌∷◌, ◌++◌, length, take, map, flat_map, All, Bool, true, false, Result, Ok, Err}
+use Rattle.std.specs.Prelude.{◌≡◌, ◌^◌, ◌+◌, ◌≤◌, ℕ, List, [], ◌∷◌, ◌++◌, length, map, flat_map, All, Bool, true, false, Err}
 use Rattle.std.specs.declared.option.Option.{Option}
 use Rattle.std.specs.declared.option.Option.TheVariants.{None, Some}
 use Rattle.outside_io.specs.Causes.{Fault, NoFault}
@@ -43,10 +43,15 @@ pub record HasReadPort (first : Option (List ℕ)) (reader : PortState) (done : 
   pub bound : reader.frames.at ≤ 2 ^ 40
   pub same : done ≡ converted frames reader.profile reader.port
 
--- the record of a head and the octets in the block, if there is a head
+-- how many octets a record has, if there is a head
+abbrev pub length_given : Option Head → ℕ
+length_given None = 0
+length_given (Some head) = head.length
+
+-- the record of a head and its octets, if there is a head
 abbrev pub records_given : Option Head → List ℕ → List Record
-records_given None block = []
-records_given (Some head) block = record_of head (take head.length block) ∷ []
+records_given None octets = []
+records_given (Some head) octets = record_of head octets ∷ []
 
 -- a frame was read, which carries these records
 pub record GivesRecords (old new : PortState) (rs : List Record) : Type 0 where
@@ -64,9 +69,9 @@ pub record IsBadTurn (old new : ReaderState) (bad : WalkBad) : Type 0 where
 
 -- what a turn came to
 abbrev pub IsTurn : PortState → PortState → List ℕ → Turn → Type 0
-IsTurn old new block (turns.Frame given) = GivesRecords old new (records_given given block)
-IsTurn old new block turns.End = Ends old.frames new.frames
-IsTurn old new block (turns.Bad bad) = IsBadTurn old.frames new.frames bad
+IsTurn old new octets (turns.Frame given) = GivesRecords old new (records_given given octets)
+IsTurn old new octets turns.End = Ends old.frames new.frames
+IsTurn old new octets (turns.Bad bad) = IsBadTurn old.frames new.frames bad
 
 -- P holds of the head that a turn gives, if it gives one
 abbrev pub IfGiven : Turn → (Head → Type 0) → Type 0

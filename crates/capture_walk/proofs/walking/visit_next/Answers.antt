@@ -1,7 +1,8 @@
 -- A record is one more, and whatever else the reader answers ends the walk.
-use Rattle.std.proofs.Common.{take, ap}
+use Rattle.std.proofs.Common.{ℕ, List, Option, [], ◌∷◌, ◌++◌, ap, sym, subst, IfSome}
 use Rattle.std.specs.Prelude.{Err, Ok}
 use Rattle.capture_file.specs.Heads.{record_of}
+use Rattle.capture_walk.specs.Leaves.{HasGiven}
 use Rattle.capture_walk.proofs.GoingLemmas.{gained}
 use Rattle.capture_walk.proofs.EndingLemmas.{ended_told, front_told, end_front_told, refused_told}
 use Rattle.capture_walk.proofs.walking.visit_next.Goals as goal
@@ -11,26 +12,28 @@ returns-in-Ok-clause-on g c first u sofar =
     let e = rw c.in-Ok-Some.field-0-is at c.in-Ok-Some.ensures in
     record {
       done = _;
-      read = e.on first sofar.done sofar.read;
+      read = c.in-Ok.ensures.read first _ (e.on first sofar.done sofar.read);
       seen = c.in-Ok.ensures.seen sofar.done sofar.seen;
-      sink = gained u (g.K.Sink.contents c.args.sink.now) (g.K.Sink.contents c.record.new.sink) _ _ sofar.sink (c.in-Ok.ensures.sink sofar.done sofar.seen);
+      sink = gained u (g.K.Sink.contents c.args.sink.now) (g.K.Sink.contents c.bring.new.sink) _ _ sofar.sink (c.in-Ok.ensures.sink sofar.done sofar.seen);
     }
 
 pub returns-in-Err-WriteFault-clause-over : goal.returns-in-Err-WriteFault-clause-over
 returns-in-Err-WriteFault-clause-over g c first u sofar =
     let e = rw c.in-Ok-Some.field-0-is at c.in-Ok-Some.ensures in
-    front_told (g.R.Records.form c.args.reader.now) (g.V.Visitor.so_far c.args.visitor.now) (g.V.Visitor.whole c.args.visitor.now) first (g.R.Records.remaining c.next_record.new.self)
-    u (g.K.Sink.contents c.args.sink.now) (g.K.Sink.contents c.record.new.sink)
-    sofar.done (record_of c.in-Ok-Some.head (take c.in-Ok-Some.head.length c.next_record.new.block))
-    (e.given first sofar.done sofar.read) sofar.sink (c.in-Err-WriteFault.ensures.part sofar.done sofar.seen)
+    front_told (g.R.Records.form c.args.reader.now) (g.V.Visitor.so_far c.args.visitor.now) (g.V.Visitor.whole c.args.visitor.now) first (g.R.Records.remaining c.bring.new.reader)
+    u (g.K.Sink.contents c.args.sink.now) (g.K.Sink.contents c.bring.new.sink)
+    sofar.done (record_of c.in-Ok-Some.head (g.R.Records.octets c.next_record.new.self))
+    (subst (λ (left : Option (List ℕ)). IfSome first (λ b. HasGiven (g.R.Records.form c.args.reader.now) 0 (sofar.done ++ record_of c.in-Ok-Some.head (g.R.Records.octets c.next_record.new.self) ∷ []) b left)) (sym c.in-Err-WriteFault.ensures.source.0)
+    (e.given first sofar.done sofar.read)) sofar.sink (c.in-Err-WriteFault.ensures.part sofar.done sofar.seen)
 
 pub returns-in-Err-Memory-clause-over : goal.returns-in-Err-Memory-clause-over
 returns-in-Err-Memory-clause-over g c first u sofar =
     let e = rw c.in-Ok-Some.field-0-is at c.in-Ok-Some.ensures in
-    refused_told (g.R.Records.form c.args.reader.now) (g.V.Visitor.so_far c.args.visitor.now) (g.V.Visitor.whole c.args.visitor.now) first (g.R.Records.remaining c.next_record.new.self)
-    u (g.K.Sink.contents c.args.sink.now) (g.K.Sink.contents c.record.new.sink)
-    sofar.done (record_of c.in-Ok-Some.head (take c.in-Ok-Some.head.length c.next_record.new.block))
-    (e.given first sofar.done sofar.read) sofar.sink (c.in-Err-Memory.ensures.none (ap Err c.in-Err-Memory.field-0-is))
+    refused_told (g.R.Records.form c.args.reader.now) (g.V.Visitor.so_far c.args.visitor.now) (g.V.Visitor.whole c.args.visitor.now) first (g.R.Records.remaining c.bring.new.reader)
+    u (g.K.Sink.contents c.args.sink.now) (g.K.Sink.contents c.bring.new.sink)
+    sofar.done (record_of c.in-Ok-Some.head (g.R.Records.octets c.next_record.new.self))
+    (subst (λ (left : Option (List ℕ)). IfSome first (λ b. HasGiven (g.R.Records.form c.args.reader.now) 0 (sofar.done ++ record_of c.in-Ok-Some.head (g.R.Records.octets c.next_record.new.self) ∷ []) b left)) (sym c.in-Err-Memory.ensures.source.0)
+    (e.given first sofar.done sofar.read)) sofar.sink (c.in-Err-Memory.ensures.none (ap Err c.in-Err-Memory.field-0-is))
 
 pub returns-in-Ok-finish-clause-over : goal.returns-in-Ok-finish-clause-over
 returns-in-Ok-finish-clause-over g c first u sofar =

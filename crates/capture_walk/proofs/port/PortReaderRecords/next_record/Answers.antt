@@ -1,5 +1,5 @@
 -- The turn after frames that carry nothing gives the record, or says how the records ended.
-use Rattle.std.proofs.Common.{◌++◌, ◌∷◌, [], ◌∙◌, List, take, arith, ap₂, subst, IfSome}
+use Rattle.std.proofs.Common.{◌++◌, ◌∷◌, [], ◌∙◌, arith, ap₂, subst, IfSome}
 use Rattle.std.specs.Prelude.{Ok, Err}
 use Rattle.capture_file.specs.Heads.{record_of}
 use Rattle.capture_walk.specs.Form.{Form, Pcap}
@@ -11,15 +11,15 @@ use Rattle.capture_walk.proofs.port.PortReaderRecords.next_record.Goals as goal
 pub returns-in-Frame-Some-clause-on : goal.returns-in-Frame-Some-clause-on
 returns-in-Frame-Some-clause-on g c first done read =
     let e = rw c.in-Frame-Some.field-0-is at c.in-Frame-Some.ensures in
-    steps_on first c.loop-head.self c.turn.new.self done (record_of c.in-Frame-Some.head (take c.in-Frame-Some.head.length c.turn.new.block) ∷ [])
+    steps_on first c.loop-head.self c.turn.new.self done (record_of c.in-Frame-Some.head c.turn.new.self.octets ∷ [])
     (c.loop-head.invariant.kept first done read) e.value e.same.0 e.same.1
 
 pub returns-in-Frame-Some-clause-given : goal.returns-in-Frame-Some-clause-given
 returns-in-Frame-Some-clause-given g c first done read =
     let e = rw c.in-Frame-Some.field-0-is at c.in-Frame-Some.ensures in
     let i = c.loop-head.invariant in
-    subst (λ (f : Form). IfSome first (λ b. HasGiven f 0 (done ++ record_of c.in-Frame-Some.head (take c.in-Frame-Some.head.length c.turn.new.block) ∷ []) b c.turn.new.self.frames.remaining)) (ap₂ Pcap i.profile i.port)
-    (gives_on first c.loop-head.self c.turn.new.self done (record_of c.in-Frame-Some.head (take c.in-Frame-Some.head.length c.turn.new.block) ∷ []) (i.kept first done read) e.value)
+    subst (λ (f : Form). IfSome first (λ b. HasGiven f 0 (done ++ record_of c.in-Frame-Some.head c.turn.new.self.octets ∷ []) b c.turn.new.self.frames.remaining)) (ap₂ Pcap i.profile i.port)
+    (gives_on first c.loop-head.self c.turn.new.self done (record_of c.in-Frame-Some.head c.turn.new.self.octets ∷ []) (i.kept first done read) e.value)
 
 pub loop-head-preserved : goal.loop-head-preserved
 loop-head-preserved g c =
