@@ -1,0 +1,4 @@
+pub mod MessageLemmas
+pub mod SenderLemmas
+pub mod CourseLemmas
+pub mod AddLemmas

@@ -1,0 +1,8 @@
+//! The moves of a script of a simulated network, and laws of what they make. A contract sees the course of a run
+//! (`Course`), and its moves one after another (`MakesAll`).
+#![tactic(auto)]
+
+pub mod laws;
+mod moves;
+
+pub use moves::Move;
