@@ -1,0 +1,5 @@
+pub mod SenderLemmas
+pub mod ReceiverLemmas
+pub mod RunLemmas
+pub mod TextLemmas
+pub mod MadeLemmas

@@ -1,0 +1,13 @@
+use Rattle.std.proofs.Common.{rules, subst, sym}
+use Rattle.std.proofs.lemmas.List.{places}
+use Rattle.rist_world.specs.World.{IsWorldAfter}
+use Rattle.rist_world.proofs.SenderLemmas.{ok_any, send_goes}
+use Rattle.rist_world.proofs.world.World.send.Goals as goal
+
+pub returns : goal.returns
+returns c = record {
+  value = ok_any c.note_sent.result
+      (λ setup from is.
+      let now = subst (λ w. IsWorldAfter setup w from) (sym c.self.view_is) is in
+      send_goes setup _ c.send-sent.new.self _ _ _ from c.args.us c.args.payload.now c.send-sent.result now c.send-sent.ensures.set c.deref_mut.ensures.value (search (rules, places)) c.send-sent.auto.links (c.send-sent.ensures.work from.work now.sender));
+}

@@ -1,0 +1,4 @@
+pub mod World
+pub mod Drill
+pub mod Made
+pub mod Summary

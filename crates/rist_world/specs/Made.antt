@@ -1,0 +1,37 @@
+-- The run of a made script (this profile).
+use Rattle.std.specs.Prelude.{ℕ, codes, Option, Some, true, false}
+use Rattle.seq_unwrap.specs.declared.width.Width.TheVariants.{W32}
+use Rattle.outside_io.specs.declared.profile.Profile.TheVariants.{Main}
+use Rattle.psk_seal.specs.Sealer.{SealerState}
+use Rattle.request_rules.specs.declared.policy.NackKind.TheVariants.{Range}
+use Rattle.sender_rules.specs.Bonding.{Duplicate}
+use Rattle.rist_wire.specs.declared.session.Session.{Session}
+use Rattle.rist_ends.specs.declared.settings.Settings.{Settings as ReceiverSettings}
+use Rattle.rist_sender.specs.declared.settings.Settings.{Settings as SenderSettings}
+use Rattle.world_rules.specs.World.{Setup, IsSealerOf}
+use Rattle.rist_world.specs.declared.running.Report.{Report}
+use Rattle.rist_world.specs.World.{setup_of}
+use Rattle.rist_world.specs.Drill.{Drilled}
+
+-- its session: in the Main Profile, under a passphrase, with null packets deleted and numbers of 32 bits
+abbrev pub made_session : Session
+made_session = record { profile = Main; port = 1968; pass = Some (codes "drill"); bits = 128; nulls = true; width = W32; full = false }
+
+-- its sender, which duplicates over so many links
+abbrev pub made_sender : ℕ → SenderSettings
+made_sender links = record { flow = 0x10203040; first = 0; store = 2048; hold = 20; bond = Duplicate links }
+
+-- its receiver
+abbrev pub made_receiver : ReceiverSettings
+made_receiver = record { delay = 1000; span = 2048; restart = 0; drift = false; reorder = 10; least = 20; tries = 8; nack = Range; own = 7; muted = false }
+
+-- what both ends are set to
+abbrev pub made_setup : ℕ → Setup
+made_setup links = setup_of made_session (made_sender links) made_receiver
+
+-- by sealers of this session the moves of the report were made, and it tells what came of them
+pub record IsMadeRun (links : ℕ) (report : Report) : Type 0 where
+  pub near : Option SealerState
+  pub far : Option SealerState
+  pub sealed : IsSealerOf made_session near
+  pub run : Drilled (made_setup links) near far report.moves.items report.digest

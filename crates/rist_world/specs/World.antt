@@ -1,0 +1,93 @@
+-- What a contract sees of a simulated network.
+use Rattle.std.specs.Prelude.{◌≡◌, ◌<◌, ◌*◌, ℕ, List, [], length, map, get_or, Bool, true, false}
+use Rattle.outside_net.specs.Links.{Datagram}
+use Rattle.receiver_rules.specs.Steps.{has_ended}
+use Rattle.receiver_rules.specs.History.{released_bytes}
+use Rattle.reorder_buffer.specs.declared.phase.Phase.{Phase}
+use Rattle.reorder_buffer.specs.declared.phase.Phase.TheVariants.{Open, Ended}
+use Rattle.request_rules.specs.Steps.{buffer_history}
+use Rattle.rist_wire.specs.declared.session.Session.{Session}
+use Rattle.rist_ends.specs.declared.settings.Settings.{Settings as ReceiverSettings}
+use Rattle.rist_ends.specs.Settings.{control_settings}
+use Rattle.rist_ends.specs.Receiver.{ReceiverState, IsReceiverAfter, settings_of}
+use Rattle.rist_sender.specs.declared.settings.Settings.{Settings as SenderSettings}
+use Rattle.rist_sender.specs.Sender.{SenderState, IsSenderAfter, has_keepalives, rules_of}
+use Rattle.sent_flows.specs.Flows.{SentFlow}
+use Rattle.world_rules.specs.Flows.{flows_of}
+use Rattle.world_rules.specs.World.{Setup, Course, links_of, rules_after, forward_on}
+
+-- the datagrams that were put on a link one way, the oldest first, and how many writes failed for want of memory
+pub record WireState : Type 0 where
+  pub put : List Datagram
+  pub faults : ℕ
+
+-- a link on which nothing was put
+abbrev pub none : WireState
+none = record { put = []; faults = 0 }
+
+-- what was written, and how many writes failed for want of memory
+pub record WrittenState : Type 0 where
+  pub octets : List ℕ
+  pub faults : ℕ
+
+-- the sender, and what opens the datagrams that come back to it; the receiver, what opens those that come to it, and
+-- what it wrote; the links each way; and the SSRCs of the flows so far, the newest first
+pub record WorldState : Type 0 where
+  pub sender : SenderState
+  pub near : Session
+  pub receiver : ReceiverState
+  pub far : Session
+  pub written : WrittenState
+  pub forward : List WireState
+  pub backward : List WireState
+  pub flows : List ℕ
+
+-- what both ends are set to
+abbrev pub setup_of : Session → SenderSettings → ReceiverSettings → Setup
+setup_of session near far = record {
+  session = session;
+  flow = near.flow;
+  first = near.first;
+  hold = 90 * near.hold;
+  size = near.store;
+  bonding = near.bond;
+  keepalives = has_keepalives session.profile;
+  control = control_settings far session;
+}
+
+-- the receiver is open until an end
+abbrev pub phase_of : Bool → Phase
+phase_of true = Ended
+phase_of false = Open
+
+-- the datagrams of each link
+abbrev pub datagrams_on : List WireState → List (List Datagram)
+datagrams_on wires = map (λ (w : WireState). w.put) wires
+
+-- what it keeps is that of a course: the sender its work, each link what was put on it, the receiver its steps, and
+-- what was written is what these released
+pub record IsWorldAfter (setup : Setup) (w : WorldState) (course : Course) : Type 0 where
+  pub sender : IsSenderAfter w.sender course.work
+  pub rules : rules_of w.sender ≡ rules_after setup course.work.history
+  pub sending : w.sender.session ≡ setup.session
+  pub near : w.near ≡ setup.session
+  pub far : w.far ≡ setup.session
+  pub links : length w.forward ≡ links_of setup
+  pub forward : (link : ℕ) (d : WireState) → link < links_of setup → (get_or w.forward link d).put ≡ forward_on setup course link
+  pub receiver : IsReceiverAfter w.receiver course.steps
+  pub control : settings_of w.receiver ≡ setup.control
+  pub shutter : w.receiver.reporter.shutter ≡ record { session = setup.session; sealer = course.sealer }
+  pub phase : w.receiver.buffer.phase ≡ phase_of (has_ended (buffer_history course.steps))
+  pub written : w.written.octets ≡ released_bytes setup.control.limits (buffer_history course.steps)
+  pub backward : datagrams_on w.backward ≡ course.backward
+  pub flows : w.flows ≡ map (λ (f : SentFlow). f.flow) (flows_of setup.flow setup.first course.work.history)
+
+-- there is a course of which this holds, and the world is as it says
+pub record GoesTo (setup : Setup) (w : WorldState) (P : Course → Type 0) : Type 0 where
+  pub to : Course
+  pub fact : P to
+  pub stands : IsWorldAfter setup w to
+
+-- whatever course it stands for, it goes on to one that this leads to
+abbrev pub GoesOn : WorldState → WorldState → (Setup → Course → Course → Type 0) → Type 0
+GoesOn old new P = (setup : Setup) (from : Course) → IsWorldAfter setup old from → GoesTo setup new (P setup from)

@@ -1,0 +1,23 @@
+//! A sender and a receiver over a simulated network, and the run of a script over them. A contract sees the course of
+//! the run: what the sender did, the receiver's steps, and the datagrams on the way (`IsWorldAfter`).
+#![tactic(auto)]
+
+mod made;
+mod made_run;
+mod mover;
+mod running;
+mod summary;
+mod tally;
+#[cfg(test)]
+mod tests;
+mod wire;
+mod world;
+mod written;
+
+pub use made::Made;
+pub use made_run::drill_made;
+pub use mover::{Listed, Mover};
+pub use running::{Report, drill};
+pub use summary::{SUMMARY_LEN, put_summary};
+pub use world::World;
+pub use world_rules::Move;

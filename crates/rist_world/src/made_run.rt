@@ -1,0 +1,107 @@
+//! The run of a made script.
+ghost use Rattle.std.specs.Prelude.{◌≡◌, ◌≤◌, IfOk, IfSome, IsSome};
+ghost use Rattle.psk_seal.specs.Nonces.{AreNonces};
+ghost use Rattle.rist_world.specs.Made.{IsMadeRun, made_session, made_sender, made_receiver};
+
+use crate::made::{Drawn, Made, generator};
+use crate::running::{Report, drill};
+use bond_links::Bond;
+use outside_io::{NoMemory, Profile};
+use psk_keys::Phrase;
+use psk_seal::Sealer;
+use request_rules::NackKind;
+use rist_ends::Settings as ReceiverSettings;
+use rist_sender::Settings as SenderSettings;
+use rist_wire::Session;
+use seq_unwrap::Width;
+use std::alloc::Global;
+
+/// The session of a made script.
+fn made_session() -> Session
+    ensures value { result ≡ made_session }
+{
+    Session {
+        profile: Profile::Main,
+        port: 1968,
+        pass: Some(Phrase::of(b"drill")),
+        bits: 128,
+        nulls: true,
+        width: Width::W32,
+        full: false,
+    }
+}
+
+/// Its sender, over so many links.
+fn made_sender(links: u8) -> SenderSettings
+    requires links { (1 ≤ links) × (links ≤ 4) }
+    ensures value { result ≡ made_sender links }
+{
+    SenderSettings {
+        flow: 0x1020_3040,
+        first: 0,
+        store: 2048,
+        hold: 20,
+        bond: Bond::duplicate(links),
+    }
+}
+
+/// Its receiver.
+fn made_receiver() -> ReceiverSettings
+    ensures value { result ≡ made_receiver }
+{
+    ReceiverSettings {
+        delay: 1000,
+        span: 2048,
+        restart: 0,
+        drift: false,
+        reorder: 10,
+        least: 20,
+        tries: 8,
+        nack: NackKind::Range,
+        own: 7,
+        muted: false,
+    }
+}
+
+// The next sealer whose nonces come from these words, which never end.
+fn drawn_sealer(drawn: &mut Drawn) -> Option<Sealer>
+    ensures some { IsSome result }
+    ensures nonces { IfSome result (λ sealer. AreNonces sealer.nonces) }
+{
+    match Sealer::with(drawn) {
+        Ok(sealer) => Some(sealer),
+        Err(_) => unreachable!(),
+    }
+}
+
+/// What came of the made script of a number: so many payloads over so many links, with so many datagrams in a thousand
+/// lost. The nonces are drawn from a generator of their own, those of the sender first.
+pub fn drill_made(
+    alloc: Global,
+    number: u64,
+    count: u32,
+    links: u8,
+    loss: u16,
+) -> Result<Report, NoMemory>
+    requires links { (1 ≤ links) × (links ≤ 4) }
+    requires count { count ≤ 5000 }
+    ensures run { IfOk result (λ report. IsMadeRun links report) }
+{
+    let mut drawn = Drawn {
+        generator: generator(number, 1),
+    };
+    let near = drawn_sealer(&mut drawn);
+    let far = drawn_sealer(&mut drawn);
+    let mut mover = Made::with(alloc, number, count, links, loss)?;
+    let session = made_session();
+    drill(
+        alloc,
+        &session,
+        made_sender(links),
+        &made_receiver(),
+        near,
+        far,
+        links,
+        &mut mover,
+    )
+}
