@@ -12,7 +12,7 @@ use Rattle.outside_net.specs.declared.link_spec.LinkSpec.{LinkSpec}
 use Rattle.outside_io.specs.declared.profile.Profile.{Profile}
 use Rattle.outside_io.specs.declared.profile.Profile.TheVariants.{Simple, Main}
 use Rattle.rist_words.specs.declared.values.Numbers.{Numbers}
-use Rattle.rist_words.specs.Values.{is_numeral, is_among, nack_of, number_in, number_of, ◌>>=◌, profile_of, phrase_of, is_set, flag_of}
+use Rattle.rist_words.specs.Values.{is_numeral, is_among, nack_of, number_at, number_in, number_of, ◌>>=◌, profile_of, phrase_of, is_set, flag_of}
 use Rattle.rist_words.specs.CommandLine.{Session, Stream, Receiver, Serving, ports, key_bits, delays, spans, restarts, flows, firsts, gaps, stores, holds, lingers, turn_counts}
 use Rattle.rist_words.specs.CommandLine.{reorders, retry_times, retry_counts, own_ssrcs, idle_times, kept_counts, udp_ports, session_of, pcap_with, stream_of, receiver_of, serving_of}
 use Rattle.rist_words.specs.Links.{colon, each_link, gate_links_of, input_counts, inputs_of, link_of, link_weights, links_of, shares_of, split_at, weights_in}
@@ -56,6 +56,10 @@ text_range numbers text n e =
 pub number_range : (numbers : Numbers) (o : Option Text) (n : ℕ) → IsAmong numbers numbers.default → number_of numbers o ≡ Some n → IsAmong numbers n
 number_range numbers None n default e = subst (IsAmong numbers) (same_some numbers.default n e) default
 number_range numbers (Some text) n default e = text_range numbers text n e
+
+pub position_range : (numbers : Numbers) (o : Option Text) (n : ℕ) → number_at numbers o ≡ Some n → IsAmong numbers n
+position_range numbers None n e = cc
+position_range numbers (Some text) n e = text_range numbers text n e
 
 pub two_bits : (n : ℕ) → IsAmong key_bits n → (n ≡ 128) ⊎ (n ≡ 256)
 two_bits n a = let l = a.least in let m = a.most in let k = a.multiple in by_half (nat_lt n 256) refl

@@ -4,13 +4,14 @@ use Rattle.std.specs.Prelude.{option_map, codes}
 use Rattle.std.specs.Str.{bytes_eq}
 use Rattle.clap.specs.Words.{Kinds, Row, Text, all_of, first_of}
 use Rattle.rist_words.specs.Commands.{faults_of, command_in}
-use Rattle.rist_words.specs.Values.{is_set, number_of, name_of}
-use Rattle.rist_words.specs.CommandLine.{CommandLine, Replay, Show, Count, Pack, Send, Recv, Gate, ReplayCommand, ShowCommand, CountCommand, PackCommand, SendCommand, RecvCommand, GateCommand}
+use Rattle.rist_words.specs.Values.{is_set, number_at, number_of, name_of}
+use Rattle.rist_words.specs.CommandLine.{CommandLine, Replay, Show, Count, Pack, Send, Recv, Gate, Drill, ReplayCommand, ShowCommand, CountCommand, PackCommand, SendCommand, RecvCommand, GateCommand, DrillCommand}
 use Rattle.rist_words.specs.CommandLine.{delays, spans, restarts, gaps, stores, holds, lingers, turn_counts, session_of, pcap_of, stream_of, receiver_of, serving_of}
-use Rattle.rist_words.specs.CommandLine.{replay_of, show_of, count_of, pack_of, send_of, recv_of, gate_of, command_line, taken_line, line_of}
+use Rattle.rist_words.specs.CommandLine.{drill_numbers, drill_counts, drill_links, drill_losses}
+use Rattle.rist_words.specs.CommandLine.{replay_of, show_of, count_of, pack_of, send_of, recv_of, gate_of, drill_of, command_line, taken_line, line_of}
 use Rattle.rist_words.specs.Links.{gate_links_of, links_of, shares_of}
-use Rattle.rist_words.specs.Ranges.{IsInReplay, IsInShow, IsInCount, IsInPack, IsInSend, IsInRecv, IsInGate, IsInRange}
-use Rattle.rist_words.proofs.PartRanges.{reads, same_some, number_range, session_range, udp_range, stream_range, links_range, share_range, receiver_range, serving_range, gate_links_range}
+use Rattle.rist_words.specs.Ranges.{IsInReplay, IsInShow, IsInCount, IsInPack, IsInSend, IsInRecv, IsInGate, IsInDrill, IsInRange}
+use Rattle.rist_words.proofs.PartRanges.{reads, same_some, number_range, position_range, session_range, udp_range, stream_range, links_range, share_range, receiver_range, serving_range, gate_links_range}
 use Rattle.rist_words.proofs.PartRanges.{default_gap, default_store, default_hold, default_linger, default_turns}
 
 replay_range : (rows : List Row) (c : ReplayCommand) → replay_of rows ≡ Some c → IsInReplay c
@@ -160,6 +161,24 @@ gate_range rows c e =
       share = share_range (length links.value.1) (first_of (codes "share") rows) share.value share.is;
     })
 
+drill_range : (rows : List Row) (c : DrillCommand) → drill_of rows ≡ Some c → IsInDrill c
+drill_range rows c e =
+    let number = reads (number_at drill_numbers (first_of (codes "number") rows)) _ c e in
+    let count = reads (number_at drill_counts (first_of (codes "count") rows)) _ c number.rest in
+    let links = reads (number_at drill_links (first_of (codes "links") rows)) _ c count.rest in
+    let loss = reads (number_at drill_losses (first_of (codes "loss") rows)) _ c links.rest in
+    let n = position_range drill_numbers (first_of (codes "number") rows) number.value number.is in
+    let k = position_range drill_counts (first_of (codes "count") rows) count.value count.is in
+    let l = position_range drill_links (first_of (codes "links") rows) links.value links.is in
+    let s = position_range drill_losses (first_of (codes "loss") rows) loss.value loss.is in
+    subst IsInDrill (same_some _ _ loss.rest) (record {
+      number = omega (arith, n.most);
+      count = k.most;
+      some_link = l.least;
+      links = l.most;
+      loss = s.most;
+    })
+
 mapped : {A : Type 0} (f : A → CommandLine) (P : A → Type 0) (o : Option A) (c : CommandLine) → ((a : A) → o ≡ Some a → P a) → ((a : A) → P a → IsInRange (f a)) → option_map f o ≡ Some c → IsInRange c
 mapped f P None c each to e = cc
 mapped f P (Some a) c each to e = subst IsInRange (same_some (f a) c e) (to a (each a refl))
@@ -167,21 +186,22 @@ mapped f P (Some a) c each to e = subst IsInRange (same_some (f a) c e) (to a (e
 command_range : (name : Text) (rows : List Row) (c : CommandLine) → command_line name rows ≡ Some c → IsInRange c
 command_range name rows c e =
     by_name (bytes_eq name (codes "replay")) (bytes_eq name (codes "show")) (bytes_eq name (codes "count")) (bytes_eq name (codes "pack"))
-    (bytes_eq name (codes "send")) (bytes_eq name (codes "recv")) (bytes_eq name (codes "gate")) e
+    (bytes_eq name (codes "send")) (bytes_eq name (codes "recv")) (bytes_eq name (codes "gate")) (bytes_eq name (codes "drill")) e
   where
-    by_name : (a b n d s r g : Bool)
+    by_name : (a b n d s r g w : Bool)
         → cond a (option_map Replay (replay_of rows)) (cond b (option_map Show (show_of rows)) (cond n (option_map Count (count_of rows))
         (cond d (option_map Pack (pack_of rows)) (cond s (option_map Send (send_of rows)) (cond r (option_map Recv (recv_of rows))
-        (cond g (option_map Gate (gate_of rows)) None)))))) ≡ Some c
+        (cond g (option_map Gate (gate_of rows)) (cond w (option_map Drill (drill_of rows)) None))))))) ≡ Some c
         → IsInRange c
-    by_name true b n d s r g p = mapped Replay IsInReplay (replay_of rows) c (replay_range rows) (λ a i. i) p
-    by_name false true n d s r g p = mapped Show IsInShow (show_of rows) c (show_range rows) (λ a i. i) p
-    by_name false false true d s r g p = mapped Count IsInCount (count_of rows) c (count_range rows) (λ a i. i) p
-    by_name false false false true s r g p = mapped Pack IsInPack (pack_of rows) c (pack_range rows) (λ a i. i) p
-    by_name false false false false true r g p = mapped Send IsInSend (send_of rows) c (send_range rows) (λ a i. i) p
-    by_name false false false false false true g p = mapped Recv IsInRecv (recv_of rows) c (recv_range rows) (λ a i. i) p
-    by_name false false false false false false true p = mapped Gate IsInGate (gate_of rows) c (gate_range rows) (λ a i. i) p
-    by_name false false false false false false false p = cc
+    by_name true b n d s r g w p = mapped Replay IsInReplay (replay_of rows) c (replay_range rows) (λ a i. i) p
+    by_name false true n d s r g w p = mapped Show IsInShow (show_of rows) c (show_range rows) (λ a i. i) p
+    by_name false false true d s r g w p = mapped Count IsInCount (count_of rows) c (count_range rows) (λ a i. i) p
+    by_name false false false true s r g w p = mapped Pack IsInPack (pack_of rows) c (pack_range rows) (λ a i. i) p
+    by_name false false false false true r g w p = mapped Send IsInSend (send_of rows) c (send_range rows) (λ a i. i) p
+    by_name false false false false false true g w p = mapped Recv IsInRecv (recv_of rows) c (recv_range rows) (λ a i. i) p
+    by_name false false false false false false true w p = mapped Gate IsInGate (gate_of rows) c (gate_range rows) (λ a i. i) p
+    by_name false false false false false false false true p = mapped Drill IsInDrill (drill_of rows) c (drill_range rows) (λ a i. i) p
+    by_name false false false false false false false false p = cc
 
 taken_range : (kinds : Kinds) (named : Option (Text × List Row)) (c : CommandLine) → taken_line kinds named ≡ Some c → IsInRange c
 taken_range [] None c e = cc

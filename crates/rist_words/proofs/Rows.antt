@@ -4,19 +4,19 @@ use Rattle.clap.proofs.OnLiterals.{clap_on_literals}
 use Rattle.outside_io.specs.declared.profile.Profile.TheVariants.{Main, Simple}
 use Rattle.rist_words.specs.Commands.{command_in, faults_of}
 use Rattle.request_rules.specs.declared.policy.NackKind.TheVariants.{Mask, Range}
-use Rattle.rist_words.specs.CommandLine.{Count, Gate, Pack, Receiver, Recv, Replay, Send, Serving, Session, Show, Stream, line_of}
+use Rattle.rist_words.specs.CommandLine.{Count, Drill, Gate, Pack, Receiver, Recv, Replay, Send, Serving, Session, Show, Stream, line_of}
 
 -- a session without options
 abbrev plain : Session
 plain = record { profile = Simple; port = 1968; pass = None; bits = 128; full = false }
 
 defaults : line_of (codes "rist" ∷ codes "replay" ∷ codes "a" ∷ codes "-" ∷ [])
-    ≡ Some (Replay (record { capture = codes "a"; out = codes "-"; session = plain; delay = 1000; span = 2048; restart = 0; pcap = None }))
+    ≡ Some (Replay (record { capture = codes "a"; out = codes "-"; session = plain; delay = 1000; span = 2048; restart = 0; drift = false; pcap = None }))
 unfolding clap_on_literals faults_of command_in
 defaults = refl
 
 between : line_of (codes "rist" ∷ codes "replay" ∷ codes "a" ∷ codes "--span=07" ∷ codes "b" ∷ codes "--delay" ∷ codes "5" ∷ [])
-    ≡ Some (Replay (record { capture = codes "a"; out = codes "b"; session = plain; delay = 5; span = 7; restart = 0; pcap = None }))
+    ≡ Some (Replay (record { capture = codes "a"; out = codes "b"; session = plain; delay = 5; span = 7; restart = 0; drift = false; pcap = None }))
 unfolding clap_on_literals faults_of command_in
 between = refl
 
@@ -58,14 +58,19 @@ unfolding clap_on_literals faults_of command_in
 sealed_in_simple = refl
 
 of_the_network : line_of (codes "rist" ∷ codes "replay" ∷ codes "--pcap" ∷ codes "--udp" ∷ codes "1968" ∷ codes "-" ∷ codes "-" ∷ [])
-    ≡ Some (Replay (record { capture = codes "-"; out = codes "-"; session = plain; delay = 1000; span = 2048; restart = 0; pcap = Some 1968 }))
+    ≡ Some (Replay (record { capture = codes "-"; out = codes "-"; session = plain; delay = 1000; span = 2048; restart = 0; drift = false; pcap = Some 1968 }))
 unfolding clap_on_literals faults_of command_in
 of_the_network = refl
 
 counting : line_of (codes "rist" ∷ codes "count" ∷ codes "a" ∷ codes "--span=8" ∷ codes "--restart" ∷ codes "500" ∷ [])
-    ≡ Some (Count (record { capture = codes "a"; session = plain; delay = 1000; span = 8; restart = 500; pcap = None }))
+    ≡ Some (Count (record { capture = codes "a"; session = plain; delay = 1000; span = 8; restart = 500; drift = false; pcap = None }))
 unfolding clap_on_literals faults_of command_in
 counting = refl
+
+drifting : line_of (codes "rist" ∷ codes "replay" ∷ codes "--drift" ∷ codes "a" ∷ codes "-" ∷ [])
+    ≡ Some (Replay (record { capture = codes "a"; out = codes "-"; session = plain; delay = 1000; span = 2048; restart = 0; drift = true; pcap = None }))
+unfolding clap_on_literals faults_of command_in
+drifting = refl
 
 port_in_main : line_of (codes "rist" ∷ codes "show" ∷ codes "a" ∷ codes "--udp=65535" ∷ codes "--profile=main" ∷ codes "--pcap" ∷ [])
     ≡ Some (Show (record { capture = codes "a"; session = record plain { profile = Main }; pcap = Some 65535 }))
@@ -133,7 +138,7 @@ no_link = refl
 
 -- a receiver and its run without options
 abbrev plain_receiver : Receiver
-plain_receiver = record { delay = 1000; span = 2048; restart = 0; reorder = 25; least = 50; tries = 8; nack = Range; own = 7 }
+plain_receiver = record { delay = 1000; span = 2048; restart = 0; drift = false; reorder = 25; least = 50; tries = 8; nack = Range; own = 7 }
 
 -- likewise
 abbrev plain_serving : Serving
@@ -168,3 +173,31 @@ gateway = refl
 gateway_of_one_link : line_of (codes "rist" ∷ codes "gate" ∷ codes "--in=1" ∷ codes "127.0.0.1:5000" ∷ []) ≡ None
 unfolding clap_on_literals faults_of command_in
 gateway_of_one_link = refl
+
+simulated : line_of (codes "rist" ∷ codes "drill" ∷ codes "7" ∷ codes "200" ∷ codes "2" ∷ codes "100" ∷ []) ≡ Some (Drill (record { number = 7; count = 200; links = 2; loss = 100 }))
+unfolding clap_on_literals faults_of command_in
+simulated = refl
+
+drill_of_5001_payloads : line_of (codes "rist" ∷ codes "drill" ∷ codes "7" ∷ codes "5001" ∷ codes "2" ∷ codes "100" ∷ []) ≡ None
+unfolding clap_on_literals faults_of command_in
+drill_of_5001_payloads = refl
+
+drill_without_links : line_of (codes "rist" ∷ codes "drill" ∷ codes "7" ∷ codes "200" ∷ codes "0" ∷ codes "100" ∷ []) ≡ None
+unfolding clap_on_literals faults_of command_in
+drill_without_links = refl
+
+drill_on_five_links : line_of (codes "rist" ∷ codes "drill" ∷ codes "7" ∷ codes "200" ∷ codes "5" ∷ codes "100" ∷ []) ≡ None
+unfolding clap_on_literals faults_of command_in
+drill_on_five_links = refl
+
+loss_above_all : line_of (codes "rist" ∷ codes "drill" ∷ codes "7" ∷ codes "200" ∷ codes "2" ∷ codes "1001" ∷ []) ≡ None
+unfolding clap_on_literals faults_of command_in
+loss_above_all = refl
+
+fifth_word : line_of (codes "rist" ∷ codes "drill" ∷ codes "7" ∷ codes "200" ∷ codes "2" ∷ codes "100" ∷ codes "1" ∷ []) ≡ None
+unfolding clap_on_literals faults_of command_in
+fifth_word = refl
+
+drill_with_an_option : line_of (codes "rist" ∷ codes "drill" ∷ codes "7" ∷ codes "200" ∷ codes "2" ∷ codes "100" ∷ codes "--port=2" ∷ []) ≡ None
+unfolding clap_on_literals faults_of command_in
+drill_with_an_option = refl

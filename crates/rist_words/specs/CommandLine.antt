@@ -9,7 +9,7 @@ use Rattle.rist_words.specs.declared.values.Numbers.{Numbers}
 use Rattle.rist_words.specs.Commands.{faults_of, command_in}
 use Rattle.outside_net.specs.declared.link_spec.LinkSpec.{LinkSpec}
 use Rattle.request_rules.specs.declared.policy.NackKind.{NackKind}
-use Rattle.rist_words.specs.Values.{flag_of, is_set, nack_of, name_of, number_in, number_of, phrase_of, profile_of, ◌>>=◌}
+use Rattle.rist_words.specs.Values.{flag_of, is_set, nack_of, name_of, number_at, number_in, number_of, phrase_of, profile_of, ◌>>=◌}
 use Rattle.rist_words.specs.Links.{gate_links_of, links_of, shares_of}
 
 -- how the datagrams of a session are made: the UDP port of media, the passphrase if there is one, the bits of its key,
@@ -22,7 +22,8 @@ pub record Session : Type 0 where
   pub full : Bool
 
 -- a replay of a capture, with the playout delay in milliseconds, the buffer's capacity in packets, the restart time in
--- milliseconds, 0 for never, and the UDP port of the datagrams where the capture is a pcap file
+-- milliseconds, 0 for never, whether deadlines follow a clock that drifts, and the UDP port of the datagrams where the
+-- capture is a pcap file
 pub record ReplayCommand : Type 0 where
   pub capture : Text
   pub out : Text
@@ -30,6 +31,7 @@ pub record ReplayCommand : Type 0 where
   pub delay : ℕ
   pub span : ℕ
   pub restart : ℕ
+  pub drift : Bool
   pub pcap : Option ℕ
 
 -- a count of what a receiver would make of a capture's records, set as for a replay
@@ -39,6 +41,7 @@ pub record CountCommand : Type 0 where
   pub delay : ℕ
   pub span : ℕ
   pub restart : ℕ
+  pub drift : Bool
   pub pcap : Option ℕ
 
 -- a capture's records as text, with the UDP port of the datagrams where the capture is a pcap file
@@ -78,14 +81,15 @@ pub record SendCommand : Type 0 where
   pub linger : ℕ
   pub turns : ℕ
 
--- what a receiver is set to: the playout delay in milliseconds, the buffer's capacity in packets and the restart time
--- in milliseconds, 0 for never; for how many milliseconds a packet may be missing before it is asked for, the least
--- number of them between two requests for it, how often it is asked for at most, how requests are written, and the
--- receiver's own SSRC
+-- what a receiver is set to: the playout delay in milliseconds, the buffer's capacity in packets and the restart time in
+-- milliseconds, 0 for never; whether deadlines follow a clock that drifts; for how many milliseconds a
+-- packet may be missing before it is asked for, the least number of them between two requests for it, how often it is asked for
+-- at most, how requests are written, and the receiver's own SSRC
 pub record Receiver : Type 0 where
   pub delay : ℕ
   pub span : ℕ
   pub restart : ℕ
+  pub drift : Bool
   pub reorder : ℕ
   pub least : ℕ
   pub tries : ℕ
@@ -120,6 +124,14 @@ pub record GateCommand : Type 0 where
   pub hold : ℕ
   pub share : Option (List ℕ)
 
+-- a simulated run of a sender and a receiver: the number from which the network's words are drawn, how many payloads are
+-- sent, on how many links, and in how many of a thousand cases a datagram is lost
+pub record DrillCommand : Type 0 where
+  pub number : ℕ
+  pub count : ℕ
+  pub links : ℕ
+  pub loss : ℕ
+
 -- what the program is told to do
 pub data CommandLine : Type 0 where
   Replay : ReplayCommand → CommandLine
@@ -129,6 +141,7 @@ pub data CommandLine : Type 0 where
   Send : SendCommand → CommandLine
   Recv : RecvCommand → CommandLine
   Gate : GateCommand → CommandLine
+  Drill : DrillCommand → CommandLine
 
 -- the numbers that each option takes. Those of `--port`: an even UDP port
 abbrev pub ports : Numbers
@@ -202,6 +215,22 @@ idle_times = record { default = 0; least = 0; most = 86400000; multiple_of = 1 }
 abbrev pub kept_counts : Numbers
 kept_counts = record { default = 0; least = 0; most = 65536; multiple_of = 1 }
 
+-- NUMBER of a drill: any of 64 bits
+abbrev pub drill_numbers : Numbers
+drill_numbers = record { default = 0; least = 0; most = 18446744073709551615; multiple_of = 1 }
+
+-- its COUNT, in payloads
+abbrev pub drill_counts : Numbers
+drill_counts = record { default = 0; least = 0; most = 5000; multiple_of = 1 }
+
+-- its LINKS
+abbrev pub drill_links : Numbers
+drill_links = record { default = 1; least = 1; most = 4; multiple_of = 1 }
+
+-- its LOSS, in parts of a thousand
+abbrev pub drill_losses : Numbers
+drill_losses = record { default = 0; least = 0; most = 1000; multiple_of = 1 }
+
 -- `--udp`: a UDP port; in the Simple Profile, where RTCP has the next one, an even one
 abbrev pub udp_ports : Profile → Numbers
 udp_ports Main = record { default = 1; least = 1; most = 65535; multiple_of = 1 }
@@ -238,7 +267,7 @@ replay_of rows = do
   span ← number_of spans (first_of (codes "span") rows)
   restart ← number_of restarts (first_of (codes "restart") rows)
   pcap ← pcap_of session.profile rows
-  Some (record { capture = capture; out = out; session = session; delay = delay; span = span; restart = restart; pcap = pcap })
+  Some (record { capture = capture; out = out; session = session; delay = delay; span = span; restart = restart; drift = is_set (first_of (codes "drift") rows); pcap = pcap })
 
 -- the values of a counting
 abbrev pub count_of : List Row → Option CountCommand
@@ -249,7 +278,7 @@ count_of rows = do
   span ← number_of spans (first_of (codes "span") rows)
   restart ← number_of restarts (first_of (codes "restart") rows)
   pcap ← pcap_of session.profile rows
-  Some (record { capture = capture; session = session; delay = delay; span = span; restart = restart; pcap = pcap })
+  Some (record { capture = capture; session = session; delay = delay; span = span; restart = restart; drift = is_set (first_of (codes "drift") rows); pcap = pcap })
 
 -- the values of a showing
 abbrev pub show_of : List Row → Option ShowCommand
@@ -305,7 +334,7 @@ receiver_of rows = do
   tries ← number_of retry_counts (first_of (codes "tries") rows)
   nack ← nack_of (first_of (codes "nack") rows)
   own ← number_of own_ssrcs (first_of (codes "own") rows)
-  Some (record { delay = delay; span = span; restart = restart; reorder = reorder; least = least; tries = tries; nack = nack; own = own })
+  Some (record { delay = delay; span = span; restart = restart; drift = is_set (first_of (codes "drift") rows); reorder = reorder; least = least; tries = tries; nack = nack; own = own })
 
 -- the run that a command's values give
 abbrev pub serving_of : List Row → Option Serving
@@ -348,6 +377,15 @@ gate_of rows = do
     share = share;
   })
 
+-- the values of a simulated run
+abbrev pub drill_of : List Row → Option DrillCommand
+drill_of rows = do
+  number ← number_at drill_numbers (first_of (codes "number") rows)
+  count ← number_at drill_counts (first_of (codes "count") rows)
+  links ← number_at drill_links (first_of (codes "links") rows)
+  loss ← number_at drill_losses (first_of (codes "loss") rows)
+  Some (record { number = number; count = count; links = links; loss = loss })
+
 -- the line of a command with what is given to it
 abbrev pub command_line : Text → List Row → Option CommandLine
 command_line name rows =
@@ -357,7 +395,8 @@ command_line name rows =
     else (if bytes_eq name (codes "pack") then option_map Pack (pack_of rows)
     else (if bytes_eq name (codes "send") then option_map Send (send_of rows)
     else (if bytes_eq name (codes "recv") then option_map Recv (recv_of rows)
-    else (if bytes_eq name (codes "gate") then option_map Gate (gate_of rows) else None))))))
+    else (if bytes_eq name (codes "gate") then option_map Gate (gate_of rows)
+    else (if bytes_eq name (codes "drill") then option_map Drill (drill_of rows) else None)))))))
 
 -- with nothing against the words, the line of the command that they name
 abbrev pub taken_line : Kinds → Option (Text × List Row) → Option CommandLine

@@ -25,9 +25,9 @@ session_app name = with_rules Valued (new_app name) (codes "profile" ∷ codes "
 abbrev pub with_arguments : App → List Text → List Text → List Text → App
 with_arguments app options flags positions = with_rules Position (with_rules Flag (with_rules Valued app options) flags) positions
 
--- a replay: its options beside the session's, and its positions
+-- a replay: its options beside the session's, its flags and its positions
 abbrev pub replay_app : App
-replay_app = with_arguments (session_app (codes "replay")) (codes "delay" ∷ codes "span" ∷ codes "restart" ∷ codes "udp" ∷ []) (codes "pcap" ∷ [])
+replay_app = with_arguments (session_app (codes "replay")) (codes "delay" ∷ codes "span" ∷ codes "restart" ∷ codes "udp" ∷ []) (codes "pcap" ∷ codes "drift" ∷ [])
     (codes "capture" ∷ codes "out" ∷ [])
 
 -- a showing: its option, its flag and its position
@@ -36,7 +36,7 @@ show_app = with_arguments (session_app (codes "show")) (codes "udp" ∷ []) (cod
 
 -- a counting: its options, its flag and its position
 abbrev pub count_app : App
-count_app = with_arguments (session_app (codes "count")) (codes "delay" ∷ codes "span" ∷ codes "restart" ∷ codes "udp" ∷ []) (codes "pcap" ∷ []) (codes "capture" ∷ [])
+count_app = with_arguments (session_app (codes "count")) (codes "delay" ∷ codes "span" ∷ codes "restart" ∷ codes "udp" ∷ []) (codes "pcap" ∷ codes "drift" ∷ []) (codes "capture" ∷ [])
 
 -- a packing: its options, its flags and its positions
 abbrev pub pack_app : App
@@ -55,24 +55,28 @@ receiver_options =
     codes "delay" ∷ codes "span" ∷ codes "restart" ∷ codes "reorder" ∷ codes "least" ∷ codes "tries" ∷ codes "nack" ∷ codes "own" ∷ codes "turns"
     ∷ codes "idle" ∷ codes "keep" ∷ []
 
--- a receiving: its options, its flag and its positions, of which the last takes one link or more
+-- a receiving: its options, its flags and its positions, of which the last takes one link or more
 abbrev pub recv_app : App
-recv_app = with_rules Positions (with_arguments (session_app (codes "recv")) receiver_options (codes "full" ∷ []) (codes "out" ∷ [])) (codes "link" ∷ [])
+recv_app = with_rules Positions (with_arguments (session_app (codes "recv")) receiver_options (codes "full" ∷ codes "drift" ∷ []) (codes "out" ∷ [])) (codes "link" ∷ [])
 
 -- a gateway: a receiver's options, its own, its flags and its links
 abbrev pub gate_app : App
 gate_app = with_rules Positions (with_arguments (with_rules Valued (session_app (codes "gate")) receiver_options)
     (codes "flow" ∷ codes "first" ∷ codes "store" ∷ codes "hold" ∷ codes "share" ∷ codes "in" ∷ [])
-    (codes "nulls" ∷ codes "wide" ∷ codes "full" ∷ []) []) (codes "link" ∷ [])
+    (codes "nulls" ∷ codes "wide" ∷ codes "full" ∷ codes "drift" ∷ []) []) (codes "link" ∷ [])
+
+-- a simulated run: four positions, and neither options nor flags
+abbrev pub drill_app : App
+drill_app = with_rules Position (new_app (codes "drill")) (codes "number" ∷ codes "count" ∷ codes "links" ∷ codes "loss" ∷ [])
 
 -- the commands over files
 abbrev pub files_app : App
 files_app = with_subcommand (with_subcommand (with_subcommand (with_subcommand (new_app (codes "rist")) replay_app.top) show_app.top) count_app.top)
     pack_app.top
 
--- the program: those, and the commands over links
+-- the program: those, the commands over links, and the simulated run
 abbrev pub rist_app : App
-rist_app = with_subcommand (with_subcommand (with_subcommand files_app send_app.top) recv_app.top) gate_app.top
+rist_app = with_subcommand (with_subcommand (with_subcommand (with_subcommand files_app send_app.top) recv_app.top) gate_app.top) drill_app.top
 
 -- what stands against taking the words, the program's name first; where nothing does, they are taken
 unfoldable pub faults_of : List Text → Kinds

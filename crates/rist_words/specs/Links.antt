@@ -1,5 +1,5 @@
 -- How links, and the weights by which they share a stream, are written on a command line (this profile).
-use Rattle.std.specs.Prelude.{ℕ, ◌-◌, zero, suc, List, [], ◌∷◌, length, take, drop, Bool, nat_lt, ◌&&◌, ◌==◌, if◌then◌else◌, Option, Some, None, option_map}
+use Rattle.std.specs.Prelude.{ℕ, ◌-◌, zero, suc, List, [], ◌∷◌, length, take, drop, nat_lt, ◌&&◌, ◌==◌, if◌then◌else◌, Option, Some, None, option_map}
 use Rattle.std.specs.List.{before_first, after_first, position_or_len}
 use Rattle.clap.specs.Words.{Text}
 use Rattle.outside_io.specs.declared.profile.Profile.{Profile}

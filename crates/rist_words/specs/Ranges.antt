@@ -3,8 +3,8 @@ use Rattle.std.specs.Prelude.{◌≡◌, ◌⊎◌, ℕ, ◌+◌, ◌%◌, ◌^�
 use Rattle.std.specs.List.{All}
 use Rattle.outside_io.specs.declared.profile.Profile.{Profile}
 use Rattle.outside_io.specs.declared.profile.Profile.TheVariants.{Simple}
-use Rattle.rist_words.specs.CommandLine.{CommandLine, Replay, Show, Count, Pack, Send, Recv, Gate, Session, Stream, Receiver, Serving, ReplayCommand, ShowCommand, CountCommand, PackCommand, SendCommand, RecvCommand, GateCommand}
-use Rattle.rist_words.specs.CommandLine.{ports, delays, spans, restarts, gaps, stores, holds, lingers, turn_counts, reorders, retry_times, retry_counts, idle_times, kept_counts}
+use Rattle.rist_words.specs.CommandLine.{CommandLine, Replay, Show, Count, Pack, Send, Recv, Gate, Drill, Session, Stream, Receiver, Serving, ReplayCommand, ShowCommand, CountCommand, PackCommand, SendCommand, RecvCommand, GateCommand, DrillCommand}
+use Rattle.rist_words.specs.CommandLine.{ports, delays, spans, restarts, gaps, stores, holds, lingers, turn_counts, reorders, retry_times, retry_counts, idle_times, kept_counts, drill_counts, drill_links, drill_losses}
 use Rattle.rist_words.specs.Links.{link_weights}
 
 -- an even port, a key's length, and a passphrase and full datagrams in the Main Profile alone
@@ -130,6 +130,14 @@ pub record IsInGate (c : GateCommand) : Type 0 where
   pub hold : c.hold ≤ holds.most
   pub share : IfSome c.share (λ weights. (length weights ≡ length c.outputs) × All IsWeight weights)
 
+-- a number of 64 bits, and numbers that the other positions take
+pub record IsInDrill (c : DrillCommand) : Type 0 where
+  pub number : c.number < 2 ^ 64
+  pub count : c.count ≤ drill_counts.most
+  pub some_link : drill_links.least ≤ c.links
+  pub links : c.links ≤ drill_links.most
+  pub loss : c.loss ≤ drill_losses.most
+
 -- a line's values lie in their ranges
 abbrev pub IsInRange : CommandLine → Type 0
 IsInRange (Replay c) = IsInReplay c
@@ -139,3 +147,4 @@ IsInRange (Pack c) = IsInPack c
 IsInRange (Send c) = IsInSend c
 IsInRange (Recv c) = IsInRecv c
 IsInRange (Gate c) = IsInGate c
+IsInRange (Drill c) = IsInDrill c

@@ -13,7 +13,8 @@ use Rattle.rist_words.specs.declared.lines.ReceiverWords.{ReceiverWords}
 use Rattle.rist_words.specs.declared.lines.ServingWords.{ServingWords}
 use Rattle.rist_words.specs.declared.lines.RecvLine.{RecvLine}
 use Rattle.rist_words.specs.declared.lines.GateLine.{GateLine}
-use Rattle.rist_words.specs.CommandLine.{CommandLine, Replay, Show, Count, Pack, Send, Recv, Gate, Session, Stream, Receiver, Serving, ReplayCommand, ShowCommand, CountCommand, PackCommand, SendCommand, RecvCommand, GateCommand}
+use Rattle.rist_words.specs.declared.lines.DrillLine.{DrillLine}
+use Rattle.rist_words.specs.CommandLine.{CommandLine, Replay, Show, Count, Pack, Send, Recv, Gate, Drill, Session, Stream, Receiver, Serving, ReplayCommand, ShowCommand, CountCommand, PackCommand, SendCommand, RecvCommand, GateCommand, DrillCommand}
 
 -- the session of a line
 abbrev pub shown_session : SessionWords → Session
@@ -21,7 +22,7 @@ shown_session s = record { profile = s.profile; port = s.port; pass = option_map
 
 -- the replay that a line says
 abbrev pub shown_replay : ReplayLine → ReplayCommand
-shown_replay l = record { capture = l.capture.now; out = l.out.now; session = shown_session l.session; delay = l.delay; span = l.span; restart = l.restart; pcap = l.pcap }
+shown_replay l = record { capture = l.capture.now; out = l.out.now; session = shown_session l.session; delay = l.delay; span = l.span; restart = l.restart; drift = l.drift; pcap = l.pcap }
 
 -- the showing that a line says
 abbrev pub shown_show : ShowLine → ShowCommand
@@ -29,7 +30,7 @@ shown_show l = record { capture = l.capture.now; session = shown_session l.sessi
 
 -- the counting that a line says
 abbrev pub shown_count : CountLine → CountCommand
-shown_count l = record { capture = l.capture.now; session = shown_session l.session; delay = l.delay; span = l.span; restart = l.restart; pcap = l.pcap }
+shown_count l = record { capture = l.capture.now; session = shown_session l.session; delay = l.delay; span = l.span; restart = l.restart; drift = l.drift; pcap = l.pcap }
 
 -- the stream of a line
 abbrev pub shown_stream : StreamWords → Stream
@@ -56,7 +57,7 @@ shown_send l = record {
 
 -- what a line sets its receiver to
 abbrev pub shown_receiver : ReceiverWords → Receiver
-shown_receiver r = record { delay = r.delay; span = r.span; restart = r.restart; reorder = r.reorder; least = r.least; tries = r.tries; nack = r.nack; own = r.own }
+shown_receiver r = record { delay = r.delay; span = r.span; restart = r.restart; drift = r.drift; reorder = r.reorder; least = r.least; tries = r.tries; nack = r.nack; own = r.own }
 
 -- the run of a line's receiver
 abbrev pub shown_serving : ServingWords → Serving
@@ -80,6 +81,10 @@ shown_gate l = record {
   share = option_map (λ weights. weights.items) l.share;
 }
 
+-- the simulated run that a line says
+abbrev pub shown_drill : DrillLine → DrillCommand
+shown_drill l = record { number = l.number; count = l.count; links = l.links; loss = l.loss }
+
 -- what a line says
 abbrev pub shown : Line → CommandLine
 shown (lines.Replay l) = Replay (shown_replay l)
@@ -89,3 +94,4 @@ shown (lines.Pack l) = Pack (shown_pack l)
 shown (lines.Send l) = Send (shown_send l)
 shown (lines.Recv l) = Recv (shown_recv l)
 shown (lines.Gate l) = Gate (shown_gate l)
+shown (lines.Drill l) = Drill (shown_drill l)

@@ -35,6 +35,11 @@ abbrev pub number_of : Numbers → Option Text → Option ℕ
 number_of numbers None = Some numbers.default
 number_of numbers (Some text) = number_in numbers text
 
+-- the number at a position, which has to be given
+abbrev pub number_at : Numbers → Option Text → Option ℕ
+number_at numbers None = None
+number_at numbers (Some text) = number_in numbers text
+
 -- a name isn't empty
 abbrev pub name_of : Option Text → Option Text
 name_of None = None

@@ -2,7 +2,7 @@
 ghost use Rattle.std.specs.Prelude.{◌≡◌, IfOk, false, map};
 ghost use Rattle.clap.specs.Words.{app_of, rule_of, with_rule, with_subcommand};
 ghost use Rattle.clap.specs.declared.Command.TheViews.{out-Command as fields_of};
-ghost use Rattle.rist_words.specs.Commands.{rule_for, with_rules, session_app, with_arguments, files_app, rist_app};
+ghost use Rattle.rist_words.specs.Commands.{rule_for, with_rules, session_app, with_arguments, drill_app, files_app, rist_app};
 
 use clap::{Arg, ArgAction, Command};
 use std::alloc::{AllocError, Global};
@@ -22,8 +22,11 @@ static COUNT: [&str; 1] = ["capture"];
 
 static COUNT_OPTIONS: [&str; 4] = ["delay", "span", "restart", "udp"];
 
-/// The flag of each command that reads a capture.
-static PCAP_FLAGS: [&str; 1] = ["pcap"];
+/// The flags of a replay, and of a counting.
+static REPLAY_FLAGS: [&str; 2] = ["pcap", "drift"];
+
+/// The flag of a showing.
+static SHOW_FLAGS: [&str; 1] = ["pcap"];
 
 static PACK: [&str; 2] = ["source", "capture"];
 
@@ -44,14 +47,19 @@ static STREAM_FLAGS: [&str; 3] = ["nulls", "wide", "full"];
 static RECV: [&str; 1] = ["out"];
 
 /// The flags of a receiving, which makes datagrams of control.
-static RECV_FLAGS: [&str; 1] = ["full"];
+static RECV_FLAGS: [&str; 2] = ["full", "drift"];
 
 /// The options of each command that receives.
 static RECEIVER_OPTIONS: [&str; 11] = [
     "delay", "span", "restart", "reorder", "least", "tries", "nack", "own", "turns", "idle", "keep",
 ];
 
+/// The flags of a gateway.
+static GATE_FLAGS: [&str; 4] = ["nulls", "wide", "full", "drift"];
+
 static GATE_OPTIONS: [&str; 6] = ["flow", "first", "store", "hold", "share", "in"];
+
+static DRILL: [&str; 4] = ["number", "count", "links", "loss"];
 
 /// How an argument is given.
 #[derive(Clone, Copy)]
@@ -81,9 +89,10 @@ pub fn program<'a>(alloc: Global) -> Result<Command<'a>, AllocError>
     let program = below(program, recv)?;
     let gate = session(alloc, "gate")?;
     let gate = with_all(alloc, gate, Kind::Valued, &RECEIVER_OPTIONS)?;
-    let gate = with_arguments(alloc, gate, &GATE_OPTIONS, &STREAM_FLAGS, &[])?;
+    let gate = with_arguments(alloc, gate, &GATE_OPTIONS, &GATE_FLAGS, &[])?;
     let gate = with_all(alloc, gate, Kind::Positions, &LINKS)?;
-    Ok(below(program, gate)?)
+    let program = below(program, gate)?;
+    Ok(below(program, drill(alloc)?)?)
 }
 
 /// The program with its commands over files.
@@ -92,18 +101,26 @@ fn over_files<'a>(alloc: Global) -> Result<Command<'a>, AllocError>
 {
     let program = Command::new(alloc, "rist");
     let replay = session(alloc, "replay")?;
-    let replay = with_arguments(alloc, replay, &REPLAY_OPTIONS, &PCAP_FLAGS, &REPLAY)?;
+    let replay = with_arguments(alloc, replay, &REPLAY_OPTIONS, &REPLAY_FLAGS, &REPLAY)?;
     let program = below(program, replay)?;
     let show = session(alloc, "show")?;
-    let show = with_arguments(alloc, show, &SHOW_OPTIONS, &PCAP_FLAGS, &SHOW)?;
+    let show = with_arguments(alloc, show, &SHOW_OPTIONS, &SHOW_FLAGS, &SHOW)?;
     let program = below(program, show)?;
     let count = session(alloc, "count")?;
-    let count = with_arguments(alloc, count, &COUNT_OPTIONS, &PCAP_FLAGS, &COUNT)?;
+    let count = with_arguments(alloc, count, &COUNT_OPTIONS, &REPLAY_FLAGS, &COUNT)?;
     let program = below(program, count)?;
     let pack = session(alloc, "pack")?;
     let pack = with_arguments(alloc, pack, &PACK_OPTIONS, &STREAM_FLAGS, &PACK)?;
     let program = below(program, pack)?;
     Ok(program)
+}
+
+/// The command of a simulated run, of positions alone.
+fn drill<'a>(alloc: Global) -> Result<Command<'a>, AllocError>
+    ensures app { IfOk result (λ r. app_of r ≡ drill_app) }
+    ensures local { IfOk result (λ r. (fields_of r).has_globals ≡ false) }
+{
+    Ok(with_all(alloc, Command::new(alloc, "drill"), Kind::Position, &DRILL)?)
 }
 
 /// A command that speaks of a session.

@@ -9,6 +9,7 @@ usage: rist COMMAND [OPTION..] ARGUMENT..
       --span PACKETS          capacity of the buffer, 1 to 16384 (default 2048)
       --restart MS            another flow takes over once nothing waits and no packet was kept
                               for so long, 1 to 60000, or 0: never (default 0)
+      --drift                 deadlines follow a sender's clock that drifts
       --pcap --udp PORT       CAPTURE is a pcap file, of which the datagrams to a UDP port count,
                               1 to 65535 (simple profile: even, and RTCP at the next one)
 
@@ -17,7 +18,7 @@ usage: rist COMMAND [OPTION..] ARGUMENT..
 
   rist count CAPTURE          count what a receiver would make of the records of a capture: the media
                               packets by verdict, and what is refused; a line each to -
-      --delay, --span, --restart, --pcap, --udp, as of replay
+      --delay, --span, --restart, --drift, --pcap, --udp, as of replay
 
   rist pack SOURCE CAPTURE    write a capture of the media datagrams that carry a stream
       --flow SSRC             an even number below 2^32 (default 270544960)
@@ -40,8 +41,8 @@ usage: rist COMMAND [OPTION..] ARGUMENT..
 
   rist recv OUT LINK..        write a stream as it is received on links, each an a.b.c.d:port
                               that is bound, one to sixteen
-      --delay, --span, --restart, as of replay; --full, as of pack; --turns, as of send, for each
-                              link
+      --delay, --span, --restart, --drift, as of replay; --full, as of pack; --turns, as of
+                              send, for each link
       --reorder MS            a packet is asked for once it is missing so long, 0 to 1000
                               (default 25)
       --least MS              least time between two requests for a packet, 5 to 1000 (default 50)
@@ -56,12 +57,18 @@ usage: rist COMMAND [OPTION..] ARGUMENT..
   rist gate LINK..            receive on the first links, and send on over the others, each payload
                               as it is played out
       --in LINKS              how many links receive, at least one and not all (default 1)
-      --delay, --span, --restart, --reorder, --least, --tries, --nack, --own, --turns, --idle,
-      --keep                  as of recv
+      --delay, --span, --restart, --drift, --reorder, --least, --tries, --nack, --own, --turns,
+      --idle, --keep          as of recv
       --flow, --first, --nulls, --wide, --full, --store, --hold, as of send
       --share W:W..           as of send, a weight for each link that sends
 
-  each command
+  rist drill NUMBER COUNT LINKS LOSS
+                              simulate a sender of COUNT payloads, 0 to 5000, a network of LINKS
+                              links, 1 to 4, that loses LOSS of 1000 datagrams, 0 to 1000, and a
+                              receiver; a summary to -. Losses and delays are drawn from NUMBER,
+                              0 to 18446744073709551615. There are no options
+
+  each command but drill
       --profile PROFILE       simple or main (default simple)
       --port PORT             UDP port of media, even, 2 to 65534 (default 1968)
       --pass PASSPHRASE       encrypt by a passphrase of 1 to 128 octets (main profile)

@@ -4,6 +4,7 @@
 #![tactic(auto)]
 
 mod command;
+mod drilling;
 mod help;
 pub mod laws;
 mod lines;
@@ -21,7 +22,7 @@ mod values;
 
 pub use help::USAGE;
 pub use lines::{
-    CountLine, GateLine, Line, PackLine, ReceiverWords, RecvLine, Refused, ReplayLine, SendLine,
-    ServingWords, SessionWords, ShowLine, StreamWords,
+    CountLine, DrillLine, GateLine, Line, PackLine, ReceiverWords, RecvLine, Refused, ReplayLine,
+    SendLine, ServingWords, SessionWords, ShowLine, StreamWords,
 };
 pub use reading::line;

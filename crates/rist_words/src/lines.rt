@@ -22,6 +22,8 @@ pub enum Line<'a> {
     Recv(RecvLine<'a>),
     /// `gate LINK..`
     Gate(GateLine<'a>),
+    /// `drill NUMBER COUNT LINKS LOSS`
+    Drill(DrillLine),
 }
 
 /// How the datagrams of a session are made and read.
@@ -54,6 +56,8 @@ pub struct ReplayLine<'a> {
     pub span: u64,
     /// How long no packet must have been kept before another flow takes over, in milliseconds, 0 to 60,000; 0 is never.
     pub restart: u64,
+    /// Whether deadlines follow a sender's clock that drifts.
+    pub drift: bool,
     /// The UDP port of the datagrams where the capture is a pcap file: 1 to 65,535, and in the Simple Profile even.
     pub pcap: Option<u16>,
 }
@@ -82,6 +86,8 @@ pub struct CountLine<'a> {
     pub span: u64,
     /// How long no packet must have been kept before another flow takes over, in milliseconds, 0 to 60,000; 0 is never.
     pub restart: u64,
+    /// Whether deadlines follow a sender's clock that drifts.
+    pub drift: bool,
     /// The UDP port of the datagrams where the capture is a pcap file: 1 to 65,535, and in the Simple Profile even.
     pub pcap: Option<u16>,
 }
@@ -149,6 +155,8 @@ pub struct ReceiverWords {
     pub span: u64,
     /// How long no packet must have been kept before another flow takes over, in milliseconds, 0 to 60,000; 0 is never.
     pub restart: u64,
+    /// Whether deadlines follow a sender's clock that drifts.
+    pub drift: bool,
     /// How long a packet may be missing before it is asked for, in milliseconds, 0 to 1,000.
     pub reorder: u64,
     /// The least time between two requests for one packet, in milliseconds, 5 to 1,000.
@@ -210,6 +218,19 @@ pub struct GateLine<'a> {
     /// The weights by which the outputs share the stream, 1 to 100 each and one for each output. Without them each
     /// datagram goes on all of them.
     pub share: Option<Vec<u8>>,
+}
+
+/// Simulate a sender and a receiver with a network between them, and write a summary.
+#[derive(Clone, Copy, Debug, PartialEq, Eq)]
+pub struct DrillLine {
+    /// The number from which the words of the network are drawn.
+    pub number: u64,
+    /// How many payloads are sent, 0 to 5,000.
+    pub count: u32,
+    /// On how many links, 1 to 4.
+    pub links: u8,
+    /// In how many of a thousand cases a datagram is lost, 0 to 1,000.
+    pub loss: u16,
 }
 
 /// Why there is no line.

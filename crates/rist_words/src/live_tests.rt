@@ -13,6 +13,7 @@ const RECEIVER: ReceiverWords = ReceiverWords {
     delay: 1000,
     span: 2048,
     restart: 0,
+    drift: false,
     reorder: 25,
     least: 50,
     tries: 8,
@@ -32,6 +33,7 @@ const LOW: (ReceiverWords, ServingWords) = (
         delay: 1,
         span: 1,
         restart: 0,
+        drift: false,
         reorder: 0,
         least: 5,
         tries: 0,
@@ -51,6 +53,7 @@ const HIGH: (ReceiverWords, ServingWords) = (
         delay: 30_000,
         span: 16_384,
         restart: 60_000,
+        drift: true,
         reorder: 1000,
         least: 1000,
         tries: 32,
@@ -88,8 +91,8 @@ static RECEIVED: [(&str, (ReceiverWords, ServingWords)); 3] = [
         LOW,
     ),
     (
-        "rist recv --delay 30000 --span=16384 --restart 60000 --reorder 1000 --least 1000 --tries 32 \
-         --nack=mask --own 4294967295 - \
+        "rist recv --drift --delay 30000 --span=16384 --restart 60000 --reorder 1000 --least 1000 \
+         --tries 32 --nack=mask --own 4294967295 - \
          127.0.0.1:2 --turns 1099511627776 --idle 86400000 127.0.0.1:65534 --keep=65536",
         HIGH,
     ),

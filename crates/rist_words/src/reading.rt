@@ -1,9 +1,10 @@
 //! The line that the words are.
 ghost use Rattle.std.specs.Prelude.{◌≡◌, Err, Some, None, IfOk, map, option_map, string_bytes};
 ghost use Rattle.clap.specs.Words.{found_of, rows_of};
-ghost use Rattle.rist_words.specs.CommandLine.{line_of, command_line, replay_of, show_of, count_of, pack_of, send_of, recv_of, gate_of};
-ghost use Rattle.rist_words.specs.Shown.{shown, shown_replay, shown_show, shown_count, shown_pack, shown_send, shown_recv, shown_gate};
+ghost use Rattle.rist_words.specs.CommandLine.{line_of, command_line, replay_of, show_of, count_of, pack_of, send_of, recv_of, gate_of, drill_of};
+ghost use Rattle.rist_words.specs.Shown.{shown, shown_replay, shown_show, shown_count, shown_pack, shown_send, shown_recv, shown_gate, shown_drill};
 
+use crate::drilling::drill_line;
 use crate::lines::{
     CountLine, GateLine, Line, PackLine, RecvLine, Refused, ReplayLine, SendLine, ShowLine,
 };
@@ -12,7 +13,7 @@ use crate::matching::matched;
 use crate::pcap::pcap;
 use crate::receiving::{DELAY, RESTART, SPAN, TURNS, receiver, serving};
 use crate::session::{session, stream};
-use crate::values::{Numbers, name, number};
+use crate::values::{Numbers, is_set, name, number};
 use clap::ArgMatches;
 use std::alloc::Global;
 
@@ -100,6 +101,11 @@ fn command_line<'a>(
             Ok(line) => Ok(Line::Gate(line)),
             Err(refused) => Err(refused),
         }
+    } else if command == "drill" {
+        match drill_line(values) {
+            Some(line) => Ok(Line::Drill(line)),
+            None => Err(Refused::Usage),
+        }
     } else {
         Err(Refused::Usage)
     }
@@ -118,6 +124,7 @@ fn replay_line<'a>(values: &ArgMatches<'a>) -> Option<ReplayLine<'a>>
         delay: number(values, "delay", DELAY)?,
         span: number(values, "span", SPAN)?,
         restart: number(values, "restart", RESTART)?,
+        drift: is_set(values, "drift"),
         pcap: pcap(values, session.profile)?,
     })
 }
@@ -148,6 +155,7 @@ fn count_line<'a>(values: &ArgMatches<'a>) -> Option<CountLine<'a>>
         delay,
         span,
         restart,
+        drift: is_set(values, "drift"),
         pcap: pcap(values, session.profile)?,
     })
 }

@@ -5,7 +5,7 @@ ghost use Rattle.rist_words.specs.CommandLine.{receiver_of, serving_of};
 ghost use Rattle.rist_words.specs.Shown.{shown_receiver, shown_serving};
 
 use crate::lines::{ReceiverWords, ServingWords};
-use crate::values::{Numbers, nack, number};
+use crate::values::{Numbers, is_set, nack, number};
 use clap::ArgMatches;
 
 pub const DELAY: Numbers = Numbers {
@@ -87,6 +87,7 @@ pub fn receiver(values: &ArgMatches<'_>) -> Option<ReceiverWords>
         delay: number(values, "delay", DELAY)?,
         span: number(values, "span", SPAN)?,
         restart: number(values, "restart", RESTART)?,
+        drift: is_set(values, "drift"),
         reorder: number(values, "reorder", REORDER)?,
         least: number(values, "least", LEAST)?,
         tries: number(values, "tries", TRIES)?,

@@ -1,7 +1,7 @@
 //! Command lines that are taken and refused.
 use crate::{
-    CountLine, Line, PackLine, Refused, ReplayLine, SendLine, SessionWords, ShowLine, StreamWords,
-    line,
+    CountLine, DrillLine, Line, PackLine, Refused, ReplayLine, SendLine, SessionWords, ShowLine,
+    StreamWords, line,
 };
 use outside_io::Profile;
 use outside_net::LinkSpec;
@@ -70,7 +70,28 @@ static REPLAYS: [(&str, &str, &str, u64, u64); 14] = [
     (" replay a b", "a", "b", 1000, 2048),
 ];
 
-static REFUSED: [&str; 79] = [
+/// Lines of a simulated run with their numbers.
+static DRILLS: [(&str, u64, u32, u8, u16); 5] = [
+    ("rist drill 7 200 2 100", 7, 200, 2, 100),
+    ("rist drill 0 0 1 0", 0, 0, 1, 0),
+    (
+        "rist drill 18446744073709551615 5000 4 1000",
+        18_446_744_073_709_551_615,
+        5000,
+        4,
+        1000,
+    ),
+    (
+        "rist drill 00000000000000000009 0010 01 01000",
+        9,
+        10,
+        1,
+        1000,
+    ),
+    ("rist drill -- 1 2 3 4", 1, 2, 3, 4),
+];
+
+static REFUSED: [&str; 97] = [
     "",
     "rist",
     "rist play a b",
@@ -83,6 +104,8 @@ static REFUSED: [&str; 79] = [
     "rist replay a b --span 16385",
     "rist replay a b --delay 0",
     "rist replay a b --restart 60001",
+    "rist replay a b --drift 1",
+    "rist replay a b --drift --drift",
     "rist replay a b --delay 30001",
     "rist replay a b --delay +5",
     "rist replay a b --delay -5",
@@ -146,6 +169,22 @@ static REFUSED: [&str; 79] = [
     "rist send a 127.0.0.1:5000 --turns 1099511627777",
     "rist send a 127.0.0.1:5000 --store 0",
     "rist send a 1.1.1.1:2 1.1.1.1:2 1.1.1.1:2 1.1.1.1:2 1.1.1.1:2 1.1.1.1:2 1.1.1.1:2 1.1.1.1:2 1.1.1.1:2 1.1.1.1:2 1.1.1.1:2 1.1.1.1:2 1.1.1.1:2 1.1.1.1:2 1.1.1.1:2 1.1.1.1:2 1.1.1.1:2",
+    "rist drill",
+    "rist drill 7 200 2",
+    "rist drill 7 200 2 100 1",
+    "rist drill 18446744073709551616 200 2 100",
+    "rist drill 7 5001 2 100",
+    "rist drill 7 200 0 100",
+    "rist drill 7 200 5 100",
+    "rist drill 7 200 2 1001",
+    "rist drill +7 200 2 100",
+    "rist drill 7 -200 2 100",
+    "rist drill 7 200 2 100%",
+    "rist drill 000000000000000000007 200 2 100",
+    "rist drill 7 200 2 ",
+    "rist drill 7 200 2 100 --port 1968",
+    "rist drill 7 200 2 100 --profile=main",
+    "rist drill --count 200 7 2 100",
     "rist --help",
     "rist replay --help",
     "rist help",
@@ -161,6 +200,7 @@ fn all_replays(alloc: Global) -> Result<bool, Fail> {
             delay,
             span,
             restart: 0,
+            drift: false,
             pcap: None,
         };
         if !reads(alloc, text, Ok(Line::Replay(line)))? {
@@ -214,21 +254,38 @@ fn all_counted(alloc: Global) -> Result<bool, Fail> {
         delay: 1000,
         span: 2048,
         restart: 0,
+        drift: false,
         pcap: None,
     };
     let set = CountLine {
         delay: 30_000,
         span: 8,
         restart: 60_000,
+        drift: true,
         pcap: Some(2),
         ..plain
     };
-    let text = "rist count --pcap a --udp 2 --restart 60000 --span=8 --delay 30000";
+    let text = "rist count --pcap --drift a --udp 2 --restart 60000 --span=8 --delay 30000";
     Ok(
         reads(alloc, "rist count a", Ok(Line::Count(plain)))?
             && reads(alloc, text, Ok(Line::Count(set)))?
             && reads(alloc, "rist count a b", Err(Refused::Usage))?,
     )
+}
+
+fn all_drills(alloc: Global) -> Result<bool, Fail> {
+    for (text, number, count, links, loss) in DRILLS {
+        let line = DrillLine {
+            number,
+            count,
+            links,
+            loss,
+        };
+        if !reads(alloc, text, Ok(Line::Drill(line)))? {
+            return Ok(false);
+        }
+    }
+    Ok(true)
 }
 
 fn all_packed(alloc: Global) -> Result<bool, Fail> {
@@ -322,6 +379,7 @@ fn words_are_a_line_or_refused(rt: HostRuntime) -> Result<(), Fail> {
     assert!(rt; all_counted(alloc)?);
     assert!(rt; all_packed(alloc)?);
     assert!(rt; all_sent(alloc)?);
+    assert!(rt; all_drills(alloc)?);
     assert!(rt; all_refused(alloc)?);
     assert_eq!(rt; line(alloc, &[]), Err(Refused::Usage));
     for (refused, text) in [

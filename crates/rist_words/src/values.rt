@@ -4,7 +4,7 @@ ghost use Rattle.std.specs.Char.{is_ascii_digit};
 ghost use Rattle.std.specs.List.{list_all};
 ghost use Rattle.std.specs.Str.Parse.{digits_value};
 ghost use Rattle.clap.specs.Words.{first_of, found_of, rows_of};
-ghost use Rattle.rist_words.specs.Values.{flag_of, is_among, is_numeral, is_set, nack_of, number_in, number_of, name_of, phrase_of, profile_of};
+ghost use Rattle.rist_words.specs.Values.{flag_of, is_among, is_numeral, is_set, nack_of, number_at, number_in, number_of, name_of, phrase_of, profile_of};
 
 use clap::ArgMatches;
 use outside_io::Profile;
@@ -41,6 +41,15 @@ pub fn number(matches: &ArgMatches<'_>, option: &str, numbers: Numbers) -> Optio
         Some(text) => number_in(text, numbers),
         None => Some(numbers.default),
     }
+}
+
+/// The number at a position, which has to be given.
+pub fn number_at(matches: &ArgMatches<'_>, position: &str, numbers: Numbers) -> Option<u64>
+    requires step { 0 < numbers.multiple_of }
+    ensures value { result ≡ number_at numbers (first_of position.now (rows_of (found_of matches.now))) }
+    ensures within { IfSome result (λ n. n ≤ numbers.most) }
+{
+    number_in(given(matches, position)?, numbers)
 }
 
 /// The number that a text is, if it is one that the option takes.
