@@ -39,7 +39,7 @@ fn each_verdict_has_its_line(rt: HostRuntime) -> Result<(), Fail> {
     let end = count(
         alloc,
         &session,
-        &Settings::muted(1000, 8, 0),
+        &Settings::muted(1000, 8, 0, false),
         &mut reader,
         &mut sink,
     );

@@ -1,5 +1,5 @@
 //! Laws of a replay.
-ghost use Rattle.std.specs.Prelude.{◌≡◌, ◌≤◌, ℕ, List};
+ghost use Rattle.std.specs.Prelude.{◌≡◌, ◌≤◌, ℕ, List, false};
 ghost use Rattle.std.specs.List.{concat};
 ghost use Rattle.outside_io.specs.Told.{IsPrefix};
 ghost use Rattle.capture_file.specs.Capture.{Record};
@@ -16,11 +16,11 @@ pub fn what_is_released_stays()
         → IsPrefix (released_so_far session limits rs) (replayed session limits rs) }
 {}
 
-/// The records of a run of copies of what one sender sent release the payloads of the numbers reached, by rising sent
-/// number, each once.
+/// Where the base of deadlines stays, the records of a run of copies of what one sender sent release the payloads of
+/// the numbers reached, by rising sent number, each once.
 pub fn what_was_reached_is_released()
     ensures { (session : Session) (limits : Limits) (p : SentStream) (run : List Delivery) (rs : List Record)
-        → 1 ≤ limits.playout_delay → IsCaptureOf session p run rs
+        → 1 ≤ limits.playout_delay → limits.drift ≡ false → IsCaptureOf session p run rs
         → HasSteadyTimestamps p → AreDeliveriesOf limits p run
         → replayed session limits rs ≡ concat (reached_payloads limits p run) }
 {}

@@ -82,7 +82,7 @@ fn leaves<S: Source + Drop>(
 ) -> Result<bool, Fail>
     requires { IsSession session.now }
 {
-    let settings = Settings::muted(1000, 8, 500);
+    let settings = Settings::muted(1000, 8, 500, false);
     let mut reader = Reader::over(source);
     let mut sink = sink;
     let result = replay(alloc, session, &settings, &mut reader, &mut sink);
@@ -255,5 +255,66 @@ fn what_breaks_off_is_replayed_so_far(rt: HostRuntime) -> Result<(), Fail> {
             b"A"
         )?
     );
+    Ok(())
+}
+
+/// Writes the record of a media packet at a moment in microseconds. Its timestamp is 90 ticks for each number.
+fn push_packet(
+    octets: &mut Vec<u8>,
+    us: u64,
+    ssrc: u32,
+    number: u16,
+    payload: &[u8; 1],
+) -> Result<(), Fail> {
+    octets.extend_from_slice(&[0, 0, 0, 13])?;
+    octets.extend_from_slice(us.to_be_bytes().as_slice())?;
+    octets.extend_from_slice(&[0x80, 33])?;
+    octets.extend_from_slice(number.to_be_bytes().as_slice())?;
+    octets.extend_from_slice((90 * u32::from(number)).to_be_bytes().as_slice())?;
+    octets.extend_from_slice(ssrc.to_be_bytes().as_slice())?;
+    octets.extend_from_slice(payload)?;
+    Ok(())
+}
+
+/// A capture of number 0 at tick 0, 1 to 2,046 and 2,048 each 20 ticks after its timestamp, and then of a retransmission
+/// of 2,047 at a moment in microseconds.
+fn drifting_capture(alloc: Global, us: u64) -> Result<Vec<u8>, Fail> {
+    let mut octets = joined(alloc, &[NAME])?;
+    push_packet(&mut octets, 0, 6, 0, b"A")?;
+    for number in 1..2047_u16 {
+        push_packet(&mut octets, 1000 * u64::from(number) + 223, 6, number, b"A")?;
+    }
+    push_packet(&mut octets, 2_048_223, 6, 2048, b"C")?;
+    push_packet(&mut octets, us, 7, 2047, b"B")?;
+    Ok(octets)
+}
+
+/// Whether the retransmission is played out before 2,048, with compensation of drift or without.
+fn replays_retransmission(alloc: Global, drift: bool, us: u64) -> Result<bool, Fail> {
+    let octets = drifting_capture(alloc, us)?;
+    let mut reader = Reader::over(Bytes::with(alloc, &octets, &[])?);
+    let mut sink = Store8::with(alloc, 4096, &[])?;
+    let settings = Settings::muted(1000, 2048, 0, drift);
+    replay(alloc, &simple_session(), &settings, &mut reader, &mut sink)
+        .ok()
+        .ok_or("the end")?;
+    Ok(sink.octets().ends_with(b"ABC"))
+}
+
+#[test]
+fn a_retransmission_is_late_by_a_base_that_moved(rt: HostRuntime) -> Result<(), Fail> {
+    let alloc = rt.alloc();
+    // After two windows of which the second was 20 ticks slower the base is 9, and 2,047 is due at tick 274,239.
+    for (drift, us, plays) in [
+        (true, 3_047_089, true),
+        (true, 3_047_100, false),
+        (false, 3_046_989, true),
+        (false, 3_047_000, false),
+    ] {
+        assert!(rt;
+            replays_retransmission(alloc, drift, us)? == plays,
+            "at {us}"
+        );
+    }
     Ok(())
 }
