@@ -14,7 +14,7 @@ use Rattle.rist_pack.specs.Packing.{Packs}
 use Rattle.rist_pack.specs.Capture.{packed_record, nonces_of}
 use Rattle.rist_pack.specs.declared.bad.PackBad.{PackBad}
 use Rattle.rist_pack.specs.declared.bad.PackBad.TheVariants as packs
-use Rattle.rist_words.specs.CommandLine.{CommandLine, Replay, Show, Count, Pack, Send, Recv, Gate}
+use Rattle.rist_words.specs.CommandLine.{CommandLine, Replay, Show, Count, Pack, Send, Recv, Gate, Drill}
 use Rattle.rist_top.specs.Sessions.{session_with, pack_settings}
 use Rattle.outside_io.specs.Causes.{HasReadCause, HasWriteCause}
 use Rattle.rist_top.specs.Causes.{fault_of}
@@ -75,6 +75,7 @@ work_ends IsKnown (Pack c) b p status input told read write words memory (inr wo
 work_ends IsKnown (Send c) b p status input told read write words memory work = absurd work
 work_ends IsKnown (Recv c) b p status input told read write words memory work = absurd work
 work_ends IsKnown (Gate c) b p status input told read write words memory work = absurd work
+work_ends IsKnown (Drill c) b p status input told read write words memory work = absurd work
 
 ran_done : {I O E L C : Type 0} (tells : Tells I O E) (old new : Shelf I O E L C) (c : CommandLine) (status : Status)
     (source : I) (b : List ℕ) → old.sources (source_name c) ≡ Here source → tells.remaining source ≡ Some b → IsWholeInput c b → NoneFailed tells old new c

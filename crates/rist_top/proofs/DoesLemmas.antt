@@ -4,7 +4,7 @@ use mathlib.Core.Logic.{inl, inr}
 use Rattle.std.specs.Prelude.{Option, None, Some}
 use Rattle.std.specs.declared.string.String.{String}
 use Rattle.outside_host.specs.Shelf.{Shelf}
-use Rattle.rist_words.specs.CommandLine.{CommandLine, Replay, Show, Count, Pack, Send, Recv, Gate, SendCommand, RecvCommand, GateCommand}
+use Rattle.rist_words.specs.CommandLine.{CommandLine, Replay, Show, Count, Pack, Send, Recv, Gate, Drill, SendCommand, RecvCommand, GateCommand}
 use Rattle.rist_top.specs.Causes.{CanRefuse}
 use Rattle.rist_top.specs.Does.{Does}
 use Rattle.rist_top.specs.DoesGate.{DoesGate}
@@ -26,6 +26,7 @@ no_files o (Pack c) none is files = absurd (cc (none, is))
 no_files o (Send c) none is files = files
 no_files o (Recv c) none is files = files
 no_files o (Gate c) none is files = files
+no_files o (Drill c) none is files = files
 
 no_sending : (o : Option CommandLine) (c : SendCommand) → plain_line o ≡ None → o ≡ Some (Send c) → ⊥
 no_sending o c none is = absurd (cc (none, is))
@@ -83,6 +84,7 @@ at_memory tells old (Pack c) = untouched old (Pack c)
 at_memory tells old (Send c) = inl (untouched old (Send c))
 at_memory tells old (Recv c) = inl (untouched old (Recv c))
 at_memory tells old (Gate c) = inl (untouched old (Gate c))
+at_memory tells old (Drill c) = inl (untouched old (Drill c))
 
 pub refuses : CanRefuse statuses.Memory
 refuses = inr (inl refl)
@@ -124,6 +126,7 @@ no_line (Some (Pack c)) recv gate none = absurd (cc (none))
 no_line (Some (Send c)) recv gate none = absurd (cc (none))
 no_line (Some (Recv c)) recv gate none = absurd (recv c refl)
 no_line (Some (Gate c)) recv gate none = absurd (gate c refl)
+no_line (Some (Drill c)) recv gate none = absurd (cc (none))
 
 -- and what is no line is no such line
 pub no_plain_line : (o : Option CommandLine) → o ≡ None → plain_line o ≡ None

@@ -1,5 +1,5 @@
 -- What a replay leaves is the exact release set.
-use Rattle.std.proofs.Common.{◌≡◌, ℕ, ◌≤◌, List, [], ◌∷◌, ◌++◌, None, Some, Option, IfSome, sym, ap, ◌∙◌, subst, append-nil, arith}
+use Rattle.std.proofs.Common.{◌≡◌, ℕ, ◌≤◌, List, ◌∷◌, None, Some, Option, IfSome, sym, ap, ◌∙◌, subst, arith, false}
 use Rattle.std.specs.Prelude.{Result, Ok, Err}
 use Rattle.std.specs.List.{concat}
 use Rattle.outside_io.specs.Told.{Passage, Appends}
@@ -49,10 +49,10 @@ done_walk form so_far whole p (Err walks.ReadFault) e left = cc
 done_walk form so_far whole p (Err walks.WriteFault) e left = cc
 done_walk form so_far whole p (Err walks.Memory) e left = cc
 
-released : (c : ReplayCommand) (rs : List Record) (p : SentStream) (run : List Delivery) → 1 ≤ c.delay → IsCaptureOf (session_read c.session) p run rs → HasSteadyTimestamps p → AreDeliveriesOf (replay_limits c) p run
+released : (c : ReplayCommand) (rs : List Record) (p : SentStream) (run : List Delivery) → 1 ≤ c.delay → IsCaptureOf (session_read c.session) p run rs → HasSteadyTimestamps p → c.drift ≡ false → AreDeliveriesOf (replay_limits c) p run
     → replayed (session_read c.session) (replay_limits c) rs ≡ concat (reached_payloads (replay_limits c) p run)
-released c rs p run some is steady honest =
-    ap (λ h. concat (released_payloads (replay_limits c) (end_step ∷ h))) is ∙ ap concat (sent.release_set (replay_limits c) p run steady (omega arith) honest)
+released c rs p run some is steady stays honest =
+    ap (λ h. concat (released_payloads (replay_limits c) (end_step ∷ h))) is ∙ ap concat (sent.release_set (replay_limits c) p run steady (omega arith) stays honest)
 
 released_epochs : (c : ReplayCommand) (rs : List Record) (streams : SentStreams) (run : List Transfer) → 1 ≤ c.delay → IsCaptureOfAll (session_read c.session) streams run rs → ((epoch : ℕ) → HasSteadyTimestamps (streams epoch)) → AreTransfersOf (replay_limits c) streams run
     → replayed (session_read c.session) (replay_limits c) rs ≡ concat (payloads_of_epochs streams (sent_epochs (replay_limits c) streams run))
@@ -83,8 +83,8 @@ ran_written tells old new c status done ran source sink filled b rs here_source 
 
 pub ran_reached : {I O E L C : Type 0} (tells : Tells I O E) (old new : Shelf I O E L C) (c : ReplayCommand) (status : Status)
     → 1 ≤ c.delay → status ≡ statuses.Done → Ran tells old new (Replay c) status → WritesReached tells old new c
-ran_reached tells old new c status some done ran source sink filled b rs p run here_source here_sink back_sink told is_capture is steady honest =
-    subst (Appends (tells.contents sink) (tells.contents filled)) (released c rs p run some is steady honest)
+ran_reached tells old new c status some done ran source sink filled b rs p run here_source here_sink back_sink told is_capture is steady stays honest =
+    subst (Appends (tells.contents sink) (tells.contents filled)) (released c rs p run some is steady stays honest)
     (ran_written tells old new c status done ran source sink filled b rs here_source here_sink back_sink told is_capture)
 
 pub ran_epochs : {I O E L C : Type 0} (tells : Tells I O E) (old new : Shelf I O E L C) (c : ReplayCommand) (status : Status)

@@ -1,5 +1,5 @@
 -- What a gateway leaves, part by part, and how it ends where nothing fails but links.
-use Rattle.std.proofs.Common.{◌≡◌, ◌∙◌, ◌⊎◌, ◌<◌, ◌≤◌, ◌+◌, ◌++◌, ℕ, List, length, map, take, drop, Option, None, Some, IfSome, [], is_some, true, refl, sym, ap, subst, slice_get, slice_index_or, get_or, get_or-drop, get_or-take, length-drop, length-take-le, arith}
+use Rattle.std.proofs.Common.{◌≡◌, ◌∙◌, ◌⊎◌, ◌<◌, ◌≤◌, ◌+◌, ℕ, List, length, map, take, drop, Option, None, Some, IfSome, [], is_some, refl, sym, ap, subst, slice_get, slice_index_or, get_or-drop, get_or-take, length-drop, length-take-le, arith}
 use Rattle.std.proofs.lemmas.List.{length-map, get_or-map}
 use Rattle.std.proofs.lemmas.Option.{get_or_from_slice_get}
 use mathlib.Core.Logic.{inl, inr}
@@ -35,10 +35,9 @@ use Rattle.rist_top.specs.Frame.{KeepsAroundGate, KeepsLinksBut, KeepsWords}
 use Rattle.rist_top.specs.Gated.{Gated, GatedByClocks, GatesAs, Ungated, gate_status}
 use Rattle.rist_top.specs.Inside.Answers.{KeepsButTiming}
 use Rattle.rist_top.specs.Objects.{Tells}
-use Rattle.rist_top.specs.Places.{CameBack}
 use Rattle.rist_top.specs.Received.{FromTheFirst}
 use Rattle.rist_top.specs.Sealing.{AreDrawn, FailedAt}
-use Rattle.rist_top.specs.Sent.{IsUnused, TellsLive}
+use Rattle.rist_top.specs.Sent.{TellsLive}
 use Rattle.rist_top.specs.Sessions.{bonding_with, limits_served, sender_gated, session_gated, session_read, settings_with, setup_gated, steps_kept}
 use Rattle.rist_top.specs.declared.status.Status.{Status}
 use Rattle.rist_top.specs.declared.status.Status.TheVariants as statuses

@@ -11,3 +11,4 @@ pub mod ReceiveLemmas
 pub mod HeardLemmas
 pub mod GatingLemmas
 pub mod DoesLemmas
+pub mod DrillLemmas

@@ -7,7 +7,7 @@ use Rattle.outside_host.specs.Shelf.{Shelf}
 use Rattle.psk_seal.specs.Sealer.{SealerState}
 use Rattle.rist_pack.specs.declared.bad.PackBad.{PackBad}
 use Rattle.rist_pack.specs.declared.bad.PackBad.TheVariants as packs
-use Rattle.rist_words.specs.CommandLine.{CommandLine, Replay, Show, Count, Pack, Send, Recv, Gate, PackCommand}
+use Rattle.rist_words.specs.CommandLine.{CommandLine, Replay, Show, Count, Pack, Send, Recv, Gate, Drill, PackCommand}
 use Rattle.rist_top.specs.Works.{Works, pack_status}
 use Rattle.rist_top.specs.Ran.{Ran}
 use Rattle.rist_top.specs.Objects.{Tells, passage}
@@ -38,6 +38,7 @@ at_memory tells old new (Count c) left = left
 at_memory tells old new (Send c) left = left
 at_memory tells old new (Recv c) left = left
 at_memory tells old new (Gate c) left = left
+at_memory tells old new (Drill c) left = left
 at_memory tells old new (Pack c) (inl same) = same
 at_memory tells old new (Pack c) (inr ran) =
     absurd (packs_with_memory _ c (passage tells ran.source ran.spent ran.sink ran.filled) ran.work)

@@ -7,7 +7,7 @@ use Rattle.outside_host.specs.declared.host.Place.TheVariants.{Here, Back}
 use Rattle.capture_file.specs.Capture.{Record}
 use Rattle.capture_walk.specs.Form.{Form, IsFile}
 use Rattle.rist_sender.specs.Links.{Line}
-use Rattle.rist_words.specs.CommandLine.{CommandLine, Replay, Show, Count, Pack, Send, Recv, Gate, SendCommand, RecvCommand, GateCommand}
+use Rattle.rist_words.specs.CommandLine.{CommandLine, Replay, Show, Count, Pack, Send, Recv, Gate, Drill, SendCommand, RecvCommand, GateCommand}
 use Rattle.rist_compare.specs.declared.tear.Tear.{Tear}
 use Rattle.rist_top.specs.Ran.{source_name, sink_name}
 use Rattle.rist_top.specs.Sealing.{FailedAt}
@@ -21,7 +21,7 @@ abbrev pub IsWholeFile : Form → List ℕ → Type 0
 IsWholeFile form b = ((rs : List Record) × IsFile form rs b) × (length b ≤ 2 ^ 40)
 
 -- octets that a command takes to their end: a capture or a pcap file, or for a packing or a sending any octets, within
--- the greatest offset; a receiving and a gateway have no source
+-- the greatest offset; a receiving, a gateway and a simulated run have no source
 abbrev pub IsWholeInput : CommandLine → List ℕ → Type 0
 IsWholeInput (Replay c) b = IsWholeFile (form_of c.session c.pcap) b
 IsWholeInput (Show c) b = IsWholeFile (form_of c.session c.pcap) b
@@ -30,6 +30,7 @@ IsWholeInput (Pack c) b = length b ≤ 2 ^ 40
 IsWholeInput (Send c) b = length b ≤ 2 ^ 40
 IsWholeInput (Recv c) b = ⊥
 IsWholeInput (Gate c) b = ⊥
+IsWholeInput (Drill c) b = ⊥
 
 -- no read, no write and no drawing of random words failed
 pub record NoneFailed {I O E L C : Type 0} (tells : Tells I O E) (old new : Shelf I O E L C) (c : CommandLine) : Type 0 where

@@ -1,5 +1,5 @@
 -- The exact release set of a replay, over the objects of a host.
-use Rattle.std.specs.Prelude.{◌≡◌, ℕ, List, Some}
+use Rattle.std.specs.Prelude.{◌≡◌, ℕ, List, Some, false}
 use Rattle.std.specs.List.{concat}
 use Rattle.outside_io.specs.Told.{Appends}
 use Rattle.outside_host.specs.Shelf.{Shelf}
@@ -14,14 +14,14 @@ use Rattle.rist_top.specs.Objects.{Tells}
 use Rattle.rist_top.specs.Sessions.{session_read, replay_limits}
 use Rattle.rist_top.specs.Works.{form_of}
 
--- what the sink gained are the payloads of the numbers that were reached, for every sender and every run of copies of
--- its packets that the octets of the source, told, are a capture or a pcap file of
+-- where the base of deadlines stays, what the sink gained are the payloads of the numbers that were reached, for every
+-- sender and every run of copies of its packets that the octets of the source, told, are a capture or a pcap file of
 abbrev pub WritesReached : {I O E L C : Type 0} → Tells I O E → Shelf I O E L C → Shelf I O E L C → ReplayCommand → Type 0
 WritesReached {I} {O} tells old new c =
     (source : I) (sink filled : O) (b : List ℕ) (rs : List Record) (p : SentStream) (run : List Delivery)
     → old.sources c.capture ≡ Here source → old.sinks c.out ≡ Here sink → new.sinks c.out ≡ Back filled
     → tells.remaining source ≡ Some b → IsFile (form_of c.session c.pcap) rs b → IsCaptureOf (session_read c.session) p run rs
-    → HasSteadyTimestamps p → AreDeliveriesOf (replay_limits c) p run
+    → HasSteadyTimestamps p → c.drift ≡ false → AreDeliveriesOf (replay_limits c) p run
     → Appends (tells.contents sink) (tells.contents filled) (concat (reached_payloads (replay_limits c) p run))
 
 -- where flows restart they are, epoch after epoch, the payloads of the numbers that were reached in it, for all streams

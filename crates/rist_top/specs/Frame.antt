@@ -4,7 +4,7 @@ use Rattle.outside_net.specs.declared.link_spec.Role.TheVariants.{Receives, Send
 use Rattle.outside_host.specs.Shelf.{Shelf, ChangesSources, ChangesSinks}
 use Rattle.outside_host.specs.declared.host.Opened.{Opened}
 use Rattle.outside_host.specs.declared.host.Place.{Place}
-use Rattle.rist_words.specs.CommandLine.{CommandLine, Replay, Show, Count, Pack, Send, Recv, Gate, SendCommand, RecvCommand, GateCommand}
+use Rattle.rist_words.specs.CommandLine.{CommandLine, Replay, Show, Count, Pack, Send, Recv, Gate, Drill, SendCommand, RecvCommand, GateCommand}
 use Rattle.rist_top.specs.Places.{CameBack, IsAsItWas, KeepsLive}
 use Rattle.rist_top.specs.Ran.{source_name, sink_name}
 
@@ -17,6 +17,7 @@ draws_words (Pack c) = is_some c.session.pass
 draws_words (Send c) = is_some c.session.pass
 draws_words (Recv c) = is_some c.session.pass
 draws_words (Gate c) = is_some c.session.pass
+draws_words (Drill c) = false
 
 -- what a line doesn't speak of stands as it stood, and what it speaks of came back: its source, its sink, and the first
 -- random words where it draws some

@@ -18,4 +18,5 @@ pub mod Exact
 pub mod Complete
 pub mod Does
 pub mod DoesGate
+pub mod DoesDrill
 pub mod Inside

@@ -2,7 +2,7 @@
 use Rattle.std.specs.Prelude.{◌≡◌, Bool, List, Option, Some, None, IsTrue, map, string_bytes}
 use Rattle.std.specs.declared.string.String.{String}
 use Rattle.outside_host.specs.Shelf.{Shelf}
-use Rattle.rist_words.specs.CommandLine.{CommandLine, Replay, Show, Count, Pack, Send, Recv, Gate, SendCommand, RecvCommand, GateCommand, line_of}
+use Rattle.rist_words.specs.CommandLine.{CommandLine, Replay, Show, Count, Pack, Send, Recv, Gate, Drill, SendCommand, RecvCommand, GateCommand, DrillCommand, line_of}
 
 -- they are this line
 abbrev pub IsLine : {A : Type 0} → List (String A) → CommandLine → Type 0
@@ -17,6 +17,7 @@ IsPlain (Pack c) = Unit {0}
 IsPlain (Send c) = Unit {0}
 IsPlain (Recv c) = ⊥
 IsPlain (Gate c) = ⊥
+IsPlain (Drill c) = Unit {0}
 
 -- a line, if its command is such a one
 abbrev pub plain_line : Option CommandLine → Option CommandLine
@@ -28,6 +29,7 @@ plain_line (Some (Pack c)) = Some (Pack c)
 plain_line (Some (Send c)) = Some (Send c)
 plain_line (Some (Recv c)) = None
 plain_line (Some (Gate c)) = None
+plain_line (Some (Drill c)) = Some (Drill c)
 
 -- they are no line whose command waits for nobody
 abbrev pub IsNoPlainLine : {A : Type 0} → List (String A) → Type 0
@@ -37,7 +39,7 @@ IsNoPlainLine words = plain_line (line_of (map string_bytes words)) ≡ None
 abbrev pub IsNoLine : {A : Type 0} → List (String A) → Type 0
 IsNoLine words = line_of (map string_bytes words) ≡ None
 
--- a command over a source and a sink: any but those over links
+-- a command over a source and a sink: any but those over links, and a simulated run, which reads nothing
 abbrev pub IsOverFiles : CommandLine → Type 0
 IsOverFiles (Replay c) = Unit {0}
 IsOverFiles (Show c) = Unit {0}
@@ -46,6 +48,7 @@ IsOverFiles (Pack c) = Unit {0}
 IsOverFiles (Send c) = ⊥
 IsOverFiles (Recv c) = ⊥
 IsOverFiles (Gate c) = ⊥
+IsOverFiles (Drill c) = ⊥
 
 -- P holds of the line that they are, if they are one over a source and a sink
 abbrev pub IfFiles : {A : Type 0} → List (String A) → (CommandLine → Type 0) → Type 0
@@ -62,6 +65,10 @@ IfReceiving words P = (c : RecvCommand) → IsLine words (Recv c) → P c
 -- P holds of the gateway that they are, if they are one
 abbrev pub IfGate : {A : Type 0} → List (String A) → (GateCommand → Type 0) → Type 0
 IfGate words P = (c : GateCommand) → IsLine words (Gate c) → P c
+
+-- P holds of the simulated run that they are, if they are one
+abbrev pub IfDrill : {A : Type 0} → List (String A) → (DrillCommand → Type 0) → Type 0
+IfDrill words P = (c : DrillCommand) → IsLine words (Drill c) → P c
 
 -- a host tells what stands on its shelf, and has handed out no random words yet
 abbrev pub IsFresh : {I O E L C : Type 0} → Bool → Shelf I O E L C → Type 0

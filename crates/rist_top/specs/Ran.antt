@@ -4,7 +4,7 @@ use Rattle.outside_io.specs.Causes.{HasReadCause, HasWriteCause}
 use Rattle.outside_io.specs.Told.{IsEmpty}
 use Rattle.outside_host.specs.Shelf.{Shelf}
 use Rattle.outside_host.specs.declared.host.Place.TheVariants.{Here, Back}
-use Rattle.rist_words.specs.CommandLine.{CommandLine, Replay, Show, Count, Pack, Send, Recv, Gate}
+use Rattle.rist_words.specs.CommandLine.{CommandLine, Replay, Show, Count, Pack, Send, Recv, Gate, Drill}
 use Rattle.rist_top.specs.Causes.{fault_of}
 use Rattle.rist_top.specs.Objects.{Tells, passage}
 use Rattle.rist_top.specs.Works.{Works}
@@ -12,7 +12,7 @@ use Rattle.rist_top.specs.Sealing.{FailedAt, DrawnFirst}
 use Rattle.rist_top.specs.declared.status.Status.{Status}
 use Rattle.rist_top.specs.declared.status.Status.TheVariants as statuses
 
--- the name of a line's source; a receiving and a gateway have none, since no name is empty
+-- the name of a line's source; a receiving, a gateway and a simulated run have none, since no name is empty
 abbrev pub source_name : CommandLine → List ℕ
 source_name (Replay c) = c.capture
 source_name (Show c) = c.capture
@@ -21,8 +21,10 @@ source_name (Pack c) = c.source
 source_name (Send c) = c.source
 source_name (Recv c) = []
 source_name (Gate c) = []
+source_name (Drill c) = []
 
--- the name of its sink: a showing and a counting write to the standard output, and a sending and a gateway have none
+-- the name of its sink: a showing, a counting and a simulated run write to the standard output, and a sending and a
+-- gateway have none
 abbrev pub sink_name : CommandLine → List ℕ
 sink_name (Replay c) = c.out
 sink_name (Show c) = codes "-"
@@ -31,6 +33,7 @@ sink_name (Pack c) = c.capture
 sink_name (Send c) = []
 sink_name (Recv c) = c.out
 sink_name (Gate c) = []
+sink_name (Drill c) = codes "-"
 
 -- the source and the sink of a line were handed out and came back, and the status says what they tell
 pub record Ran {I O E L C : Type 0} (tells : Tells I O E) (old new : Shelf I O E L C) (c : CommandLine) (status : Status) : Type 0 where

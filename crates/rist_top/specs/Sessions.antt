@@ -37,11 +37,11 @@ session_read s = session_with s false false
 
 -- the limits of a replay's receiver, in ticks and packets
 abbrev pub replay_limits : ReplayCommand → Limits
-replay_limits c = limits_of (muted_settings c.delay c.span c.restart)
+replay_limits c = limits_of (muted_settings c.delay c.span c.restart c.drift)
 
 -- those of a counting's receiver
 abbrev pub count_limits : CountCommand → Limits
-count_limits c = limits_of (muted_settings c.delay c.span c.restart)
+count_limits c = limits_of (muted_settings c.delay c.span c.restart c.drift)
 
 -- the flow that a source is packed as
 abbrev pub pack_settings : PackCommand → PackSettings
@@ -83,6 +83,7 @@ settings_with r = record {
   delay = r.delay;
   span = r.span;
   restart = r.restart;
+  drift = r.drift;
   reorder = r.reorder;
   least = r.least;
   tries = r.tries;

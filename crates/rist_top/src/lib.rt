@@ -2,6 +2,9 @@
 //! sinks tell before and after.
 #![tactic(auto)]
 
+#[cfg(test)]
+mod drill_tests;
+mod drilling;
 mod gating;
 #[cfg(test)]
 mod pcap_tests;

@@ -42,6 +42,7 @@ pub fn settings_of(words: &ReceiverWords) -> Settings
         delay: words.delay,
         span: words.span,
         restart: words.restart,
+        drift: words.drift,
         reorder: words.reorder,
         least: words.least,
         tries: words.tries,

@@ -510,8 +510,9 @@ fn step_of<'a>(packet: &MediaPacket, payload: &'a [u8]) -> Step<'a>
 {
     let arrival = Arrival {
         flow: packet.ssrc & !1,
+        again: packet.ssrc % 2 == 1,
         width: Width::W16,
-        word: u32::from(packet.word),
+        word: u32::from(packet.word) % 65_536,
         stamp: packet.stamp,
         payload,
     };
@@ -529,6 +530,7 @@ fn limits() -> Limits
         playout_delay: 90_000,
         capacity: 2048,
         restart_time: 45_000,
+        drift: false,
     }
 }
 
@@ -580,5 +582,42 @@ fn a_made_capture_is_replayed_as_the_plain_program_says(rt: HostRuntime) -> Resu
     let line = "replay - -";
     let first_alone = written(alloc, line, octets.as_slice(), &NOTHING, Status::Done)?;
     assert!(rt; first_alone.len() < 1000);
+    Ok(())
+}
+
+/// A capture of number 0 at tick 50, of 1 to 1,023 at their timestamps of 90 ticks each, and of 1,024 at a moment.
+fn drifting_capture(alloc: Global, micros: u64) -> Result<Vec<u8>, Fail> {
+    let mut octets = joined(alloc, &[NAME])?;
+    for word in 0..1025_u16 {
+        let micros = match word {
+            0 => 556,
+            1024 => micros,
+            _ => 1000 * u64::from(word),
+        };
+        let packet = MediaPacket {
+            micros,
+            ssrc: 6,
+            word,
+            stamp: 90 * u32::from(word),
+        };
+        push_record(&mut octets, &packet, b"A")?;
+    }
+    Ok(octets)
+}
+
+#[test]
+fn deadlines_follow_a_clock_that_drifts(rt: HostRuntime) -> Result<(), Fail> {
+    let alloc = rt.alloc();
+    // After a window the base is 41, so that 1,024 is due at tick 182,201; without drift it is due at 182,210.
+    for (line, micros, length) in [
+        ("replay --drift - -", 2_024_445, 1025),
+        ("replay --drift - -", 2_024_456, 1024),
+        ("replay - -", 2_024_545, 1025),
+        ("replay - -", 2_024_556, 1024),
+    ] {
+        let capture = drifting_capture(alloc, micros)?;
+        let played = written(alloc, line, capture.as_slice(), &NOTHING, Status::Done)?;
+        assert_eq!(rt; played.len(), length);
+    }
     Ok(())
 }

@@ -1,11 +1,11 @@
 //! The top call, and a line from its objects to its status.
 ghost use Rattle.std.specs.Prelude.{◌≡◌, ◌≢◌, ◌⊎◌, Err, IfOk, IsTrue};
 ghost use Rattle.outside_io.specs.Causes.{HasOpenCause, Rose};
-ghost use Rattle.rist_words.specs.CommandLine.{Gate, GateCommand, Recv, RecvCommand, Send, SendCommand};
+ghost use Rattle.rist_words.specs.CommandLine.{Drill, DrillCommand, Gate, GateCommand, Recv, RecvCommand, Send, SendCommand};
 ghost use Rattle.rist_words.specs.Shown.{shown, shown_gate, shown_recv};
 ghost use Rattle.rist_words.specs.Ranges.{IsInRange};
 ghost use Rattle.rist_top.specs.Causes.{CanRefuse, fault_of};
-ghost use Rattle.rist_top.specs.Lines.{IfReceiving, IsFresh, IsLine, IsNoLine, IsNoPlainLine, IsOverFiles, IsPlain};
+ghost use Rattle.rist_top.specs.Lines.{IfDrill, IfReceiving, IsFresh, IsLine, IsNoLine, IsNoPlainLine, IsOverFiles, IsPlain};
 ghost use Rattle.rist_top.specs.Ran.{Ran, source_name, sink_name};
 ghost use Rattle.rist_top.specs.Frame.{KeepsAround, KeepsOthers, OpensLinksAfter, OpensSourceFirst, links_opened};
 ghost use Rattle.rist_top.specs.Frame.{KeepsAroundSink, OpensLinksAfterSink, links_received};
@@ -16,7 +16,9 @@ ghost use Rattle.rist_top.specs.Received.{Received, Unreceived};
 ghost use Rattle.rist_top.specs.Complete.{CompletesReceiving};
 ghost use Rattle.rist_top.specs.Does.{Does};
 ghost use Rattle.rist_top.specs.DoesGate.{DoesGate};
+ghost use Rattle.rist_top.specs.DoesDrill.{DoesDrill};
 
+use crate::drilling::drill_line;
 use crate::gating::gate_line;
 use crate::receiving::receive_line;
 use crate::sending::send_line;
@@ -50,6 +52,10 @@ pub fn run<R: Threads + Wait + Sync, H: Host>(
     // What every command leaves that waits for nobody.
     ensures does { Does H.tells ⟦<H as Telling>⟧.objects ⟦<H as Telling>⟧.live words.now
         (H.faults host.old) (H.faults host.new) (H.shelf host.old) (H.shelf host.new) result }
+
+    // What a simulated run leaves, and how it ends.
+    ensures drills { IfDrill words.now (λ c. DoesDrill H.tells ⟦<H as Telling>⟧.objects c
+        (H.faults host.old) (H.faults host.new) (H.shelf host.old) (H.shelf host.new) result) }
 
     // What comes on the links of a receiving is played out to its sink, links and clocks come back, and the receiver's
     // counts reach the host; or nothing was read and nothing written.
@@ -127,6 +133,8 @@ pub fn plain<H: Host>(alloc: Global, words: &[String], host: &mut H) -> Status
     ensures same { IsTrue H.tells → IsNoPlainLine words.now → H.shelf host.new ≡ H.shelf host.old }
     ensures does { Does H.tells ⟦<H as Telling>⟧.objects ⟦<H as Telling>⟧.live words.now
         (H.faults host.old) (H.faults host.new) (H.shelf host.old) (H.shelf host.new) result }
+    ensures drills { IfDrill words.now (λ c. DoesDrill H.tells ⟦<H as Telling>⟧.objects c
+        (H.faults host.old) (H.faults host.new) (H.shelf host.old) (H.shelf host.new) result) }
 {
     match plain_line(alloc, words) {
         Ok(line) => run_line(alloc, host, &line),
@@ -182,6 +190,9 @@ fn run_line<H: Host>(alloc: Global, host: &mut H, line: &Line<'_>) -> Status
     ensures random { (c : SendCommand) → shown line.now ≡ Send c
         → IsUnused H.tells (H.shelf host.old) → result ≡ Status.EntropyFault
         → FailedAt ⟦<H as Telling>⟧.objects (H.shelf host.old) (H.shelf host.new) }
+    ensures drill { (c : DrillCommand) → shown line.now ≡ Drill c
+        → DoesDrill H.tells ⟦<H as Telling>⟧.objects c
+        (H.faults host.old) (H.faults host.new) (H.shelf host.old) (H.shelf host.new) result }
 {
     match line {
         Line::Replay(_) => file_line(alloc, host, line),
@@ -189,6 +200,7 @@ fn run_line<H: Host>(alloc: Global, host: &mut H, line: &Line<'_>) -> Status
         Line::Count(_) => file_line(alloc, host, line),
         Line::Pack(_) => file_line(alloc, host, line),
         Line::Send(line) => send_line(alloc, host, line),
+        Line::Drill(line) => drill_line(alloc, host, line),
         Line::Recv(_) | Line::Gate(_) => unreachable!(),
     }
 }
@@ -241,7 +253,7 @@ fn source_name<'a>(line: &Line<'a>) -> &'a str
         Line::Count(line) => line.capture,
         Line::Pack(line) => line.source,
         Line::Send(line) => line.source,
-        Line::Recv(_) | Line::Gate(_) => "",
+        Line::Recv(_) | Line::Gate(_) | Line::Drill(_) => "",
     }
 }
 
@@ -254,6 +266,6 @@ fn sink_name<'a>(line: &Line<'a>) -> &'a str
         Line::Replay(line) => line.out,
         Line::Show(_) | Line::Count(_) => "-",
         Line::Pack(line) => line.capture,
-        Line::Send(_) | Line::Recv(_) | Line::Gate(_) => unreachable!(),
+        Line::Send(_) | Line::Recv(_) | Line::Gate(_) | Line::Drill(_) => unreachable!(),
     }
 }

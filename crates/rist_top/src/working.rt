@@ -89,7 +89,7 @@ fn replay_records<R: Records, K: Sink>(
     ensures write { HasWriteCause (fault_of result.status) (K.faults sink) (K.faults result.sink) }
 {
     let session = session_of(&line.session, false, false);
-    let settings = Settings::muted(line.delay, line.span, line.restart);
+    let settings = Settings::muted(line.delay, line.span, line.restart, line.drift);
     let end = replay(alloc, &session, &settings, &mut reader, &mut sink);
     Worked {
         source: reader.back(),
@@ -208,7 +208,7 @@ fn count_records<R: Records, K: Sink>(
     ensures write { HasWriteCause (fault_of result.status) (K.faults sink) (K.faults result.sink) }
 {
     let session = session_of(&line.session, false, false);
-    let receiver = Settings::muted(line.delay, line.span, line.restart);
+    let receiver = Settings::muted(line.delay, line.span, line.restart, line.drift);
     let end = count(alloc, &session, &receiver, &mut reader, &mut sink);
     Worked {
         source: reader.back(),
@@ -297,6 +297,6 @@ pub fn work<H: Host>(
                 status,
             },
         },
-        Line::Send(_) | Line::Recv(_) | Line::Gate(_) => unreachable!(),
+        Line::Send(_) | Line::Recv(_) | Line::Gate(_) | Line::Drill(_) => unreachable!(),
     }
 }

@@ -2,7 +2,6 @@
 use Rattle.std.proofs.Common.{◌≡◌, length, subst, arith}
 use Rattle.rist_send.specs.Served.{line_of}
 use Rattle.rist_gateway.specs.Run.{Forwards}
-use Rattle.rist_gateway.specs.Setup.{gate_setup_of}
 use Rattle.rist_words.specs.Shown.{shown_gate}
 use Rattle.rist_top.specs.Sessions.{limits_served, setup_gated}
 use Rattle.rist_top.proofs.gating.gate_with.Goals as goal

@@ -16,6 +16,7 @@ use Rattle.rist_top.proofs.UntouchedLemmas.{line_at_memory}
 use Rattle.rist_top.proofs.PiecesLemmas.{in_pieces}
 use Rattle.rist_top.proofs.WholeLemmas.{sent_completes}
 use Rattle.rist_top.proofs.DoesLemmas.{does_no_line, does_nothing}
+use Rattle.rist_top.proofs.DrillLemmas.{drills_nothing, no_drill}
 use Rattle.rist_top.proofs.top.plain.Goals as goal
 
 not_open : statuses.Done ≡ statuses.OpenFault → ⊥
@@ -85,3 +86,12 @@ returns-in-Err-Usage-clause-does g c = does_no_line _ _ _ _ _ _ _ _ _ (c.in-Err-
 
 pub returns-in-Err-Memory-clause-does : goal.returns-in-Err-Memory-clause-does
 returns-in-Err-Memory-clause-does g c = does_nothing _ _ _ _ _ _
+
+pub returns-in-Ok-clause-drills : goal.returns-in-Ok-clause-drills
+returns-in-Ok-clause-drills g c k is = c.run_line.ensures.drill k (same_line _ _ (sym c.in-Ok.ensures.ok ∙ is))
+
+pub returns-in-Err-Usage-clause-drills : goal.returns-in-Err-Usage-clause-drills
+returns-in-Err-Usage-clause-drills g c k is = absurd (no_drill _ k (c.in-Err-Usage.ensures.usage (search rules)) is)
+
+pub returns-in-Err-Memory-clause-drills : goal.returns-in-Err-Memory-clause-drills
+returns-in-Err-Memory-clause-drills g c k is = drills_nothing _ _ k _ _

@@ -1,5 +1,5 @@
 -- A command that waits is none of the others, and they are none that waits.
-use Rattle.std.proofs.Common.{◌≡◌, ap, subst}
+use Rattle.std.proofs.Common.{◌≡◌, subst}
 use Rattle.outside_io.specs.Causes.{HasOpenCause}
 use Rattle.rist_words.proofs.RangeLemmas.{line_range}
 use Rattle.rist_words.specs.CommandLine.{Gate, Recv}
@@ -7,6 +7,7 @@ use Rattle.rist_top.specs.Causes.{fault_of}
 use Rattle.rist_top.specs.Frame.{KeepsAroundGate, KeepsAroundSink, OpensLinksAfterSink, links_gated, links_received}
 use Rattle.rist_top.specs.Received.{Unreceived}
 use Rattle.rist_top.proofs.DoesLemmas.{does_no_gate, does_no_line, gate_is_none, gates_nothing, is_line, no_both, no_line, no_plain_line, receiving_is_none, same_gate, same_receiving}
+use Rattle.rist_top.proofs.DrillLemmas.{drills_nothing, no_drill}
 use Rattle.rist_top.proofs.GatingLemmas.{gated_completes, gated_same, gating_same}
 use Rattle.rist_top.proofs.HeardLemmas.{completes_same, received_completes, received_same}
 use Rattle.rist_top.proofs.top.run.Goals as goal
@@ -126,3 +127,12 @@ returns-in-Plain-clause-refused g c none = c.plain.ensures.refused (no_plain_lin
 
 pub returns-in-Plain-clause-same : goal.returns-in-Plain-clause-same
 returns-in-Plain-clause-same g c tells none = c.plain.ensures.same tells (no_plain_line _ none)
+
+pub returns-in-Receive-clause-drills : goal.returns-in-Receive-clause-drills
+returns-in-Receive-clause-drills g c k is = absurd (no_drill _ k (receiving_is_none _ _ (c.waiting_line.ensures.receive _ c.in-Receive.is)) is)
+
+pub returns-in-Gate-clause-drills : goal.returns-in-Gate-clause-drills
+returns-in-Gate-clause-drills g c k is = absurd (no_drill _ k (gate_is_none _ _ (c.waiting_line.ensures.gate _ c.in-Gate.is)) is)
+
+pub returns-in-Memory-clause-drills : goal.returns-in-Memory-clause-drills
+returns-in-Memory-clause-drills g c k is = drills_nothing _ _ k _ _

@@ -8,7 +8,7 @@ use Rattle.rist_words.specs.Shown.{shown_replay}
 use Rattle.rist_ends.specs.declared.settings.Settings.{Settings}
 use Rattle.rist_ends.specs.Settings.{limits_of}
 use Rattle.rist_replay.specs.Replay.{released_so_far, replayed}
-use Rattle.rist_top.specs.Sessions.{session_read, replay_limits}
+use Rattle.rist_top.specs.Sessions.{replay_limits}
 use Rattle.rist_top.proofs.working.replay_records.Goals as goal
 
 pub returns-clause-work : goal.returns-clause-work
