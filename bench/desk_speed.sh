@@ -121,6 +121,8 @@ fn settings() -> Settings
     Settings {
         delay: 200,
         span: 16_384,
+        restart: 0,
+        drift: false,
         reorder: 5,
         least: 20,
         tries: 8,
@@ -141,6 +143,7 @@ fn session() -> Session
         bits: 128,
         nulls: false,
         width: Width::W16,
+        full: false,
     }
 }
 

@@ -1,7 +1,7 @@
 #!/bin/sh
 # The time of `rist replay` beside that of a C program that does one write for each payload, in one run on one machine: to a
-# file and to nowhere. Then, to nowhere, two captures that are hard on the reorder buffer, beside the plain one: one that keeps
-# the widest span full, and one whose timestamps fall while its numbers rise.
+# file and to nowhere. Then, to nowhere, with --drift beside without; and two captures that are hard on the reorder buffer,
+# beside the plain one: one that keeps the widest span full, and one whose timestamps fall while its numbers rise.
 # Words: how many packets (default 380,000: about 500 MB), octets of a payload (1,316).
 # Needs cc and python3; bin/rist builds the program. The captures lie in a folder that is removed at the end.
 set -eu
@@ -65,6 +65,7 @@ cmp "$work/ours" "$work/theirs"
 rm "$work/ours" "$work/theirs"
 
 plain=$(seconds "$rist" replay "$work/capture" /dev/null)
+compare "to nowhere, with --drift, beside without" "$(seconds "$rist" replay --drift "$work/capture" /dev/null)" "$plain"
 for shape in plain falling; do
     make "$shape" 62 "$shape"
     compare "a span of 16,384 kept full, $shape timestamps, beside the plain capture" \

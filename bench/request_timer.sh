@@ -69,7 +69,7 @@ fn fill(buffer: &mut Buffer, timer: &mut Timer, sink: &mut Store8, count: u32) -
     let mut known = None;
     for place in 0..count {
         let word = place % 32_768 * 2;
-        let arrival = Arrival { flow: 2, width: Width::W16, word, stamp: place % 65_536, payload: &[] };
+        let arrival = Arrival { flow: 2, again: false, width: Width::W16, word, stamp: place % 65_536, payload: &[] };
         buffer.receive(100, &arrival, sink)?;
         known = tell(timer, buffer, known);
     }
@@ -123,7 +123,7 @@ fn main(rt: HostRuntime) -> io::Result<()> {
     };
     let alloc = rt.alloc();
     let settings = Settings { reorder: 0, least: 1000, tries: 32, nack: NackKind::Range };
-    let (Ok(mut sink), Ok(mut buffer), Ok(mut timer)) = (Store8::with(alloc, 64, &[]), Buffer::with_limits(alloc, 16_384, 30_000), Timer::with_span(alloc, 16_384, settings)) else {
+    let (Ok(mut sink), Ok(mut buffer), Ok(mut timer)) = (Store8::with(alloc, 64, &[]), Buffer::with_limits(alloc, 16_384, 30_000, 0, false), Timer::with_span(alloc, 16_384, settings)) else {
         return println!(rt; "out of memory");
     };
     let count = if word.as_str() == "idle" { 1 } else { 8192 };

@@ -54,6 +54,8 @@ fn settings(muted: bool) -> Settings
     Settings {
         delay: 200,
         span: 16_384,
+        restart: 0,
+        drift: false,
         reorder: 5,
         least: 20,
         tries: 8,
@@ -74,6 +76,7 @@ fn session() -> Session
         bits: 128,
         nulls: false,
         width: Width::W16,
+        full: false,
     }
 }
 
@@ -87,6 +90,7 @@ fn packet(now: u64, n: u64, payload: &[u8]) -> Told<'_>
         us: now.wrapping_mul(GAP),
         what: What::Media(Arrival {
             flow: 0x1020_3040,
+            again: false,
             width: Width::W16,
             word: (n % 65_536) as u32,
             stamp: (ticks % (1 << 32)) as u32,
