@@ -1,11 +1,13 @@
 //! The top call, and a line from its objects to its status.
 ghost use Rattle.std.specs.Prelude.{◌≡◌, ◌≢◌, ◌⊎◌, Err, IfOk, IsTrue};
 ghost use Rattle.outside_io.specs.Causes.{HasOpenCause, Rose};
-ghost use Rattle.rist_words.specs.CommandLine.{Drill, DrillCommand, Gate, GateCommand, Recv, RecvCommand, Send, SendCommand};
+ghost use Rattle.rist_words.specs.CommandLine.{Drill, DrillCommand, Gate, GateCommand};
+ghost use Rattle.rist_words.specs.CommandLine.{Recv, RecvCommand, Send, SendCommand};
 ghost use Rattle.rist_words.specs.Shown.{shown, shown_gate, shown_recv};
 ghost use Rattle.rist_words.specs.Ranges.{IsInRange};
 ghost use Rattle.rist_top.specs.Causes.{CanRefuse, fault_of};
-ghost use Rattle.rist_top.specs.Lines.{IfDrill, IfReceiving, IsFresh, IsLine, IsNoLine, IsNoPlainLine, IsOverFiles, IsPlain};
+ghost use Rattle.rist_top.specs.Lines.{IfDrill, IfReceiving, IsFresh, IsLine};
+ghost use Rattle.rist_top.specs.Lines.{IsNoLine, IsNoPlainLine, IsOverFiles, IsPlain};
 ghost use Rattle.rist_top.specs.Ran.{Ran, source_name, sink_name};
 ghost use Rattle.rist_top.specs.Frame.{KeepsAround, KeepsOthers, OpensLinksAfter, OpensSourceFirst, links_opened};
 ghost use Rattle.rist_top.specs.Frame.{KeepsAroundSink, OpensLinksAfterSink, links_received};
