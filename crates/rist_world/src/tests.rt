@@ -91,6 +91,30 @@ fn copies_that_come_again_change_nothing(rt: HostRuntime) -> Result<(), Fail> {
 }
 
 #[test]
+fn what_is_asked_for_again_is_released_once(rt: HostRuntime) -> Result<(), Fail> {
+    let alloc = rt.alloc();
+    let mut moves = vec![in alloc;
+        send(alloc, 0, b'A')?,
+        send(alloc, 1, b'B')?,
+        send(alloc, 2, b'C')?,
+        Move::Carry(0, 0, 3000),
+        Move::Carry(0, 2, 4000),
+        Move::Tick(0, 30_000),
+        Move::CarryBack(0, 0, 40_000),
+        Move::CarryBack(0, 0, 41_000),
+        Move::CarryBack(0, 0, 90_000),
+    ]?;
+    for place in [3, 4, 5, 6, 7, 3, 4, 5, 6, 7, 3, 4, 5, 6, 7] {
+        moves.push(Move::Carry(0, place, 100_000))?;
+    }
+    moves.push(Move::End(100_000))?;
+    let report = played(alloc, &moves)?;
+    assert_eq!(rt; report.digest, digest_of(b"ABC"));
+    assert_eq!(rt; (report.asked, report.resent, report.released), (1, 2, 3));
+    Ok(())
+}
+
+#[test]
 fn flows_follow_one_another(rt: HostRuntime) -> Result<(), Fail> {
     let alloc = rt.alloc();
     let moves = vec![in alloc;
