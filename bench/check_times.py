@@ -61,6 +61,8 @@ def chains(needs, cost):
 def main():
     if len(sys.argv) < 2:
         sys.exit("usage: bench/check_times.py OUT [WORDS OF rt..]")
+    if os.path.exists(sys.argv[1]):
+        sys.exit(f"{sys.argv[1]} is there already")
     spent, began = {}, time.time()
     with open(sys.argv[1], "w", encoding="utf-8") as out:
         gate = subprocess.Popen(["rt", *(sys.argv[2:] or ["ci"])], cwd=TOP, stdout=out, stderr=subprocess.STDOUT)
