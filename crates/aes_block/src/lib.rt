@@ -8,8 +8,6 @@ mod key_schedule;
 mod lanes;
 mod rounds;
 mod substitution;
-#[cfg(test)]
-mod tests;
 mod tower;
 mod words;
 

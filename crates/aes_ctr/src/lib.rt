@@ -8,8 +8,6 @@ ghost use Rattle.aes_ctr.specs.Ctr.{ctr};
 
 mod counter;
 mod sums;
-#[cfg(test)]
-mod tests;
 
 use crate::counter::counter_block;
 use crate::sums::{GROUP_LEN, add_group, add_rest};

@@ -4,8 +4,6 @@
 
 mod bond;
 mod plan;
-#[cfg(test)]
-mod tests;
 mod weights;
 
 pub use bond::Bond;

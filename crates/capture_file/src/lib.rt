@@ -5,8 +5,6 @@
 mod head;
 mod laws;
 mod reader;
-#[cfg(test)]
-mod tests;
 mod writer;
 
 pub use head::Head;

@@ -4,7 +4,5 @@
 
 pub mod index;
 mod levels;
-#[cfg(test)]
-mod tests;
 
 pub use index::{DeadlineIndex, NEVER};

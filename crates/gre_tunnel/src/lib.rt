@@ -10,6 +10,3 @@ mod writing;
 pub use gre::{Gre, GreBad};
 pub use reading::{DATAGRAM, FULL, KEEPALIVE};
 pub use writing::write;
-
-#[cfg(test)]
-mod tests;

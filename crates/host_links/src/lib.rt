@@ -3,8 +3,6 @@
 #![tactic(auto)]
 
 mod opening;
-#[cfg(test)]
-mod tests;
 mod timing;
 
 pub use opening::{back_links, open_both, open_links};

@@ -12,6 +12,3 @@ mod writing;
 pub use ip::{Ip, IpBad, Sums};
 pub use place::IpPlace;
 pub use writing::{IpHead, MAX_PAYLOAD, write};
-
-#[cfg(test)]
-mod tests;

@@ -10,6 +10,3 @@ mod writing;
 pub use keepalive::{KeepBad, Keepalive};
 pub use reading::read;
 pub use writing::write;
-
-#[cfg(test)]
-mod tests;

@@ -7,6 +7,3 @@ mod writing;
 
 pub use reading::{is_set, u16_at, u32_at, u64_at};
 pub use writing::put_at;
-
-#[cfg(test)]
-mod tests;

@@ -10,8 +10,6 @@ mod openings;
 mod real_host;
 mod reception;
 mod slots;
-#[cfg(test)]
-mod tests;
 
 pub use host::{Host, HostBad, Opened, Place};
 pub use mem_host::{MemHost, MemParts};

@@ -19,8 +19,6 @@ mod real_entropy;
 mod sink;
 mod source;
 mod store;
-#[cfg(test)]
-mod tests;
 mod words;
 mod write_fault;
 

@@ -15,8 +15,6 @@ mod process_clock;
 mod quiet;
 mod script_clock;
 mod script_link;
-#[cfg(test)]
-mod tests;
 mod trace;
 mod udp_link;
 

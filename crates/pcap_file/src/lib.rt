@@ -14,6 +14,3 @@ pub use bad::{PcapBad, PcapKind};
 pub use datagram::datagram_in;
 pub use format::{ByteOrder, Format, Fraction};
 pub use reader::{Frame, PcapReader};
-
-#[cfg(test)]
-mod tests;

@@ -7,8 +7,6 @@ mod derivation;
 mod keys;
 mod mac;
 mod phrase;
-#[cfg(test)]
-mod tests;
 
 pub use cached::CACHED_KEYS;
 pub use derivation::pbkdf2;

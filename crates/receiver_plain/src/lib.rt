@@ -6,8 +6,6 @@ mod kept;
 mod programs;
 mod running;
 mod steps;
-#[cfg(test)]
-mod tests;
 
 pub use kept::Kept;
 pub use programs::{released, verdicts};

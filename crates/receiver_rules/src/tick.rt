@@ -9,21 +9,3 @@ pub fn tick_of(micros: u64) -> u64
 {
     micros / 100 * 9 + micros % 100 * 9 / 100
 }
-
-#[cfg(test)]
-mod tests {
-    use super::*;
-
-    #[test]
-    fn microseconds_become_whole_ticks(rt: HostRuntime) {
-        for (micros, want) in [
-            (111, 9),
-            (112, 10),
-            (1_000_000, 90_000),
-            (1_009_989, 90_899),
-            (1_010_000, 90_900),
-        ] {
-            assert_eq!(rt; tick_of(micros), want, "at {micros}");
-        }
-    }
-}

@@ -6,8 +6,6 @@ mod asking;
 mod asks;
 mod rtt;
 mod steps;
-#[cfg(test)]
-mod tests;
 mod times;
 
 pub use asking::asked;

@@ -5,8 +5,6 @@
 mod asked;
 pub mod laws;
 mod policy;
-#[cfg(test)]
-mod tests;
 mod times;
 mod word;
 

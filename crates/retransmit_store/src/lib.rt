@@ -5,8 +5,6 @@
 
 mod sent;
 mod store;
-#[cfg(test)]
-mod tests;
 
 pub use sent::{MAX_PAYLOAD, Sent};
 pub use store::Store;

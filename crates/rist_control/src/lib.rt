@@ -11,6 +11,3 @@ mod response;
 pub use answer::{ANSWER_LEN, answer_compound, first_request};
 pub use report::{REPORT_LEN, Report, tick_compound};
 pub use response::first_response;
-
-#[cfg(test)]
-mod tests;

@@ -8,6 +8,3 @@ mod reading;
 mod writing;
 
 pub use ext_word::{ExtBad, ExtWord, RIST_PROFILE};
-
-#[cfg(test)]
-mod tests;

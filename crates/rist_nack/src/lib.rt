@@ -18,6 +18,3 @@ pub use laws::{written_extensions_hold, written_words_ask};
 pub use reading::asks;
 pub use requests::flow;
 pub use writing::{put_mask, put_range, put_seqext};
-
-#[cfg(test)]
-mod tests;

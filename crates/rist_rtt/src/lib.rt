@@ -13,6 +13,3 @@ pub use laws::{written_answers_are_read, written_requests_are_read};
 pub use reading::echoes;
 pub use rtt::{Rtt, Sample};
 pub use writing::{put_answer, put_request};
-
-#[cfg(test)]
-mod tests;

@@ -16,6 +16,3 @@ pub use name::{RIST_NAME, is_rist};
 pub use packet::Packet;
 pub use refusal::{Full, RtcpBad, RtcpWhy};
 pub use writing::{CompoundOut, OUT_LEN};
-
-#[cfg(test)]
-mod tests;

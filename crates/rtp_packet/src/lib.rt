@@ -10,6 +10,3 @@ mod writing;
 pub use bad::RtpBad;
 pub use rtp::{MAX_PAYLOAD, Rtp};
 pub use writing::{RtpHead, write};
-
-#[cfg(test)]
-mod tests;

@@ -38,37 +38,3 @@ pub fn unwrap(reference: u64, width: Width, word: u32) -> Option<u64>
         None
     }
 }
-
-#[cfg(test)]
-mod tests {
-    use super::*;
-
-    #[test]
-    fn a_word_stands_for_the_nearest_number(rt: HostRuntime) {
-        let last = MAX_NUMBER - 1;
-        let middle = (1 << 40) + 10;
-        // The distance of half a cycle goes down.
-        assert_eq!(rt; unwrap(last, Width::W16, 0), None);
-        assert_eq!(rt; unwrap(last, Width::W16, 65_535), Some(last));
-        assert_eq!(rt;
-            unwrap(middle, Width::W16, 32_778),
-            Some((1 << 40) - 32_758)
-        );
-        assert_eq!(rt;
-            unwrap(middle, Width::W16, 32_777),
-            Some((1 << 40) + 32_777)
-        );
-        assert_eq!(rt; unwrap(middle, Width::W32, 0), Some(1 << 40));
-        assert_eq!(rt;
-            unwrap(middle, Width::W32, (1 << 31) + 10),
-            Some((1 << 40) + 10 - (1 << 31))
-        );
-        assert_eq!(rt;
-            unwrap(middle, Width::W32, (1 << 31) + 9),
-            Some((1 << 40) + 9 + (1 << 31))
-        );
-        assert_eq!(rt; nearest(last, Width::W16, 0), MAX_NUMBER);
-        assert_eq!(rt; Width::W16.cycle(), 65_536);
-        assert_eq!(rt; Width::W32.cycle(), 4_294_967_296);
-    }
-}

@@ -5,8 +5,6 @@
 mod fault;
 pub mod laws;
 mod reading;
-#[cfg(test)]
-mod tests;
 
 pub use fault::PieceFault;
 pub use reading::{MAX_LEN, PIECE_LEN, read_piece};

@@ -12,6 +12,3 @@ pub use nulls::{NullBad, Strip};
 pub use packets::{BLOCK_LEN, MAX_PACKETS_LEN};
 pub use restoring::{can_restore, put_back, restore};
 pub use stripping::strip;
-
-#[cfg(test)]
-mod tests;

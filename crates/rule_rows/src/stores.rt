@@ -1,0 +1,114 @@
+//! Stores beside what the standards and the rules say of words, places and marks.
+ghost use Rattle.std.specs.Prelude.{◌≡◌, ◌≤◌, ◌<◌, ◌+◌, ◌^◌, IsTrue, IsSome};
+ghost use Rattle.sender_rules.specs.Stored.{packet_with};
+ghost use Rattle.retransmit_store.specs.State.{packets_in};
+
+use retransmit_store::{Sent, Store};
+use seq_unwrap::Width;
+use std::alloc::{AllocError, Global};
+use std::test::Fail;
+
+/// A packet whose payload is its number, in eight octets.
+fn packet(number: u64) -> Sent
+    ensures { result.number ≡ number }
+{
+    Sent::with(number, 7, None, &number.to_be_bytes())
+}
+
+/// A store after `count` packets, from `first` on.
+fn filled(alloc: Global, size: usize, first: u64, count: u64) -> Result<Store, AllocError>
+    requires some { 1 ≤ size }
+    requires few { size ≤ 65536 }
+    requires within { first + count < 2 ^ 64 }
+{
+    let mut store = Store::with_size(alloc, size)?;
+    for number in first..first + count {
+        store.put(packet(number));
+    }
+    Ok(store)
+}
+
+/// Whether the packet with a number is stored, with the payload that it had.
+fn copies(store: &Store, number: u64) -> bool
+    ensures { IsTrue result → IsSome (packet_with (packets_in store.now) number) }
+{
+    match store.copy(number) {
+        Some(sent) => sent.number() == number && sent.payload() == number.to_be_bytes().as_slice(),
+        None => false,
+    }
+}
+
+#[test]
+fn words_find_the_last_packets_across_a_cycle(rt: HostRuntime) -> Result<(), Fail> {
+    // 65,530 to 65,541 were sent, and eight are stored.
+    let store = filled(rt.alloc(), 8, 65_530, 12)?;
+    assert!(rt; store.find(Width::W16, 65_533) == None);
+    assert!(rt; store.find(Width::W16, 65_534) == Some(65_534));
+    assert!(rt; store.find(Width::W16, 65_535) == Some(65_535));
+    assert!(rt; store.find(Width::W16, 0) == Some(65_536));
+    assert!(rt; store.find(Width::W16, 5) == Some(65_541));
+    assert!(rt; store.find(Width::W16, 6) == None);
+    assert!(rt; store.find(Width::W32, 0) == None);
+    assert!(rt; store.find(Width::W32, 65_533) == None);
+    assert!(rt; store.find(Width::W32, 65_536) == Some(65_536));
+    // 2^32 - 6 to 2^32 + 5 likewise.
+    let wide = filled(rt.alloc(), 8, 4_294_967_290, 12)?;
+    assert!(rt; wide.find(Width::W32, 4_294_967_293) == None);
+    assert!(rt; wide.find(Width::W32, 4_294_967_294) == Some(4_294_967_294));
+    assert!(rt; wide.find(Width::W32, 0) == Some(4_294_967_296));
+    assert!(rt; wide.find(Width::W32, 5) == Some(4_294_967_301));
+    assert!(rt; wide.find(Width::W32, 6) == None);
+    assert!(rt; wide.find(Width::W16, 65_534) == Some(4_294_967_294));
+    assert!(rt; wide.find(Width::W16, 5) == Some(4_294_967_301));
+    Ok(())
+}
+
+#[test]
+fn a_store_of_one_keeps_the_newest(rt: HostRuntime) -> Result<(), Fail> {
+    let empty = filled(rt.alloc(), 1, 0, 0)?;
+    assert!(rt; empty.find(Width::W16, 0) == None);
+    assert!(rt; !copies(&empty, 0));
+    let store = filled(rt.alloc(), 1, 10, 3)?;
+    assert!(rt; store.find(Width::W16, 11) == None);
+    assert!(rt; store.find(Width::W16, 12) == Some(12));
+    assert!(rt; !copies(&store, 11) && copies(&store, 12) && !copies(&store, 13));
+    Ok(())
+}
+
+#[test]
+fn a_store_of_a_whole_cycle_finds_every_word_once(rt: HostRuntime) -> Result<(), Fail> {
+    // 0 to 65,536 were sent: 0 has just left, and its word is 65,536's.
+    let store = filled(rt.alloc(), 65_536, 0, 65_537)?;
+    assert!(rt; store.find(Width::W16, 0) == Some(65_536));
+    assert!(rt; store.find(Width::W32, 0) == None);
+    assert!(rt; store.find(Width::W16, 1) == Some(1));
+    assert!(rt; store.find(Width::W16, 65_535) == Some(65_535));
+    assert!(rt; !copies(&store, 0) && copies(&store, 1) && copies(&store, 65_536));
+    Ok(())
+}
+
+#[test]
+fn a_mark_is_kept_with_its_packet_alone(rt: HostRuntime) -> Result<(), Fail> {
+    let mut store = filled(rt.alloc(), 2, 100, 2)?;
+    assert!(rt; store.marked(100) == None);
+    for at in [450, 1_800] {
+        if copies(&store, 100) {
+            store.mark(100, at);
+        }
+    }
+    assert!(rt; store.marked(100) == Some(1_800));
+    assert!(rt; store.marked(101) == None);
+    assert!(rt; store.marked(102) == None);
+    Ok(())
+}
+
+#[test]
+fn an_emptied_store_takes_any_number_next(rt: HostRuntime) -> Result<(), Fail> {
+    let mut store = filled(rt.alloc(), 4, 100, 3)?;
+    store.empty();
+    assert!(rt; store.find(Width::W16, 102) == None);
+    store.put(packet(7));
+    assert!(rt; copies(&store, 7) && !copies(&store, 102));
+    assert!(rt; store.find(Width::W16, 7) == Some(7));
+    Ok(())
+}
