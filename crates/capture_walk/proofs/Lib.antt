@@ -6,4 +6,3 @@ pub mod EndingLemmas
 pub mod CompleteLemmas
 pub mod PortCompleteLemmas
 pub mod FileLemmas
-pub mod CopyLemmas

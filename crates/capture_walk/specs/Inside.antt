@@ -1,5 +1,4 @@
--- What private contracts and a test's visitor cite.
+-- What private contracts cite.
 pub mod Turns
 pub mod Sofar
 pub mod Frames
-pub mod Copied

@@ -5,8 +5,6 @@
 pub mod laws;
 mod port;
 mod records;
-#[cfg(test)]
-mod tests;
 mod visitor;
 mod walk_bad;
 mod walking;

@@ -7,8 +7,6 @@ mod entry;
 pub mod laws;
 mod pass;
 mod settings;
-#[cfg(test)]
-mod tests;
 mod timer;
 
 pub use settings::Settings;

@@ -18,3 +18,5 @@ mod links;
 mod opening;
 #[cfg(test)]
 mod pieces;
+#[cfg(test)]
+mod walks;

@@ -5,8 +5,6 @@ mod comparing;
 mod own;
 mod same;
 mod tear;
-#[cfg(test)]
-mod tests;
 
 pub use comparing::compare;
 pub use own::OwnSteps;

@@ -4,8 +4,6 @@
 
 mod counter;
 mod counting;
-#[cfg(test)]
-mod tests;
 mod text;
 
 pub use counting::count;

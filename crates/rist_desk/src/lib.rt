@@ -9,13 +9,9 @@ mod ended;
 mod items;
 mod name;
 mod payload;
-#[cfg(test)]
-mod serve_tests;
 mod serving;
 mod step;
 mod stepping;
-#[cfg(test)]
-mod tests;
 mod trace;
 mod turn;
 mod words;

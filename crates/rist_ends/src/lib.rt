@@ -9,8 +9,6 @@ mod receiver;
 mod reporting;
 mod settings;
 mod stepping;
-#[cfg(test)]
-mod tests;
 mod told;
 
 pub use counts::Counts;

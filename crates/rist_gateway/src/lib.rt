@@ -17,8 +17,6 @@ mod receiving;
 mod running;
 mod side_worker;
 mod sides;
-#[cfg(test)]
-mod tests;
 
 pub use ending::GateEnding;
 pub use gating::gate;

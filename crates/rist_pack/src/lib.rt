@@ -7,8 +7,6 @@ mod datagram;
 pub mod laws;
 mod packing;
 mod settings;
-#[cfg(test)]
-mod tests;
 
 pub use bad::PackBad;
 pub use packing::pack;

@@ -8,8 +8,6 @@ pub mod laws;
 mod receiving;
 mod running;
 mod seats;
-#[cfg(test)]
-mod tests;
 mod text;
 mod workers;
 

@@ -5,8 +5,6 @@
 pub mod laws;
 mod replayer;
 mod replaying;
-#[cfg(test)]
-mod tests;
 
 pub use replayer::Replayer;
 pub use replaying::replay;

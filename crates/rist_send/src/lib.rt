@@ -9,8 +9,6 @@ mod progress;
 mod reading;
 mod sending;
 mod settings;
-#[cfg(test)]
-mod tests;
 
 pub use fault::SendFault;
 pub use sending::send;

@@ -14,8 +14,6 @@ mod sealing;
 mod send_bad;
 mod sender;
 mod settings;
-#[cfg(test)]
-mod tests;
 mod ticks;
 
 pub use answer::Answer;

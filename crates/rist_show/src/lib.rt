@@ -8,6 +8,3 @@ mod printer;
 mod showing;
 
 pub use showing::show;
-
-#[cfg(test)]
-mod tests;

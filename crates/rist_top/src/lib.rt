@@ -2,20 +2,14 @@
 //! sinks tell before and after.
 #![tactic(auto)]
 
-#[cfg(test)]
-mod drill_tests;
 mod drilling;
 mod gating;
-#[cfg(test)]
-mod pcap_tests;
 mod receiving;
 mod sealing;
 mod sending;
 mod sessions;
 mod status;
 mod telling;
-#[cfg(test)]
-mod tests;
 mod top;
 mod working;
 

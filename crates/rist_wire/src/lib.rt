@@ -24,6 +24,3 @@ pub use opener::Opener;
 pub use outside_io::Profile;
 pub use session::Session;
 pub use shutter::Shutter;
-
-#[cfg(test)]
-mod tests;

@@ -9,15 +9,11 @@ mod help;
 pub mod laws;
 mod lines;
 mod links;
-#[cfg(test)]
-mod live_tests;
 mod matching;
 mod pcap;
 mod reading;
 mod receiving;
 mod session;
-#[cfg(test)]
-mod tests;
 mod values;
 
 pub use help::USAGE;

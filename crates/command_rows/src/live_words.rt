@@ -1,0 +1,255 @@
+//! Command lines of a receiving and of a gateway that are taken and refused.
+use crate::words::{PLAIN, STREAM, reads};
+use outside_io::Profile;
+use outside_net::LinkSpec;
+use request_rules::NackKind;
+use rist_words::{
+    GateLine, Line, ReceiverWords, RecvLine, Refused, ServingWords, SessionWords, StreamWords,
+};
+use std::alloc::Global;
+use std::test::Fail;
+
+const RECEIVER: ReceiverWords = ReceiverWords {
+    delay: 1000,
+    span: 2048,
+    restart: 0,
+    drift: false,
+    reorder: 25,
+    least: 50,
+    tries: 8,
+    nack: NackKind::Range,
+    own: 7,
+};
+
+const SERVING: ServingWords = ServingWords {
+    turns: 1 << 40,
+    idle: 0,
+    keep: 0,
+};
+
+/// Each option at its least.
+const LOW: (ReceiverWords, ServingWords) = (
+    ReceiverWords {
+        delay: 1,
+        span: 1,
+        restart: 0,
+        drift: false,
+        reorder: 0,
+        least: 5,
+        tries: 0,
+        nack: NackKind::Range,
+        own: 0,
+    },
+    ServingWords {
+        turns: 1,
+        idle: 0,
+        keep: 0,
+    },
+);
+
+/// Each option at its greatest.
+const HIGH: (ReceiverWords, ServingWords) = (
+    ReceiverWords {
+        delay: 30_000,
+        span: 16_384,
+        restart: 60_000,
+        drift: true,
+        reorder: 1000,
+        least: 1000,
+        tries: 32,
+        nack: NackKind::Mask,
+        own: 4_294_967_295,
+    },
+    ServingWords {
+        turns: 1 << 40,
+        idle: 86_400_000,
+        keep: 65_536,
+    },
+);
+
+/// Links of this machine, by their ports.
+fn specs(alloc: Global, ports: &[u16]) -> Result<Vec<LinkSpec>, Fail> {
+    let mut links = Vec::new(alloc);
+    for port in ports {
+        links.push(LinkSpec {
+            address: [127, 0, 0, 1],
+            port: *port,
+        })?;
+    }
+    Ok(links)
+}
+
+/// Lines of a receiving in the Simple Profile with what they set.
+static RECEIVED: [(&str, (ReceiverWords, ServingWords)); 3] = [
+    (
+        "rist recv - 127.0.0.1:2 127.0.0.1:65534",
+        (RECEIVER, SERVING),
+    ),
+    (
+        "rist recv - 127.0.0.1:2 127.0.0.1:65534 --delay 1 --span 1 --reorder 0 --least 5 --tries 0 \
+         --nack range --own 0 --turns 1 --idle 0 --keep 0",
+        LOW,
+    ),
+    (
+        "rist recv --drift --delay 30000 --span=16384 --restart 60000 --reorder 1000 --least 1000 \
+         --tries 32 --nack=mask --own 4294967295 - \
+         127.0.0.1:2 --turns 1099511627776 --idle 86400000 127.0.0.1:65534 --keep=65536",
+        HIGH,
+    ),
+];
+
+/// Words that are no line of a receiving: an option one past its least or its greatest, or one of another command; and
+/// links.
+static NOT_RECEIVED: [&str; 32] = [
+    "rist recv",
+    "rist recv -",
+    "rist recv  127.0.0.1:2",
+    "rist recv - 127.0.0.1:3",
+    "rist recv - 127.0.0.1:0",
+    "rist recv - 127.0.0.1:2 --delay 0",
+    "rist recv - 127.0.0.1:2 --delay 30001",
+    "rist recv - 127.0.0.1:2 --restart 60001",
+    "rist recv - 127.0.0.1:2 --span 0",
+    "rist recv - 127.0.0.1:2 --span 16385",
+    "rist recv - 127.0.0.1:2 --reorder 1001",
+    "rist recv - 127.0.0.1:2 --reorder=-1",
+    "rist recv - 127.0.0.1:2 --least 4",
+    "rist recv - 127.0.0.1:2 --least 1001",
+    "rist recv - 127.0.0.1:2 --tries 33",
+    "rist recv - 127.0.0.1:2 --nack ranges",
+    "rist recv - 127.0.0.1:2 --nack=",
+    "rist recv - 127.0.0.1:2 --own 4294967296",
+    "rist recv - 127.0.0.1:2 --turns 0",
+    "rist recv - 127.0.0.1:2 --turns 1099511627777",
+    "rist recv - 127.0.0.1:2 --idle 86400001",
+    "rist recv - 127.0.0.1:2 --keep 65537",
+    "rist recv - 127.0.0.1:2 --keep 1 --keep 1",
+    "rist recv - 127.0.0.1:2 --port 1967",
+    "rist recv - 127.0.0.1:2 --pass x",
+    "rist recv - 127.0.0.1:2 --in 1",
+    "rist recv - 127.0.0.1:2 --nulls",
+    "rist recv - 127.0.0.1:2 --full",
+    "rist recv - 127.0.0.1:2 --linger 1",
+    "rist recv - 127.0.0.1:2 --store 1",
+    "rist recv - 1.1.1.1:2 1.1.1.1:2 1.1.1.1:2 1.1.1.1:2 1.1.1.1:2 1.1.1.1:2 1.1.1.1:2 1.1.1.1:2 1.1.1.1:2 1.1.1.1:2 1.1.1.1:2 1.1.1.1:2 1.1.1.1:2 1.1.1.1:2 1.1.1.1:2 1.1.1.1:2 1.1.1.1:2",
+    "rist recv --help",
+];
+
+/// Words that are no line of a gateway.
+static NOT_GATES: [&str; 24] = [
+    "rist gate",
+    "rist gate 127.0.0.1:2",
+    "rist gate 127.0.0.1:2 --in 1",
+    "rist gate 127.0.0.1:2 127.0.0.1:4 --in 0",
+    "rist gate 127.0.0.1:2 127.0.0.1:4 --in 2",
+    "rist gate 127.0.0.1:2 127.0.0.1:4 127.0.0.1:6 --in 3",
+    "rist gate 127.0.0.1:2 127.0.0.1:4 --share 1:1",
+    "rist gate 127.0.0.1:2 127.0.0.1:4 127.0.0.1:6 --share 1",
+    "rist gate 127.0.0.1:2 127.0.0.1:4 127.0.0.1:6 --share 1:1:1",
+    "rist gate 127.0.0.1:2 127.0.0.1:4 127.0.0.1:6 --in 2 --share 1:1",
+    "rist gate 127.0.0.1:2 127.0.0.1:4 --share 0",
+    "rist gate 127.0.0.1:2 127.0.0.1:4 --share 101",
+    "rist gate 127.0.0.1:2 127.0.0.1:5",
+    "rist gate 127.0.0.1:2 127.0.0.1:4 --pass x",
+    "rist gate 127.0.0.1:2 127.0.0.1:4 --nulls",
+    "rist gate 127.0.0.1:2 127.0.0.1:4 --wide",
+    "rist gate 127.0.0.1:2 127.0.0.1:4 --full",
+    "rist gate 127.0.0.1:2 127.0.0.1:4 --flow 1",
+    "rist gate 127.0.0.1:2 127.0.0.1:4 --first 65536",
+    "rist gate 127.0.0.1:2 127.0.0.1:4 --store 65537",
+    "rist gate 127.0.0.1:2 127.0.0.1:4 --hold 1001",
+    "rist gate 127.0.0.1:2 127.0.0.1:4 --gap 1",
+    "rist gate 127.0.0.1:2 127.0.0.1:4 --linger 1",
+    "rist gate 1.1.1.1:2 1.1.1.1:2 1.1.1.1:2 1.1.1.1:2 1.1.1.1:2 1.1.1.1:2 1.1.1.1:2 1.1.1.1:2 1.1.1.1:2 1.1.1.1:2 1.1.1.1:2 1.1.1.1:2 1.1.1.1:2 1.1.1.1:2 1.1.1.1:2 1.1.1.1:2 1.1.1.1:2",
+];
+
+fn all_received(alloc: Global) -> Result<bool, Fail> {
+    for (text, (receiver, serving)) in RECEIVED {
+        let line = RecvLine {
+            out: "-",
+            links: specs(alloc, &[2, 65_534])?,
+            session: PLAIN,
+            receiver,
+            serving,
+        };
+        if !reads(alloc, text, Ok(Line::Recv(line)))? {
+            return Ok(false);
+        }
+    }
+    Ok(true)
+}
+
+fn none_of(alloc: Global, texts: &[&str]) -> Result<bool, Fail> {
+    for text in texts {
+        if !reads(alloc, text, Err(Refused::Usage))? {
+            return Ok(false);
+        }
+    }
+    Ok(true)
+}
+
+/// A gateway between links of these ports, with the options' defaults.
+fn gate_line(alloc: Global, inputs: &[u16], outputs: &[u16]) -> Result<GateLine<'static>, Fail> {
+    Ok(GateLine {
+        inputs: specs(alloc, inputs)?,
+        outputs: specs(alloc, outputs)?,
+        session: PLAIN,
+        receiver: RECEIVER,
+        serving: SERVING,
+        stream: STREAM,
+        store: 4096,
+        hold: 20,
+        share: None,
+    })
+}
+
+fn all_gates(alloc: Global) -> Result<bool, Fail> {
+    let plain = gate_line(alloc, &[2], &[4, 6])?;
+    let shared = GateLine {
+        share: Some(Vec::from_slice(alloc, &[100, 1])?),
+        ..gate_line(alloc, &[2], &[4, 6])?
+    };
+    let full = GateLine {
+        session: SessionWords {
+            profile: Profile::Main,
+            pass: Some("x"),
+            full: true,
+            ..PLAIN
+        },
+        receiver: RECEIVER,
+        stream: StreamWords {
+            nulls: true,
+            wide: true,
+            flow: 4_294_967_294,
+            first: 65_536,
+        },
+        store: 1,
+        hold: 1,
+        share: Some(Vec::from_slice(alloc, &[7])?),
+        ..gate_line(alloc, &[2, 4], &[65_535])?
+    };
+    let text =
+        "rist gate 127.0.0.1:2 127.0.0.1:4 127.0.0.1:65535 --in 2 --share 7 --profile main --pass x --nulls --wide --full \
+                --flow 4294967294 --first 65536 --store 1 --hold 1";
+    Ok(
+        reads(
+            alloc,
+            "rist gate 127.0.0.1:2 127.0.0.1:4 127.0.0.1:6",
+            Ok(Line::Gate(plain)),
+        )? && reads(
+            alloc,
+            "rist gate --share=100:1 127.0.0.1:2 127.0.0.1:4 127.0.0.1:6 --in=1",
+            Ok(Line::Gate(shared)),
+        )? && reads(alloc, text, Ok(Line::Gate(full)))?,
+    )
+}
+
+#[test]
+fn words_over_links_are_a_line_or_refused(rt: HostRuntime) -> Result<(), Fail> {
+    let alloc = rt.alloc();
+    assert!(rt; all_received(alloc)?);
+    assert!(rt; none_of(alloc, &NOT_RECEIVED)?);
+    assert!(rt; all_gates(alloc)?);
+    assert!(rt; none_of(alloc, &NOT_GATES)?);
+    Ok(())
+}

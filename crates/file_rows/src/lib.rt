@@ -1,0 +1,9 @@
+//! Worked lines over a host in memory: captures that are packed, replayed, shown and counted, and simulated runs. There are tests alone.
+#![tactic(auto)]
+
+#[cfg(test)]
+mod drills;
+#[cfg(test)]
+mod pcaps;
+#[cfg(test)]
+mod tests;

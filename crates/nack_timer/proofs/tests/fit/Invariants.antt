@@ -1,7 +1,0 @@
--- the steps so far are fit
-use Rattle.std.specs.List.{All}
-use Rattle.request_plain.specs.Told.{IsFit}
-use Rattle.nack_timer.proofs.tests.fit.Given as goal
-
-abbrev pub invariant-loop-step : goal.invariant-loop-step
-invariant-loop-step l = All IsFit l.fit.items

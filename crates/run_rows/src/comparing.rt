@@ -1,0 +1,115 @@
+//! Lists of steps, each step a letter.
+use outside_io::NoMemory;
+use rist_compare::*;
+use rist_desk::{Event, Mark, Step, Words};
+use std::alloc::Global;
+use std::test::Fail;
+
+/// The steps of a worker.
+#[derive(Drop)]
+struct Own(Vec<Step>);
+
+impl OwnSteps for Own {
+    ghost own = { λ own. own.0.items };
+
+    fn own(&self) -> &[Step] {
+        &self.0
+    }
+}
+
+/// Keepalives of link 0 are a, b, c; of link 1 p, q. A write failed in B and in P. e is an end, x and y are of links
+/// that have no worker.
+fn step_of(letter: u8) -> Step {
+    let (link, at) = match letter {
+        b'a' => (0, 1),
+        b'b' | b'B' => (0, 2),
+        b'c' => (0, 3),
+        b'p' | b'P' => (1, 1),
+        b'q' => (1, 2),
+        b'x' => (2, 1),
+        b'y' => (9, 1),
+        _ => (0, 9),
+    };
+    Step {
+        link,
+        at,
+        what: if letter == b'e' {
+            Event::End
+        } else {
+            Event::Keepalive
+        },
+        mark: if letter.is_ascii_uppercase() {
+            Mark::WriteFault
+        } else {
+            Mark::Plain
+        },
+        made: 0,
+        asked: Words::none(),
+    }
+}
+
+fn steps_of(alloc: Global, letters: &[u8]) -> Result<Vec<Step>, NoMemory> {
+    let mut steps = Vec::with_capacity(alloc, letters.len())?;
+    for letter in letters {
+        let _ = steps.push(step_of(*letter));
+    }
+    Ok(steps)
+}
+
+/// The tear at these letters of the desk's and the own list; b'-' where one has ended.
+fn tear_at(link: u8, place: usize, desk: u8, own: u8) -> Option<Tear> {
+    let there = |letter| if letter == b'-' {
+        None
+    } else {
+        Some(step_of(letter))
+    };
+    Some(Tear {
+        link,
+        place,
+        desk: there(desk),
+        own: there(own),
+    })
+}
+
+#[test]
+fn the_first_difference_is_found(rt: HostRuntime) -> Result<(), Fail> {
+    let alloc = rt.alloc();
+    // The desk's list, those of links 0 and 1, and where they differ.
+    let cases: [(&str, &str, &str, Option<Tear>); 14] = [
+        ("", "", "", None),
+        ("apbq", "ab", "pq", None),
+        ("pqab", "ab", "pq", None),
+        // One list has a step more.
+        ("apbq", "a", "pq", tear_at(0, 1, b'b', b'-')),
+        ("apq", "ab", "pq", tear_at(0, 1, b'-', b'b')),
+        ("apbq", "ab", "p", tear_at(1, 1, b'q', b'-')),
+        ("apb", "ab", "pq", tear_at(1, 1, b'-', b'q')),
+        ("", "", "p", tear_at(1, 0, b'-', b'p')),
+        // Another mark, and another order.
+        ("aBc", "abc", "", tear_at(0, 1, b'B', b'b')),
+        ("acb", "abc", "", tear_at(0, 1, b'c', b'b')),
+        // The lowest link, and the first place there.
+        ("apBcq", "abP", "Pq", tear_at(0, 1, b'B', b'b')),
+        // An end, and steps of links that have no worker.
+        ("abe", "ab", "", tear_at(0, 2, b'e', b'-')),
+        ("aypxb", "ab", "p", tear_at(2, 0, b'x', b'-')),
+        ("ayPb", "ab", "p", tear_at(1, 0, b'P', b'p')),
+    ];
+    for (kept, first, second, want) in cases {
+        let steps = steps_of(alloc, kept.as_bytes())?;
+        let workers = [
+            Own(steps_of(alloc, first.as_bytes())?),
+            Own(steps_of(alloc, second.as_bytes())?),
+        ];
+        assert!(rt; compare(&steps, &workers) == want, "{kept}");
+    }
+    Ok(())
+}
+
+#[test]
+fn without_workers_each_step_differs(rt: HostRuntime) -> Result<(), Fail> {
+    let workers: [Own; 0] = [];
+    assert!(rt; compare(&[], &workers) == None);
+    assert!(rt; compare(&[step_of(b'y'), step_of(b'p')], &workers) == tear_at(1, 0, b'p', b'-'));
+    Ok(())
+}

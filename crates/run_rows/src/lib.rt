@@ -1,0 +1,15 @@
+//! Worked runs over links in memory: a sending, a desk and its workers, a receiving and what is sent on. There are tests alone.
+#![tactic(auto)]
+
+#[cfg(test)]
+mod comparing;
+#[cfg(test)]
+mod desk;
+#[cfg(test)]
+mod onward;
+#[cfg(test)]
+mod receiving;
+#[cfg(test)]
+mod sending;
+#[cfg(test)]
+mod serving;
