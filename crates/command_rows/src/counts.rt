@@ -1,7 +1,7 @@
 //! A worked capture.
 use capture_file::Reader;
 use outside_io::{Bytes, Store8};
-use rist_count::*;
+use rist_count::count;
 use rist_ends::Settings;
 use rist_wire::{Profile, Session};
 use seq_unwrap::Width;

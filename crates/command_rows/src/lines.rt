@@ -6,7 +6,7 @@ use capture_file::{CapKind, Reader};
 use capture_walk::WalkBad;
 use outside_io::{Bytes, Pieces, Store8};
 use psk_keys::Phrase;
-use rist_show::*;
+use rist_show::show;
 use rist_wire::{Profile, Session};
 use seq_unwrap::Width;
 use std::alloc::Global;

@@ -7,7 +7,7 @@ use capture_file::{CapKind, Head, Reader, Writer};
 use capture_walk::WalkBad;
 use outside_io::{Bytes, Channel, Pieces, Profile, Source, Store8};
 use rist_ends::Settings;
-use rist_replay::*;
+use rist_replay::replay;
 use rist_wire::{Session, Shutter};
 use seq_unwrap::Width;
 use std::alloc::Global;

@@ -219,12 +219,15 @@ fn all_refused(alloc: Global) -> Result<bool, Fail> {
     Ok(true)
 }
 
-fn all_shown(alloc: Global) -> Result<bool, Fail> {
-    let line = |session, pcap| Ok(Line::Show(ShowLine {
+fn shown(session: SessionWords<'_>, pcap: Option<u16>) -> Result<Line<'_>, Refused> {
+    Ok(Line::Show(ShowLine {
         capture: "a",
         session,
         pcap,
-    }));
+    }))
+}
+
+fn all_shown(alloc: Global) -> Result<bool, Fail> {
     let sealed = SessionWords {
         profile: Profile::Main,
         port: 65_534,
@@ -237,12 +240,12 @@ fn all_shown(alloc: Global) -> Result<bool, Fail> {
         reads(
             alloc,
             "rist show a --bits 128 --profile simple",
-            line(PLAIN, None),
-        )? && reads(alloc, text, line(sealed, None))?
+            shown(PLAIN, None),
+        )? && reads(alloc, text, shown(sealed, None))?
             && reads(
                 alloc,
                 "rist show --udp 65534 a --pcap",
-                line(PLAIN, Some(65_534)),
+                shown(PLAIN, Some(65_534)),
             )?,
     )
 }

@@ -10,7 +10,7 @@ use psk_keys::Phrase;
 use psk_seal::{MAX_PAIRS, Sealer};
 use receiver_rules::{Arrival, Verdict};
 use request_rules::NackKind;
-use rist_ends::*;
+use rist_ends::{Answer, Counts, Outcome, Outs, Receiver, Settings, Told, What};
 use rist_wire::{Item, Opener, Session};
 use rtcp_compound::Compound;
 use seq_unwrap::Width;

@@ -6,7 +6,7 @@ ghost use Rattle.rist_wire.specs.Session.{IsSession};
 use bond_links::Bond;
 use outside_io::Channel;
 use outside_net::ScriptLink;
-use rist_sender::*;
+use rist_sender::{SendBad, Sender, Settings};
 use rist_wire::{Profile, Session};
 use rtcp_compound::Compound;
 use seq_unwrap::Width;

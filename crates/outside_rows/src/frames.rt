@@ -204,9 +204,11 @@ fn a_frame_carries_its_datagram_to_its_port(rt: HostRuntime) -> Result<(), Fail>
     for (before, link_type, profile, port, channel) in &FRAMES {
         let octets = joined(rt.alloc(), &[before, &WORKED[40..]])?;
         let found = datagram_in(*link_type, octets.as_slice(), *profile, *port);
-        assert!(rt; found.map(|datagram| datagram.0) == *channel);
-        if let Some((_, payload)) = found {
-            assert!(rt; payload == &WORKED[68..]);
+        match found {
+            Some((found, payload)) => assert!(rt;
+                Some(found) == *channel && payload == &WORKED[68..]
+            ),
+            None => assert!(rt; channel.is_none()),
         }
     }
     // An Ethernet header that is cut, an IPv4 header that is, and a packet that isn't UDP but TCP.

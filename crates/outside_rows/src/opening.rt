@@ -31,10 +31,17 @@ fn host(alloc: Global, count: usize, failing: &[u64]) -> Result<MemHost, Fail> {
 
 /// Whether two links open, and how many of them came back.
 fn opened_and_back(alloc: Global, host: &mut MemHost) -> Result<(bool, [bool; 2]), Fail> {
-    let specs = [5000, 5002].map(|port| LinkSpec {
-        address: [127, 0, 0, 1],
-        port,
-    });
+    let address = [127, 0, 0, 1];
+    let specs = [
+        LinkSpec {
+            address,
+            port: 5000,
+        },
+        LinkSpec {
+            address,
+            port: 5002,
+        },
+    ];
     let opened = match open_links(alloc, host, specs.as_slice(), Role::Sends, Profile::Simple) {
         Ok(links) => {
             back_links(host, links);

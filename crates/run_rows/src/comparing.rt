@@ -1,6 +1,6 @@
 //! Lists of steps, each step a letter.
 use outside_io::NoMemory;
-use rist_compare::*;
+use rist_compare::{OwnSteps, Tear, compare};
 use rist_desk::{Event, Mark, Step, Words};
 use std::alloc::Global;
 use std::test::Fail;
@@ -56,13 +56,16 @@ fn steps_of(alloc: Global, letters: &[u8]) -> Result<Vec<Step>, NoMemory> {
     Ok(steps)
 }
 
+/// The step of a letter, or none at b'-'.
+fn there(letter: u8) -> Option<Step> {
+    match letter {
+        b'-' => None,
+        _ => Some(step_of(letter)),
+    }
+}
+
 /// The tear at these letters of the desk's and the own list; b'-' where one has ended.
 fn tear_at(link: u8, place: usize, desk: u8, own: u8) -> Option<Tear> {
-    let there = |letter| if letter == b'-' {
-        None
-    } else {
-        Some(step_of(letter))
-    };
     Some(Tear {
         link,
         place,

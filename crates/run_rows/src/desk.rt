@@ -6,7 +6,7 @@ ghost use Rattle.rist_desk.specs.Desk.{IsNew, state_of};
 use outside_io::{Failed, Profile, Sink, Store8};
 use outside_net::{Full, Kept, Quiet, Trace};
 use receiver_rules::{Arrival, Verdict};
-use rist_desk::*;
+use rist_desk::{Beside, Desk, Mark, Name, Side, Step, StepTrace};
 use rist_ends::{Answer, Outs, Receiver, Settings, Told, What};
 use rist_wire::Session;
 use seq_unwrap::Width;
@@ -15,6 +15,28 @@ use std::marker::Brand;
 use std::test::Fail;
 
 const TWICE: Answer = Answer::Verdict(Verdict::Twice);
+
+/// How many of the steps have this mark.
+pub fn count_of(steps: &[Step], mark: Mark) -> u64 {
+    let mut count: u64 = 0;
+    for step in steps {
+        if step.mark == mark {
+            count = count.saturating_add(1);
+        }
+    }
+    count
+}
+
+/// How often Twice was answered.
+fn times_twice(answers: &[Result<Answer, Full>]) -> u64 {
+    let mut count: u64 = 0;
+    for answer in answers {
+        if *answer == Ok(TWICE) {
+            count = count.saturating_add(1);
+        }
+    }
+    count
+}
 
 /// The session of RIST's Simple Profile.
 pub fn simple() -> Session
@@ -125,17 +147,11 @@ fn two_links_are_merged_in_each_order(rt: HostRuntime) -> Result<(), Fail> {
     for order in &orders {
         let run = kept(rt.alloc(), 64, order)?;
         assert!(rt; run.sink.octets() == b"ABC".as_slice());
-        assert!(rt; run.answers.iter().filter(|a| **a == Ok(TWICE)).count() == 1);
+        assert!(rt; times_twice(run.answers.as_slice()) == 1);
         assert!(rt; run.last == Ok(Answer::Nothing));
         let steps = run.trace.kept();
         assert!(rt; steps.len() == 5);
-        assert!(rt;
-            steps
-                .iter()
-                .filter(|s| s.mark == Mark::Verdict(Verdict::Twice))
-                .count()
-                == 1
-        );
+        assert!(rt; count_of(steps, Mark::Verdict(Verdict::Twice)) == 1);
         for (step, link) in steps.iter().zip(order.iter()) {
             assert!(rt; step.link == *link && step.at == 0 && step.made == 0);
         }

@@ -8,7 +8,7 @@ use bond_links::Bond;
 use outside_io::{Channel, Profile, Sink};
 use outside_net::{Clock, Link, Octets, ScriptClock, ScriptLink, ScriptRead};
 use rist_desk::{Beside, Side};
-use rist_gateway::*;
+use rist_gateway::{Onward, Origin};
 use rist_sender::{SendBad, Sender, Settings};
 use rist_wire::{Opener, Session};
 use seq_unwrap::Width;

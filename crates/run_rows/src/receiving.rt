@@ -4,12 +4,13 @@ ghost use Rattle.std.specs.List.{All};
 ghost use Rattle.rist_desk.specs.declared.step.Step.{Step};
 ghost use Rattle.rist_wire.specs.Session.{IsSession};
 
+use crate::desk::count_of;
 use outside_io::{Channel, Profile, Store8};
 use outside_net::{Kept, Octets, Quiet, ScriptClock, ScriptLink, ScriptRead, Trace};
 use receiver_rules::Verdict;
 use rist_desk::{Event, Limits, Mark, Step, StepTrace, Worker};
 use rist_ends::{Receiver, Settings};
-use rist_recv::*;
+use rist_recv::{Ending, Received, receive};
 use rist_wire::{Opener, Session};
 use seq_unwrap::Width;
 use std::alloc::Global;
@@ -165,9 +166,9 @@ fn two_links_make_one_list(rt: HostRuntime) -> Result<(), Fail> {
     let steps = received.trace.kept();
     // Four packets, each link's first tick, and the end.
     assert!(rt; steps.len() == 7);
-    let twice = Mark::Verdict(Verdict::Twice);
-    assert!(rt; steps.iter().filter(|s| s.mark == twice).count() == 1);
-    assert!(rt; steps.last().map(|s| s.what == Event::End) == Some(true));
+    assert!(rt; count_of(steps, Mark::Verdict(Verdict::Twice)) == 1);
+    let last = steps.last().ok_or("no step")?;
+    assert!(rt; last.what == Event::End);
     // Nothing is kept of another run.
     let quiet = (Quiet::new(), Quiet::new());
     let received = run(&rt, alloc, links, quiet, Quiet::new(), &[])?;

@@ -3,17 +3,17 @@ ghost use Rattle.std.specs.Prelude.{◌<◌, ◌≤◌, length, IfOk, Some};
 ghost use Rattle.outside_net.specs.Scripts.{FitsDatagram};
 ghost use Rattle.rist_desk.specs.Desk.{IsNew, state_of};
 
-use crate::desk::simple;
+use crate::desk::{count_of, simple};
 use outside_io::{Channel, Failed, Sink, Store8};
 use outside_net::{Full, Got, Kept, Link, Octets, ScriptClock, ScriptLink, ScriptRead, Trace};
 use receiver_rules::Verdict;
-use rist_desk::*;
+use rist_desk::{Desk, Ended, Limits, Mark, Name, Step, Worker, serve};
 use rist_ends::{Answer, Outs, Receiver, Settings};
 use rist_wire::Opener;
 use std::alloc::Global;
 use std::marker::Brand;
-use std::sync::atomic::{AtomicU64, Ordering};
 use std::sync::{Arc, Mutex, Wait};
+use std::sync::atomic::{AtomicU64, Ordering};
 use std::test::Fail;
 use std::thread::Threads;
 
@@ -174,12 +174,7 @@ fn served_anew<L: Link + Drop + Send, R: Threads + Wait + Sync>(
 
 /// Whether all was written in order, one packet came twice, and every step is kept.
 fn is_merged(run: &Run) -> bool {
-    let twice = run
-        .trace
-        .kept()
-        .iter()
-        .filter(|s| s.mark == Mark::Verdict(Verdict::Twice))
-        .count();
+    let twice = count_of(run.trace.kept(), Mark::Verdict(Verdict::Twice));
     run.sink.octets() == b"ABC".as_slice()
         && run.last == Ok(Answer::Nothing)
         && run.trace.kept().len() == 7

@@ -5,7 +5,7 @@ ghost use Rattle.rist_wire.specs.Session.{IsSession};
 use outside_io::{Channel, Words};
 use psk_keys::Phrase;
 use psk_seal::Sealer;
-use rist_wire::*;
+use rist_wire::{Item, Kind, Media, Opener, Profile, Session, Shutter, WireBad};
 use seq_unwrap::Width;
 use std::alloc::Global;
 use std::test::Fail;
