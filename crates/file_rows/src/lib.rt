@@ -1,4 +1,5 @@
-//! Worked lines over a host in memory: captures that are packed, replayed, shown and counted, and simulated runs. There are tests alone.
+//! Worked lines over a host in memory: captures that are packed, replayed, shown and counted, and simulated runs.
+//! There are tests alone.
 #![tactic(auto)]
 
 #[cfg(test)]

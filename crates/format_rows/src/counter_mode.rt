@@ -93,7 +93,7 @@ fn assert_keystream_ends(rt: &impl Abort, count: usize, expected: &[u8])
         "{count} octets"
     );
     assert!(rt;
-        text[count..].iter().all(|octet| *octet == 0),
+        text[count..] == [0; 2048][count..],
         "behind {count} octets"
     );
 }

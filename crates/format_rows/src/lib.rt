@@ -1,6 +1,6 @@
-//! Worked values of the standards for the crates of one format or one rule each: octets and what they are read as, values
-//! and what they are written as, keys and codes. There are tests alone, and they stand above those crates, so that no crate is proved
-//! a second time for them.
+//! Worked values of the standards for the crates of one format or one rule each: octets and what they are read as,
+//! values and what they are written as, keys and codes. There are tests alone, and they stand above those crates,
+//! so that no crate is proved a second time for them.
 #![tactic(auto)]
 
 #[cfg(test)]

@@ -44,8 +44,13 @@ fn a_mask_word_asks_for_its_set_bits_from_the_least(rt: HostRuntime) -> Result<(
     let compound = Compound::read(&masked).ok().ok_or("a compound")?;
     let mut found = asks(&compound, None);
     let numbers = [found.next(), found.next(), found.next(), found.next()];
-    let expected = [100, 101, 116].map(|number| ask(Width::W16, number, 0));
-    assert!(rt; numbers[..3] == expected[..] && numbers[3].is_none());
+    let expected = [
+        ask(Width::W16, 100, 0),
+        ask(Width::W16, 101, 0),
+        ask(Width::W16, 116, 0),
+        None,
+    ];
+    assert!(rt; numbers == expected);
     Ok(())
 }
 
@@ -69,8 +74,8 @@ fn an_extension_holds_for_its_own_flow_until_the_next(rt: HostRuntime) -> Result
         .ok_or("a request")?;
     let compound = Compound::read(out.octets()).ok().ok_or("a compound")?;
     let mut found = asks(&compound, None);
-    let other_flow = found.next().map(|a| (a.flow, a.first));
-    assert!(rt; other_flow == Some((8, 5)));
+    let first = found.next().ok_or("an ask of another flow")?;
+    assert!(rt; first.flow == 8 && first.first == 5);
     let numbers = [
         found.next(),
         found.next(),

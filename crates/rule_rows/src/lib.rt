@@ -1,5 +1,6 @@
-//! Worked runs of the crates of one rule each: what a receiver keeps, plays out and asks for, and what a sender stores and on which
-//! links it sends. There are tests alone, and they stand above those crates, so that no crate is proved a second time for them.
+//! Worked runs of the crates of one rule each: what a receiver keeps, plays out and asks for, and what a sender stores
+//! and on which links it sends. There are tests alone, and they stand above those crates, so that no crate is proved a
+//! second time for them.
 #![tactic(auto)]
 
 #[cfg(test)]

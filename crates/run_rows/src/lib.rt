@@ -1,4 +1,5 @@
-//! Worked runs over links in memory: a sending, a desk and its workers, a receiving and what is sent on. There are tests alone.
+//! Worked runs over links in memory: a sending, a desk and its workers, a receiving and what is sent on. There are
+//! tests alone.
 #![tactic(auto)]
 
 #[cfg(test)]
