@@ -2,12 +2,13 @@
 # The time of `rist replay` beside that of a C program that does one write for each payload, in one run on one machine: to a
 # file and to nowhere. Then, to nowhere, with --drift beside without; and two captures that are hard on the reorder buffer,
 # beside the plain one: one that keeps the widest span full, and one whose timestamps fall while its numbers rise.
-# Words: how many packets (default 380,000: about 500 MB), octets of a payload (1,316).
+# Words: how many packets (default 380,000: about 500 MB), octets of a payload (1,316), how many runs (10).
 # Needs cc and python3; bin/rist builds the program. The captures lie in a folder that is removed at the end.
 set -eu
 for tool in cc python3; do command -v "$tool" > /dev/null || { echo "no $tool here"; exit 3; }; done
 count=${1:-380000}
 size=${2:-1316}
+runs=${3:-10}
 here=$(cd "$(dirname "$0")" && pwd)
 work=$(mktemp -d /tmp/replay_speed.XXXXXX)
 trap 'rm -rf "$work"' EXIT
@@ -30,45 +31,45 @@ with open(name, 'wb') as out:
 PY
 }
 
-# The least time of three runs: by the clock and by the processor, in seconds.
-seconds() {
-    python3 - "$@" <<'PY'
-import os, subprocess, sys, time
-best = (1e9, 0.0)
-for _ in range(3):
-    before, start = os.times(), time.monotonic()
-    subprocess.run(sys.argv[1:], check=True)
-    wall, after = time.monotonic() - start, os.times()
-    busy = after.children_user + after.children_system - before.children_user - before.children_system
-    best = min(best, (wall, busy))
-print('%.3f %.3f' % best)
+# compare NAME ONE.. -- OTHER..: runs both commands in turns, and prints the least time of each by the clock and by the
+# processor, in seconds, and their ratios.
+compare() {
+    python3 - "$runs" "$@" <<'PY'
+import os, sys, time
+runs, name, words = int(sys.argv[1]), sys.argv[2], sys.argv[3:]
+at = words.index('--')
+clock, busy = [1e9, 1e9], [1e9, 1e9]
+for _ in range(runs):
+    for k, command in enumerate((words[:at], words[at + 1:])):
+        start = time.monotonic()
+        _, status, used = os.wait4(os.posix_spawn(command[0], command, os.environ), 0)
+        clock[k] = min(clock[k], time.monotonic() - start)
+        busy[k] = min(busy[k], used.ru_utime + used.ru_stime)
+        if status:
+            sys.exit(f'{command[0]} ended with {status}')
+print(f'{name}: {clock[0]:.3f} {busy[0]:.3f}; beside {clock[1]:.3f} {busy[1]:.3f} (seconds by the clock and by the processor); '
+      f'ratio {clock[0] / clock[1]:.2f} by the clock, {busy[0] / busy[1]:.2f} by the processor')
 PY
 }
 
-# compare NAME TIMES BASE: both times, and their ratio by the processor.
-compare() {
-    echo "$1: $2; beside $3 (seconds by the clock and by the processor); ratio $(
-        echo "$2 $3" | awk '{ printf "%.2f by the clock, %.2f by the processor", $1 / $3, $2 / $4 }')"
-}
-
-rist=$here/../bin/rist
+# The program itself: bin/rist first looks for sources that are newer.
+"$here/../bin/rist" replay "$here/../examples/three.ristcap" /dev/null
+rist=$here/../crates/rist/out/rist
 cc -O2 -o "$work/baseline" "$here/replay_baseline.c"
-"$rist" replay "$here/../examples/three.ristcap" /dev/null
-echo "packets $count, octets $size, best of three runs"
+echo "packets $count, octets $size, the least of $runs runs in turns"
 
 make capture 1000 plain
-compare "to nowhere, rist beside C" "$(seconds "$rist" replay "$work/capture" /dev/null)" \
-    "$(seconds "$work/baseline" "$work/capture" /dev/null)"
-compare "to a file, rist beside C" "$(seconds "$rist" replay "$work/capture" "$work/ours")" \
-    "$(seconds "$work/baseline" "$work/capture" "$work/theirs")"
+compare "to nowhere, rist beside C" "$rist" replay "$work/capture" /dev/null -- "$work/baseline" "$work/capture" /dev/null
+compare "to a file, rist beside C" "$rist" replay "$work/capture" "$work/ours" -- \
+    "$work/baseline" "$work/capture" "$work/theirs"
 cmp "$work/ours" "$work/theirs"
 rm "$work/ours" "$work/theirs"
 
-plain=$(seconds "$rist" replay "$work/capture" /dev/null)
-compare "to nowhere, with --drift, beside without" "$(seconds "$rist" replay --drift "$work/capture" /dev/null)" "$plain"
+compare "to nowhere, with --drift, beside without" "$rist" replay --drift "$work/capture" /dev/null -- \
+    "$rist" replay "$work/capture" /dev/null
 for shape in plain falling; do
     make "$shape" 62 "$shape"
     compare "a span of 16,384 kept full, $shape timestamps, beside the plain capture" \
-        "$(seconds "$rist" replay --span 16384 --delay 1015 "$work/$shape" /dev/null)" "$plain"
+        "$rist" replay --span 16384 --delay 1015 "$work/$shape" /dev/null -- "$rist" replay "$work/capture" /dev/null
     rm "$work/$shape"
 done

@@ -1,7 +1,7 @@
 -- What a search among the places finds.
 use Rattle.std.proofs.Common.{◌≡◌, ℕ, zero, suc, ◌+◌, ◌-◌, ◌^◌, ◌<◌, ◌≤◌, ◌%◌, Bool, true, false, ◌||◌, List, [], ◌∷◌, Option, Some, None, length, map, refl, sym, ◌∙◌, ap, subst, arith, inl, inr}
 use Rattle.std.specs.Prelude.{nat_lt, ◌==◌, slice_index, IfSome, IfNone}
-use Rattle.std.specs.Option.{option_map}
+use Rattle.std.specs.Option.{ForSome, option_map}
 use Rattle.std.proofs.lemmas.Bool.{cases_lt, or_parts, ltb-false}
 use Rattle.std.proofs.lemmas.Bool.Decides.{nat_tests}
 use Rattle.std.proofs.lemmas.List.{get_or-map, get_or_past, length-map}
@@ -11,6 +11,7 @@ use Rattle.receiver_rules.specs.Packets.{Packet, IsRising}
 use Rattle.receiver_rules.proofs.PacketLemmas.{any-insert}
 use Rattle.reorder_buffer.specs.Inside.Ring.{packet_of, packets_in, tick_of, first_number}
 use Rattle.reorder_buffer.specs.Inside.Around.{IsAround}
+use Rattle.reorder_buffer.specs.declared.places.Standing.{Standing}
 use Rattle.reorder_buffer.specs.declared.ring.Held.{Held}
 use Rattle.reorder_buffer.proofs.PlaceLemmas.{stands_from, stands_wrapped}
 use Rattle.reorder_buffer.proofs.RingLemmas.{place_at}
@@ -192,10 +193,18 @@ lowest_none low places ticks blocks a none =
     empty [] h = refl
     empty (p ∷ ps) h = cc
 
--- ---- what an answer is
-
 pub same_some : {x y : ℕ} → Some x ≡ Some y → x ≡ y
 same_some e = cc
+
+-- what is found at a place stands at that of its number
+pub found_place : (low place : ℕ) (places : List (Option Held)) (ticks : List ℕ) (found : Option Standing) → IsAround low places ticks
+    → option_map (λ (s : Standing). s.number) found ≡ option_map (λ (h : Held). h.number) (place_at places place) → ForSome found (λ s. s.place ≡ place) → ForSome found (λ s. s.place ≡ s.number % length places)
+found_place low place places ticks found a same there s is =
+    let held : (held : Held) × (place_at places place ≡ Some held) = stands_at (place_at places place) s.number (sym same ∙ ap (option_map (λ (s : Standing). s.number)) is) in
+    let number : held.0.number ≡ s.number = same_some (sym (ap (option_map (λ (h : Held). h.number)) held.1) ∙ sym same ∙ ap (option_map (λ (s : Standing). s.number)) is) in
+    there s is ∙ sym (a.placed place held.0 held.1).stands ∙ ap (λ n. n % length places) number
+
+-- ---- what an answer is
 
 pub of_some : (P : ℕ → Type 0) (r : Option ℕ) (x : ℕ) → r ≡ Some x → IfSome r P → P x
 of_some P (Some y) x e p = subst P (same_some e) p

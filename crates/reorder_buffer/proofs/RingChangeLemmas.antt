@@ -1,7 +1,7 @@
 -- A packet is put into a ring, and the first is taken out.
 use Rattle.std.proofs.Common.{◌≡◌, ◌≢◌, ℕ, zero, suc, ◌+◌, ◌-◌, ◌^◌, ◌<◌, ◌≤◌, ◌%◌, ℤ, pos, max, Bool, true, false, cond, List, [], ◌∷◌, Option, Some, None, length, map, take, replicate, refl, sym, ◌∙◌, ap, subst, arith, inl, inr}
-use Rattle.std.specs.Prelude.{nat_lt, nat_le, ◌==◌, int_lt, slice_index_or, slice_set}
-use Rattle.std.specs.Option.{ForSome}
+use Rattle.std.specs.Prelude.{nat_lt, nat_le, ◌==◌, int_lt, slice_index_or, slice_set, unwrap_or}
+use Rattle.std.specs.Option.{ForSome, option_map}
 use lib.IntN.{negsuc, nat_abs}
 use Rattle.std.proofs.lemmas.Bool.{cases_eq, cases_lt, leb-false}
 use Rattle.std.proofs.lemmas.Bool.Decides.{nat_tests}
@@ -14,8 +14,9 @@ use Rattle.receiver_rules.specs.Packets.{Packet, distance, insert_by_number, IsR
 use Rattle.receiver_rules.specs.Seen.{packet_at}
 use Rattle.receiver_rules.proofs.PacketLemmas.{any-insert, rising-insert, rising_lower}
 use Rattle.reorder_buffer.specs.Inside.Span.{IsWithin}
-use Rattle.reorder_buffer.specs.Inside.Ring.{packet_of, packets_in, tick_of, first_number, last_number, ends_of, ends_and, ends_from, IsPlaced, IsRing}
+use Rattle.reorder_buffer.specs.Inside.Ring.{packet_of, packets_in, tick_of, first_number, last_number, ends_of, ends_and, ends_from, IsPlaced, IsRing, IsStanding}
 use Rattle.reorder_buffer.specs.Inside.Around.{IsAround}
+use Rattle.reorder_buffer.specs.declared.places.Standing.{Standing}
 use Rattle.reorder_buffer.specs.declared.ring.Held.{Held}
 use Rattle.reorder_buffer.specs.declared.ring.Ends.{Ends}
 use Rattle.reorder_buffer.proofs.PlaceLemmas.{same_place}
@@ -141,6 +142,23 @@ ring_put places blocks ticks ends count held block r placed new near = (
       where
         some_same : Some held ≡ Some other → held ≡ other
         some_same e = cc
+
+-- where the lowest number stands with one more
+pub standing_put : (places : List (Option Held)) (blocks : List (List ℕ)) (ticks : List ℕ) (ends : Option Ends) (first count : ℕ) (after i stands number : ℕ) (held : Held) (block : List ℕ) → IsStanding places blocks ticks ends first count
+    → IsRing (slice_set places i (Some held)) (slice_set blocks i block) (slice_set ticks i after) (Some (ends_and ends number)) (count + 1) → i ≡ number % length places
+    → ((capacity : ℕ) → i ≡ number % capacity → ForSome ends (λ e. first ≡ e.low % capacity) → stands ≡ (ends_and ends number).low % capacity)
+    → IsStanding (slice_set places i (Some held)) (slice_set blocks i block) (slice_set ticks i after) (Some (ends_and ends number)) stands (count + 1)
+standing_put places blocks ticks ends first count after i stands number held block s r at f =
+    let is : stands ≡ (ends_and ends number).low % length places = f (length places) at s.stands in
+    let low : (ends_and ends number).low % length places < length places = mod_below (ends_and ends number).low (length places) (omega (arith, s.ring.some)) in
+    record {
+      ring = r;
+      inside = omega (arith, length-set places i (Some held));
+      stands = λ e same. is ∙ ap (λ n. (ends_and ends number).low % n) (sym (length-set places i (Some held))) ∙ ap (λ (x : Ends). x.low % length (slice_set places i (Some held))) (some_same same);
+    }
+  where
+    some_same : {x y : Ends} → Some x ≡ Some y → x ≡ y
+    some_same e = cc
 
 -- ---- the first packet taken out
 
@@ -320,6 +338,30 @@ ring_dropped places blocks ticks ends count i e found r is at f =
         none_some e = cc
     high (Some n) x f = let same : e.high ≡ x.high = cc in let old = r.high e is in omega arith
 
+-- where the lowest number stands that is left
+pub standing_dropped : (places : List (Option Held)) (blocks : List (List ℕ)) (ticks : List ℕ) (ends : Option Ends) (first count high : ℕ) (found : Option Standing) → IsStanding places blocks ticks ends first count
+    → IsRing (slice_set places first None) blocks (slice_set ticks first (2 ^ 64 - 1)) (ends_from (option_map (λ (s : Standing). s.number) found) high) (count - 1)
+    → ForSome found (λ s. s.place ≡ s.number % length (slice_set places first None))
+    → IsStanding (slice_set places first None) blocks (slice_set ticks first (2 ^ 64 - 1)) (ends_from (option_map (λ (s : Standing). s.number) found) high) (unwrap_or (option_map (λ (s : Standing). s.place) found) first) (count - 1)
+standing_dropped places blocks ticks ends first count high found s r place =
+    record {
+      ring = r;
+      inside = within found place;
+      stands = λ e same. at found place e same;
+    }
+  where
+    within : (o : Option Standing) → ForSome o (λ s. s.place ≡ s.number % length (slice_set places first None)) → unwrap_or (option_map (λ (s : Standing). s.place) o) first < length (slice_set places first None)
+    within None place = omega (arith, length-set places first None, s.inside)
+    within (Some x) place = let low = mod_below x.number (length (slice_set places first None)) r.some in omega (arith, place x refl)
+
+    at : (o : Option Standing) → ForSome o (λ s. s.place ≡ s.number % length (slice_set places first None))
+        → ForSome (ends_from (option_map (λ (s : Standing). s.number) o) high) (λ e. unwrap_or (option_map (λ (s : Standing). s.place) o) first ≡ e.low % length (slice_set places first None))
+    at None place e same = absurd (none_some same)
+      where
+        none_some : None ≡ Some e → ⊥
+        none_some e = cc
+    at (Some x) place e same = let low : x.number ≡ e.low = cc in place x refl ∙ ap (λ n. n % length (slice_set places first None)) low
+
 -- ---- no packets
 
 packets_none : (n : ℕ) (bs : List (List ℕ)) → packets_in (replicate n None) bs ≡ []
@@ -360,6 +402,16 @@ ring_none n places blocks ticks some few p b t = (
     long : length places ≡ n
     long = ap length p ∙ length-replicate n None
 
+    none_some : {x : Ends} → None ≡ Some x → ⊥
+    none_some e = cc
+
+pub standing_none : (n : ℕ) (places : List (Option Held)) (blocks : List (List ℕ)) (ticks : List ℕ) → 1 ≤ n → places ≡ replicate n None → IsRing places blocks ticks None 0 → IsStanding places blocks ticks None 0 0
+standing_none n places blocks ticks some p r = record {
+  ring = r;
+  inside = omega (arith, r.some);
+  stands = λ e is. absurd (none_some is);
+}
+  where
     none_some : {x : Ends} → None ≡ Some x → ⊥
     none_some e = cc
 

@@ -1,7 +1,7 @@
 //! The search among the places of a ring. From the place of the lowest number on the numbers rise with the places, and go on
 //! rising from the first place.
-ghost use Rattle.std.specs.Prelude.{◌≡◌, ◌<◌, List, ℕ, length, slice_index_or, None};
-ghost use Rattle.std.specs.Option.{option_map};
+ghost use Rattle.std.specs.Prelude.{◌≡◌, ◌<◌, ◌%◌, List, ℕ, length, slice_index_or, None};
+ghost use Rattle.std.specs.Option.{ForSome, option_map};
 ghost use Rattle.receiver_rules.specs.Packets.{IsRising};
 ghost use Rattle.reorder_buffer.specs.Inside.Ring.{packets_in, first_number};
 ghost use Rattle.reorder_buffer.specs.Inside.Around.{IsAround};
@@ -9,31 +9,53 @@ ghost use Rattle.reorder_buffer.specs.Inside.Around.{IsAround};
 use crate::ring::Held;
 use deadline_index::{DeadlineIndex, NEVER};
 
-/// The lowest number, where none is below this one.
-pub fn lowest_from(places: &[Option<Held>], index: &DeadlineIndex, low: u64) -> Option<u64>
-    requires { IsAround low places.now index.now }
-    ensures { (blocks : List (List ℕ)) → length blocks ≡ length places.now
-        → IsRising 0 (packets_in places.now blocks) → result ≡ first_number (packets_in places.now blocks) }
+/// A number that waits, and its place.
+#[derive(Clone, Copy)]
+pub struct Standing {
+    pub number: u64,
+    pub place: usize,
+}
+
+/// The lowest number, where none is below the one whose place is `start`.
+pub fn lowest_from(
+    places: &[Option<Held>],
+    index: &DeadlineIndex,
+    start: usize,
+    low: u64,
+) -> Option<Standing>
+    requires around { IsAround low places.now index.now }
+    requires start { start ≡ low % length places.now }
+    ensures number { (blocks : List (List ℕ)) → length blocks ≡ length places.now
+        → IsRising 0 (packets_in places.now blocks)
+        → option_map (λ s. s.number) result ≡ first_number (packets_in places.now blocks) }
+    ensures place { ForSome result (λ s. s.place ≡ s.number % length places.now) }
 {
-    let start = (low % places.len() as u64) as usize;
     // Mostly this number waits itself.
-    if let Some(number) = number_at(places, start) {
-        return Some(number);
+    if let Some(lowest) = standing_at(places, start) {
+        return Some(lowest);
     }
     let first = match index.first_by(start, NEVER - 1) {
         Some(place) => Some(place),
         None => index.first_by(0, NEVER - 1),
     };
     match first {
-        Some(place) => number_at(places, place),
+        Some(place) => standing_at(places, place),
         None => None,
     }
 }
 
-/// The number at a place.
-fn number_at(places: &[Option<Held>], place: usize) -> Option<u64>
+/// What stands at a place.
+fn standing_at(places: &[Option<Held>], place: usize) -> Option<Standing>
     requires { place < length places.now }
-    ensures { result ≡ option_map (λ held. held.number) (slice_index_or places.now place None) }
+    ensures number { option_map (λ s. s.number) result
+        ≡ option_map (λ held. held.number) (slice_index_or places.now place None) }
+    ensures place { ForSome result (λ s. s.place ≡ place) }
 {
-    places[place].map(|held| held.number)
+    match places[place] {
+        Some(held) => Some(Standing {
+            number: held.number,
+            place,
+        }),
+        None => None,
+    }
 }

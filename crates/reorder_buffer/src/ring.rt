@@ -1,13 +1,15 @@
 //! The packets that wait, in a ring of places over one pool of blocks: a packet stands at the place that its number is modulo
 //! the number of places. Only the first call takes memory.
-ghost use Rattle.std.specs.Prelude.{◌≡◌, ◌==◌, ◌<◌, ◌≤◌, ◌%◌, ◌^◌, [], length, nat_le, int_lt, pos, take, true, false, IsTrue, IfOk};
+ghost use Rattle.std.specs.Prelude.{◌≡◌, ◌==◌, ◌<◌, ◌≤◌, ◌+◌, ◌%◌, ◌^◌, ℕ, [], length, nat_le, int_lt, pos, take};
+ghost use Rattle.std.specs.Prelude.{true, false, unwrap_or, IsTrue, IfOk};
 ghost use Rattle.std.specs.List.{list_any};
-ghost use Rattle.std.specs.Option.{ForSome};
+ghost use Rattle.std.specs.Option.{ForSome, option_map};
+ghost use Rattle.receiver_rules.specs.declared.bounds.TheConstants.{MAX_SPAN};
 ghost use Rattle.receiver_rules.specs.Packets.{At, distance, insert_by_number, is_past_deadline};
 ghost use Rattle.receiver_rules.specs.Seen.{moment_of, packet_at};
 ghost use Rattle.reorder_buffer.specs.Inside.Ring.{floor_after_first, after_first, first_payload, ends_and, ends_from as ends_between};
 
-use crate::places::lowest_from;
+use crate::places::{Standing, lowest_from};
 use deadline_index::{DeadlineIndex, NEVER};
 use receiver_rules::place::Position;
 use std::alloc::{AllocError, Global};
@@ -45,6 +47,8 @@ pub struct Ring {
     /// At each place the deadline of the packet that stands there.
     index: DeadlineIndex,
     ends: Option<Ends>,
+    /// Where the packet with the lowest number stands, if any waits.
+    first: usize,
     count: usize,
 }
 
@@ -63,8 +67,6 @@ impl Model for Ring {
 }
 
 impl Ring {
-    ghost use Rattle.receiver_rules.specs.declared.bounds.TheConstants.{MAX_SPAN};
-
     /// No packets, and room for a number of them.
     pub fn with_places(alloc: Global, capacity: usize) -> Result<Ring, AllocError>
         requires { (1 ≤ capacity) × (capacity ≤ MAX_SPAN) }
@@ -81,6 +83,7 @@ impl Ring {
             pool,
             index,
             ends: None,
+            first: 0,
             count: 0,
         })
     }
@@ -128,11 +131,10 @@ impl Ring {
     fn is_first_due(&self, at: u64) -> bool
         ensures { IsTrue result → list_any (is_past_deadline (At at)) self.now.packets ≡ true }
     {
-        let Some(ends) = self.ends else {
+        let Some(_) = self.ends else {
             return false;
         };
-        let place = self.place_of(ends.low);
-        match self.places[place] {
+        match self.places[self.first] {
             Some(held) => held.deadline <= at,
             None => false,
         }
@@ -152,12 +154,11 @@ impl Ring {
     pub fn first_payload(&self) -> &[u8]
         ensures { result.now ≡ first_payload self.now.packets }
     {
-        let Some(ends) = self.ends else {
+        let Some(_) = self.ends else {
             return &[];
         };
-        let place = self.place_of(ends.low);
-        match self.places[place] {
-            Some(held) => &self.pool[place][..held.length],
+        match self.places[self.first] {
+            Some(held) => &self.pool[self.first][..held.length],
             None => &[],
         }
     }
@@ -185,6 +186,7 @@ impl Ring {
             length: payload.len(),
         });
         self.index.set(free, deadline);
+        self.first = first_with(self.ends, self.first, place.number, free);
         self.ends = Some(with_number(self.ends, place.number));
         self.count += 1;
     }
@@ -197,14 +199,13 @@ impl Ring {
         let Some(ends) = self.ends else {
             return;
         };
-        let place = self.place_of(ends.low);
-        self.places[place] = None;
-        self.index.set(place, NEVER);
+        self.places[self.first] = None;
+        self.index.set(self.first, NEVER);
         self.count -= 1;
-        self.ends = ends_from(
-            lowest_from(&self.places, &self.index, ends.low + 1),
-            ends.high,
-        );
+        let start = place_after(self.first, 1, self.places.len());
+        let lowest = lowest_from(&self.places, &self.index, start, ends.low + 1);
+        self.first = first_from(lowest, self.first);
+        self.ends = ends_from(lowest, ends.high);
     }
 
     /// Takes all packets out.
@@ -217,12 +218,18 @@ impl Ring {
         }
     }
 
-    /// The place of a number.
+    /// The place of a number. Mostly it is counted from that of the lowest, since a division takes longer.
     fn place_of(&self, number: u64) -> usize
         ensures value { result ≡ number % self.now.capacity }
         ensures within { result < self.now.capacity }
     {
-        (number % self.places.len() as u64) as usize
+        let count = self.places.len();
+        match self.ends {
+            Some(ends) if ends.low <= number && number - ends.low < count as u64 => {
+                place_after(self.first, (number - ends.low) as usize, count)
+            }
+            _ => (number % count as u64) as usize,
+        }
     }
 
     /// Whether two numbers lie as far apart as there are places, or farther.
@@ -249,14 +256,50 @@ fn with_number(ends: Option<Ends>, number: u64) -> Ends
     }
 }
 
-/// The ends where the lowest number is this one, if any.
-fn ends_from(low: Option<u64>, high: u64) -> Option<Ends>
-    ensures { result ≡ ends_between low high }
+/// Where the lowest number stands with one more, which stands at this place.
+fn first_with(ends: Option<Ends>, first: usize, number: u64, place: usize) -> usize
+    ensures { (capacity : ℕ) → place ≡ number % capacity → ForSome ends (λ e. first ≡ e.low % capacity)
+        → result ≡ (ends_and ends number).low % capacity }
 {
-    match low {
-        Some(low) => Some(Ends { low, high }),
+    match ends {
+        Some(ends) if ends.low <= number => first,
+        _ => place,
+    }
+}
+
+/// The ends where the lowest number is this one, if any.
+fn ends_from(lowest: Option<Standing>, high: u64) -> Option<Ends>
+    ensures { result ≡ ends_between (option_map (λ s. s.number) lowest) high }
+{
+    match lowest {
+        Some(lowest) => Some(Ends {
+            low: lowest.number,
+            high,
+        }),
         None => None,
     }
+}
+
+/// Where the lowest number stands, if any waits.
+fn first_from(lowest: Option<Standing>, first: usize) -> usize
+    ensures { result ≡ unwrap_or (option_map (λ s. s.place) lowest) first }
+{
+    match lowest {
+        Some(lowest) => lowest.place,
+        None => first,
+    }
+}
+
+/// The place so many steps after another, around a ring of so many places.
+fn place_after(place: usize, steps: usize, count: usize) -> usize
+    requires place { place < count }
+    requires steps { steps ≤ count }
+    requires few { count ≤ MAX_SPAN }
+    ensures value { (number : ℕ) → place ≡ number % count → result ≡ (number + steps) % count }
+    ensures within { result < count }
+{
+    let after = place + steps;
+    if after < count { after } else { after - count }
 }
 
 /// Writes a payload to the front of a block.

@@ -78,6 +78,12 @@ pub record IsRing (places : List (Option Held)) (blocks : List (List ℕ)) (tick
   pub rising : IsRising 0 (packets_in places blocks)
   pub within : IsWithin (length places) (packets_in places blocks)
 
+-- and where the lowest number stands
+pub record IsStanding (places : List (Option Held)) (blocks : List (List ℕ)) (ticks : List ℕ) (ends : Option Ends) (first count : ℕ) : Type 0 where
+  pub ring : IsRing places blocks ticks ends count
+  pub inside : first < length places
+  pub stands : ForSome ends (λ e. first ≡ e.low % length places)
+
 -- the ends with one more number
 abbrev pub ends_and : Option Ends → ℕ → Ends
 ends_and None number = record { low = number; high = number }

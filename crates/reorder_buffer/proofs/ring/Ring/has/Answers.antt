@@ -9,7 +9,7 @@ use Rattle.reorder_buffer.proofs.ring.Ring.has.Goals as goal
 
 pub returns-in-Some : goal.returns-in-Some
 returns-in-Some c =
-    let r = c.self.invariant in
+    let r = c.self.invariant.ring in
     let wide = ap (λ (w : Waiting). w.capacity) c.self.view_is in
     let at = c.place_of.ensures.value ∙ ap (λ n. c.args.number % n) (sym wide) in
     let low = subst (λ n. c.place_of.result < n) (sym wide) c.place_of.ensures.within in
@@ -21,7 +21,7 @@ returns-in-Some c =
 
 pub returns-in-None : goal.returns-in-None
 returns-in-None c =
-    let r = c.self.invariant in
+    let r = c.self.invariant.ring in
     let wide = ap (λ (w : Waiting). w.capacity) c.self.view_is in
     let at = c.place_of.ensures.value ∙ ap (λ n. c.args.number % n) (sym wide) in
     let low = subst (λ n. c.place_of.result < n) (sym wide) c.place_of.ensures.within in

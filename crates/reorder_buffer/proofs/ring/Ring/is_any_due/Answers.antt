@@ -11,7 +11,7 @@ use Rattle.reorder_buffer.proofs.ring.Ring.is_any_due.Goals as goal
 pub returns-else-is_first_due : goal.returns-else-is_first_due
 returns-else-is_first_due c =
     c.is_any_by.ensures
-    ∙ ap (list_any (λ due. nat_le due c.in-Some.at)) c.self.invariant.indexed
-    ∙ due_ticks c.in-Some.at c.self.inside.places.items c.self.inside.pool.items (c.requires c.in-Some.at c.in-Some.is) c.self.invariant.sized
+    ∙ ap (list_any (λ due. nat_le due c.in-Some.at)) c.self.invariant.ring.indexed
+    ∙ due_ticks c.in-Some.at c.self.inside.places.items c.self.inside.pool.items (c.requires c.in-Some.at c.in-Some.is) c.self.invariant.ring.sized
     ∙ ap (λ (w : Waiting). list_any (is_past_deadline (At c.in-Some.at)) w.packets) c.self.view_is
     ∙ ap (λ o. list_any (is_past_deadline (moment_of o)) c.args.self.now.packets) (sym c.in-Some.is)

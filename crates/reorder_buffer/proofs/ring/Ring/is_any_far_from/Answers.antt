@@ -9,7 +9,7 @@ use Rattle.reorder_buffer.proofs.ring.Ring.is_any_far_from.Goals as goal
 
 pub returns-else-is_far : goal.returns-else-is_far
 returns-else-is_far c =
-    let r = c.self.invariant in
+    let r = c.self.invariant.ring in
     let far = far_in (length c.self.inside.places.items) c.args.number (packets_in c.self.inside.places.items c.self.inside.pool.items) c.in-Some.ends (sym r.bounded ∙ c.in-Some.is) r.rising in
     let wide = ap (λ (w : Waiting). w.capacity) c.self.view_is in
     let near : nat_le c.args.self.now.capacity (distance c.in-Some.ends.low c.args.number) ≡ false = sym c.is_far.ensures ∙ c.if-is_far.false in
