@@ -1,10 +1,12 @@
 #!/bin/sh
 # Sends a live `rist recv` hostile datagrams, a million in each run (hostile.py: random, changed, cut, of extreme lengths and
 # numbers), beside a good stream from `rist send`, in the Simple Profile, in the Main Profile, and there enciphered; then
-# datagrams each under a nonce of its own, fewer, since each costs the derivation of a key. Of each: whether the good stream is
-# written whole, the receiver's processor time for each hostile datagram, over that of the same stream alone, and its peak resident set
-# before the hostile datagrams and at the end. It takes four minutes, needs python3, uses 127.0.0.1 alone and writes only below a new
-# folder in /tmp. Where a tool isn't there it says so and ends with status 3, without `recv` with status 4.
+# datagrams each under a nonce of its own, fewer, since each costs the derivation of a key. Those that the session refuses draw no
+# answer; one that it takes draws the answers until the stream's next datagram, which costs nothing here, where nothing is lost.
+# Of each: whether the good stream is written whole, the receiver's processor time for each hostile datagram, over that of the same
+# stream alone, and its peak resident set before the hostile datagrams and at the end. It takes four minutes, needs python3, uses
+# 127.0.0.1 alone and writes only below a new folder in /tmp. Where a tool isn't there it says so and ends with status 3, without
+# `recv` with status 4.
 # Words: how many hostile datagrams a run (default 1,000,000), how many each millisecond (25).
 set -eu
 count=${1:-1000000} batch=${2:-25}

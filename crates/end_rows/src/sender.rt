@@ -70,7 +70,7 @@ fn link(alloc: Global, failing: &[u64]) -> Result<ScriptLink, Fail> {
     Ok(ScriptLink::with(alloc, Vec::new(alloc), true, 64, &[], failing)?)
 }
 
-/// A sender of flow 10203040 that stores 32 packets and holds each for 20 ms, over these links.
+/// A sender of flow 10203040 that stores 512 packets and holds each for 20 ms, over these links.
 fn flow_over(
     alloc: Global,
     profile: Profile,
@@ -84,7 +84,7 @@ fn flow_over(
     let settings = Settings {
         flow: 0x1020_3040,
         first,
-        store: 32,
+        store: 512,
         hold: 20,
         bond,
     };
@@ -135,6 +135,36 @@ fn a_compound_gets_what_it_asks_for_once_in_the_hold_time(rt: HostRuntime) -> Re
     assert!(rt; flow.took(0, 13) == Some((Channel::Media, AGAIN_100.as_slice())));
     assert!(rt; flow.took(0, 14) == Some((Channel::Media, AGAIN_101.as_slice())));
     assert!(rt; flow.took(0, 15) == None);
+    Ok(())
+}
+
+// A report and a description, and then a range NACK of all 65,536 numbers from 0 on; and one that names 5 twice.
+const ASKS_FOR_ALL: [u8; 40] = [
+    0x80, 0xC9, 0, 1, 0, 0, 0, 7, 0x81, 0xCA, 0, 3, 0, 0, 0, 7, 1, 4, 0x72, 0x69, 0x73, 0x74, 0, 0,
+    0x80, 0xCC, 0, 3, 0x10, 0x20, 0x30, 0x40, 0x52, 0x49, 0x53, 0x54, 0, 0, 0xFF, 0xFF,
+];
+
+const ASKS_TWICE: [u8; 44] = [
+    0x80, 0xC9, 0, 1, 0, 0, 0, 7, 0x81, 0xCA, 0, 3, 0, 0, 0, 7, 1, 4, 0x72, 0x69, 0x73, 0x74, 0, 0,
+    0x80, 0xCC, 0, 4, 0x10, 0x20, 0x30, 0x40, 0x52, 0x49, 0x53, 0x54, 0, 5, 0, 0, 0, 5, 0, 0,
+];
+
+#[test]
+fn one_compound_gets_at_most_256_and_each_number_once(rt: HostRuntime) -> Result<(), Fail> {
+    let alloc = rt.alloc();
+    let mut links = Vec::new(alloc);
+    links.push(ScriptLink::with(alloc, Vec::new(alloc), true, 620, &[], &[])?)?;
+    let mut flow = flow_over(alloc, Profile::Simple, 0, Bond::duplicate(1), links)?;
+    for _ in 0..300 {
+        assert_eq!(rt; flow.send(0, b"A"), Ok(()));
+    }
+    for resent in [256, 44, 0] {
+        assert_eq!(rt; flow.feedback(0, 0, &ASKS_FOR_ALL)?, resent);
+    }
+    assert_eq!(rt; flow.feedback(20_000, 0, &ASKS_TWICE)?, 1);
+    let fifth = [0x80, 0x21, 0, 5, 0, 0, 0, 0, 0x10, 0x20, 0x30, 0x41, b'A'];
+    assert_eq!(rt; flow.took(0, 600), Some((Channel::Media, fifth.as_slice())));
+    assert_eq!(rt; flow.took(0, 601), None);
     Ok(())
 }
 

@@ -40,6 +40,8 @@ impl Link for WaitingLink {
 
     ghost knows = { λ waiting. knows_in waiting.link.known };
 
+    ghost knew = { λ waiting. knows_in waiting.link.before };
+
     ghost faults = { λ waiting. waiting.link.faults };
 
     ghost ends = { λ waiting. waiting.link.ends };
@@ -49,6 +51,10 @@ impl Link for WaitingLink {
             return Got::Quiet;
         }
         self.link.read(buf)
+    }
+
+    fn refuse(&mut self) {
+        self.link.refuse();
     }
 
     fn write(&mut self, channel: Channel, octets: &[u8]) -> Result<bool, Failed> {

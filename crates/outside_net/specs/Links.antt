@@ -67,6 +67,13 @@ KnowsAfter old new got.Quiet = (c : Channel) → new c ≡ old c
 KnowsAfter old new got.End = (c : Channel) → new c ≡ old c
 KnowsAfter old new got.Failed = (c : Channel) → new c ≡ old c
 
+-- after a read that gave a datagram: what was known before it
+abbrev pub IsBefore : (Channel → Bool) → (Channel → Bool) → Got → Type 0
+IsBefore old knew (got.Datagram channel count) = (c : Channel) → knew c ≡ old c
+IsBefore old knew got.Quiet = Unit {0}
+IsBefore old knew got.End = Unit {0}
+IsBefore old knew got.Failed = Unit {0}
+
 -- the datagrams taken, after a write: one more exactly where it went
 abbrev pub taken_with : {E : Type 0} → Channel → List ℕ → Result Bool E → List Datagram → List Datagram
 taken_with channel octets (Ok true) taken = taken ++ record { channel = channel; octets = octets } ∷ []

@@ -31,6 +31,17 @@ knows_in_link link channels.Media = knows_at link.media
 knows_in_link link channels.Control = knows_at link.control
 knows_in_link link channels.Tunnel = knows_at link.tunnel
 
+-- the peer of a socket before the last read, if there was one
+abbrev pub knew_at : Option Port → Bool
+knew_at None = false
+knew_at (Some port) = is_known port.before
+
+-- the peer of a link's channel was known before the last read
+abbrev pub knew_in_link : UdpLink → Channel → Bool
+knew_in_link link channels.Media = knew_at link.media
+knew_in_link link channels.Control = knew_at link.control
+knew_in_link link channels.Tunnel = knew_at link.tunnel
+
 -- the peers that are known at first: those of a sending link's channels
 abbrev pub is_sending : Role → Bool
 is_sending Receives = false

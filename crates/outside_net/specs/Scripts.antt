@@ -56,13 +56,14 @@ knows_in known channels.Media = known.media
 knows_in known channels.Control = known.control
 knows_in known channels.Tunnel = known.tunnel
 
--- a link in memory: the answers of its script that are left, its reads and writes, the peers that it knows, the datagrams that it
--- took, the oldest first, how many it has room for, and its counts
+-- a link in memory: the answers of its script that are left, its reads and writes, the peers that it knows and those that it knew
+-- before the last datagram, the datagrams that it took, the oldest first, how many it has room for, and its counts
 pub record ScriptState : Type 0 where
   pub script : List ScriptRead
   pub reads : CallPlaces
   pub writes : CallPlaces
   pub known : Known
+  pub before : Known
   pub taken : List Datagram
   pub room : ℕ
   pub faults : ℕ
@@ -79,6 +80,7 @@ pub record IsNewLink (given : List ScriptRead) (peer : Bool) (space : ℕ) (fail
   pub reads : link.reads ≡ record { failing = failing_reads; made = 0 }
   pub writes : link.writes ≡ record { failing = failing_writes; made = 0 }
   pub known : (c : Channel) → knows_in link.known c ≡ peer
+  pub before : (c : Channel) → knows_in link.before c ≡ peer
   pub taken : link.taken ≡ []
   pub room : link.room ≡ space
   pub faults : link.faults ≡ 0

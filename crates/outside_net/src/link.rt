@@ -6,7 +6,7 @@ ghost use Rattle.outside_io.specs.Causes.{RoseWhere, HasCause};
 ghost use Rattle.outside_io.specs.declared.channel.Channel.{Channel};
 ghost use Rattle.outside_net.specs.Streams.{later, IsFirst};
 ghost use Rattle.outside_net.specs.Links.{Answer, Datagram, answer_of, IsWithin, IsOver, KnowsAfter, has_read_failed};
-ghost use Rattle.outside_net.specs.Links.{has_come_to_end, taken_with};
+ghost use Rattle.outside_net.specs.Links.{has_come_to_end, taken_with, IsBefore};
 
 use outside_io::{Channel, Failed};
 
@@ -38,6 +38,9 @@ pub trait Link {
     /// Whether the peer of a channel is known.
     ghost knows: { Self → Channel → Bool };
 
+    /// Whether it was known before the datagram came that the last read gave.
+    ghost knew: { Self → Channel → Bool };
+
     /// How many calls failed. It never falls.
     ghost faults: { Self → ℕ };
 
@@ -45,7 +48,7 @@ pub trait Link {
     ghost ends: { Self → ℕ };
 
     /// The next datagram, if there is one now, at the front of the block. Whoever sent it is its channel's peer, unless
-    /// the link has a stated one.
+    /// the link has a stated one, or the datagram is refused.
     fn read(&mut self, buf: &mut [u8; 2048]) -> Got
         ensures within { IsWithin result }
         ensures value { IsFirst (reads self.old) (answer_of result buf.new) }
@@ -53,9 +56,19 @@ pub trait Link {
         // After an end no datagram is left to give.
         ensures over { IsOver (answer_of result buf.new) (reads self.new) }
         ensures peer { KnowsAfter (knows self.old) (knows self.new) result }
+        ensures before { IsBefore (knows self.old) (knew self.new) result }
         ensures same { taken self.new ≡ taken self.old }
         ensures cause { RoseWhere (has_read_failed result) (faults self.old) (faults self.new) }
         ensures end { RoseWhere (has_come_to_end result) (ends self.old) (ends self.new) };
+
+    /// Takes the datagram that the last read gave for a stranger's: the peers are again those from before it.
+    fn refuse(&mut self)
+        ensures peers { (c : Channel) → knows self.new c ≡ knew self.old c }
+        ensures before { (c : Channel) → knew self.new c ≡ knew self.old c }
+        ensures reads { reads self.new ≡ reads self.old }
+        ensures taken { taken self.new ≡ taken self.old }
+        ensures ends { ends self.new ≡ ends self.old }
+        ensures faults { faults self.new ≡ faults self.old };
 
     /// Sends a datagram to the channel's peer. `false` says that none is known yet, and then nothing was taken.
     fn write(&mut self, channel: Channel, octets: &[u8]) -> Result<bool, Failed>
@@ -63,6 +76,7 @@ pub trait Link {
         ensures peer { IfOk result (λ went. went ≡ knows self.old channel) }
         ensures same { reads self.new ≡ reads self.old }
         ensures peers { (c : Channel) → knows self.new c ≡ knows self.old c }
+        ensures before { (c : Channel) → knew self.new c ≡ knew self.old c }
         ensures ends { ends self.new ≡ ends self.old }
         ensures cause { HasCause (faults self.old) (faults self.new) result };
 }

@@ -10,7 +10,7 @@ use std::os::fd::AsRawFd;
 const RECEIVE_BUFFER: i32 = 4_194_304;
 
 /// Whom a channel's datagrams go to.
-#[derive(Drop)]
+#[derive(Clone, Copy)]
 pub enum Peer {
     /// Nobody is known yet.
     Unknown,
@@ -20,11 +20,12 @@ pub enum Peer {
     Stated(SocketAddr),
 }
 
-/// A socket that never waits, and its peer.
+/// A socket that never waits, its peer, and its peer before the last read of its link.
 #[derive(Drop)]
 pub struct Port {
     socket: UdpSocket,
     peer: Peer,
+    before: Peer,
 }
 
 impl Port {
@@ -35,6 +36,7 @@ impl Port {
     /// Bound to the address, or from any port of this machine to it.
     pub fn open<R: Net>(rt: &R, address: [u8; 4], port: u16, role: Role) -> Result<Port, Failed>
         ensures peer { IfOk result (λ port. is_known port.peer ≡ is_sending role) }
+        ensures before { IfOk result (λ port. port.before ≡ port.peer) }
     {
         let [a, b, c, d] = address;
         let stated = SocketAddr::V4(SocketAddrV4::new(Ipv4Addr::new(a, b, c, d), port));
@@ -44,7 +46,11 @@ impl Port {
             Role::Sends | Role::Forwards => (any, Peer::Stated(stated)),
         };
         match quick_socket(rt, own) {
-            Ok(socket) => Ok(Port { socket, peer }),
+            Ok(socket) => Ok(Port {
+                socket,
+                peer,
+                before: peer,
+            }),
             Err(_) => Err(Failed),
         }
     }
@@ -53,12 +59,29 @@ impl Port {
         self.socket.as_raw_fd()
     }
 
+    /// Begins a read: the peer that is known now is the one from before it.
+    pub fn begin(&mut self)
+        ensures before { self.new.before ≡ self.old.peer }
+        ensures peer { self.new.peer ≡ self.old.peer }
+    {
+        self.before = self.peer;
+    }
+
+    /// Takes back what the last read made of the peer.
+    pub fn refuse(&mut self)
+        ensures peer { self.new.peer ≡ self.old.before }
+        ensures before { self.new.before ≡ self.old.before }
+    {
+        self.peer = self.before;
+    }
+
     /// The next datagram, if one is there: its sender is the peer, unless one was stated. One of more than 2,048 octets
     /// is dropped, which answers Quiet, and its sender isn't.
     pub fn look(&mut self, channel: Channel, buf: &mut [u8; 2048]) -> Option<Got>
         ensures within { IfSome result IsWithin }
         ensures going { IfSome result (λ got. has_come_to_end got ≡ false) }
         ensures peer { PeerAfter channel (is_known self.old.peer) (is_known self.new.peer) result }
+        ensures before { self.new.before ≡ self.old.before }
     {
         let mut block = [0; MAX_DATAGRAM + 1];
         match self.socket.recv_from(&mut block) {
@@ -81,6 +104,7 @@ impl Port {
 
     fn learn(&mut self, from: SocketAddr)
         ensures value { is_known self.new.peer ≡ true }
+        ensures before { self.new.before ≡ self.old.before }
     {
         match self.peer {
             Peer::Stated(_) => {}

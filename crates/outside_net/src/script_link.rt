@@ -47,6 +47,8 @@ pub struct ScriptLink {
     reads: CallList,
     writes: CallList,
     known: Known,
+    /// The peers that were known before the last datagram.
+    before: Known,
     taken: Vec<Taken>,
     room: usize,
     faults: u64,
@@ -65,6 +67,7 @@ impl Model for ScriptLink {
       reads = l.reads;
       writes = l.writes;
       known = l.known;
+      before = l.before;
       taken = l.taken.items;
       room = l.room;
       faults = l.faults;
@@ -102,6 +105,7 @@ impl ScriptLink {
             reads: CallList::with(alloc, failing_reads)?,
             writes: CallList::with(alloc, failing_writes)?,
             known: Known::all(peer),
+            before: Known::all(peer),
             taken: Vec::with_capacity(alloc, room)?,
             room,
             faults: 0,
@@ -176,6 +180,8 @@ impl Link for ScriptLink {
 
     ghost knows = { λ link. knows_in link.known };
 
+    ghost knew = { λ link. knows_in link.before };
+
     ghost faults = { λ link. link.faults };
 
     ghost ends = { λ link. link.ends };
@@ -192,9 +198,14 @@ impl Link for ScriptLink {
         let got = answer(&self.script[self.at], buf);
         self.at += 1;
         if let Got::Datagram(channel, _) = got {
+            self.before = self.known;
             self.known.learn(channel);
         }
         got
+    }
+
+    fn refuse(&mut self) {
+        self.known = self.before;
     }
 
     fn write(&mut self, channel: Channel, octets: &[u8]) -> Result<bool, Failed> {

@@ -1,7 +1,7 @@
 //! UDP links. What they give and take is not told: the trusted edge of the system.
 ghost use Rattle.std.specs.Prelude.{◌≡◌, false, IfOk, IfSome};
 ghost use Rattle.outside_net.specs.Links.{IsWithin, has_come_to_end};
-ghost use Rattle.outside_net.specs.Real.{knows_at, LooksOn};
+ghost use Rattle.outside_net.specs.Real.{knows_at, knew_at, LooksOn};
 
 use crate::port::Port;
 use crate::{Got, Link, LinkSpec, Role};
@@ -16,9 +16,10 @@ const WAIT_MS: i32 = 1;
 /// A link over UDP: in the Simple Profile a socket for media and one for control, in the Main Profile one for the
 /// tunnel.
 ///
-/// A receiving link is bound to its address, and answers on each channel to the last sender on it. A sending link sends
-/// to its address. A read looks at the socket first that gave a datagram least recently; where no socket has one it
-/// waits for 1 ms, unless the link forwards, or a datagram was written since the last read.
+/// A receiving link is bound to its address, and answers on each channel to whoever sent the last datagram on it that
+/// wasn't refused. A sending link sends to its address. A read looks at the socket first that gave a datagram least
+/// recently; where no socket has one it waits for 1 ms, unless the link forwards, or a datagram was written since the
+/// last read.
 #[derive(Drop)]
 pub struct UdpLink {
     media: Option<Port>,
@@ -35,7 +36,7 @@ impl UdpLink {
     ghost use Rattle.std.specs.Prelude.{◌≡◌, false, IfOk, IfSome};
     ghost use Rattle.outside_net.specs.Links.{IsWithin, has_come_to_end};
     ghost use Rattle.outside_io.specs.declared.channel.Channel.{Channel as ChannelValue};
-    ghost use Rattle.outside_net.specs.Real.{knows_in_link, stated_in, IsUnused, KnowsAfterLook};
+    ghost use Rattle.outside_net.specs.Real.{knows_in_link, knew_in_link, stated_in, IsUnused, KnowsAfterLook};
 
     /// Opens a link: it is bound to its address, or sends to it. Where an address can't be bound or is none of this
     /// machine's, it fails. In the Simple Profile control goes on the next port.
@@ -46,6 +47,7 @@ impl UdpLink {
         profile: Profile,
     ) -> Result<UdpLink, Failed>
         ensures peers { IfOk result (λ link. (c : ChannelValue) → knows_in_link link c ≡ stated_in role profile c) }
+        ensures before { IfOk result (λ link. (c : ChannelValue) → knew_in_link link c ≡ stated_in role profile c) }
         ensures fresh { IfOk result IsUnused }
     {
         let is_patient = role != Role::Forwards;
@@ -83,11 +85,24 @@ impl UdpLink {
         }
     }
 
+    /// Begins a read: the peers that are known now are those from before it.
+    fn begin(&mut self)
+        ensures before { (c : ChannelValue) → knew_in_link self.new c ≡ knows_in_link self.old c }
+        ensures peers { (c : ChannelValue) → knows_in_link self.new c ≡ knows_in_link self.old c }
+        ensures faults { self.new.faults ≡ self.old.faults }
+        ensures ends { self.new.ends ≡ self.old.ends }
+    {
+        begin(&mut self.media);
+        begin(&mut self.control);
+        begin(&mut self.tunnel);
+    }
+
     /// Looks at one channel's socket.
     fn look_at(&mut self, channel: Channel, buf: &mut [u8; 2048]) -> Option<Got>
         ensures within { IfSome result IsWithin }
         ensures going { IfSome result (λ got. has_come_to_end got ≡ false) }
         ensures peer { KnowsAfterLook (knows_in_link self.old) (knows_in_link self.new) result }
+        ensures before { (c : ChannelValue) → knew_in_link self.new c ≡ knew_in_link self.old c }
         ensures faults { self.new.faults ≡ self.old.faults }
         ensures ends { self.new.ends ≡ self.old.ends }
     {
@@ -103,6 +118,7 @@ impl UdpLink {
         ensures within { IfSome result IsWithin }
         ensures going { IfSome result (λ got. has_come_to_end got ≡ false) }
         ensures peer { KnowsAfterLook (knows_in_link self.old) (knows_in_link self.new) result }
+        ensures before { (c : ChannelValue) → knew_in_link self.new c ≡ knew_in_link self.old c }
         ensures faults { self.new.faults ≡ self.old.faults }
         ensures ends { self.new.ends ≡ self.old.ends }
     {
@@ -125,6 +141,7 @@ impl UdpLink {
         ensures within { IfSome result IsWithin }
         ensures going { IfSome result (λ got. has_come_to_end got ≡ false) }
         ensures peer { KnowsAfterLook (knows_in_link self.old) (knows_in_link self.new) result }
+        ensures before { (c : ChannelValue) → knew_in_link self.new c ≡ knew_in_link self.old c }
         ensures faults { self.new.faults ≡ self.old.faults }
         ensures ends { self.new.ends ≡ self.old.ends }
     {
@@ -162,11 +179,34 @@ fn end_of(port: &Option<Port>) -> pollfd {
     }
 }
 
+/// Begins a read on a socket, if there is one.
+fn begin(port: &mut Option<Port>)
+    ensures before { knew_at port.new ≡ knows_at port.old }
+    ensures peer { knows_at port.new ≡ knows_at port.old }
+{
+    match port {
+        Some(port) => port.begin(),
+        None => {}
+    }
+}
+
+/// Takes back what the last read made of a socket's peer, if there is one.
+fn refuse(port: &mut Option<Port>)
+    ensures peer { knows_at port.new ≡ knew_at port.old }
+    ensures before { knew_at port.new ≡ knew_at port.old }
+{
+    match port {
+        Some(port) => port.refuse(),
+        None => {}
+    }
+}
+
 /// Looks at a socket, if there is one. None where it has nothing.
 fn look(port: &mut Option<Port>, channel: Channel, buf: &mut [u8; 2048]) -> Option<Got>
     ensures within { IfSome result IsWithin }
     ensures going { IfSome result (λ got. has_come_to_end got ≡ false) }
     ensures peer { LooksOn channel port.old port.new result }
+    ensures before { knew_at port.new ≡ knew_at port.old }
 {
     match port {
         Some(port) => port.look(channel, buf),
@@ -186,7 +226,7 @@ fn send(port: &Option<Port>, octets: &[u8]) -> Result<bool, Failed>
 
 impl Link for UdpLink {
     ghost use Rattle.std.specs.Prelude.{None};
-    ghost use Rattle.outside_net.specs.Real.{knows_in_link};
+    ghost use Rattle.outside_net.specs.Real.{knows_in_link, knew_in_link};
 
     ghost reads = { λ _. None };
 
@@ -194,11 +234,14 @@ impl Link for UdpLink {
 
     ghost knows = { knows_in_link };
 
+    ghost knew = { knew_in_link };
+
     ghost faults = { λ link. link.faults };
 
     ghost ends = { λ link. link.ends };
 
     fn read(&mut self, buf: &mut [u8; 2048]) -> Got {
+        self.begin();
         match self.look_or_wait(buf) {
             None => Got::Quiet,
             Some(Got::Failed) => {
@@ -207,6 +250,12 @@ impl Link for UdpLink {
             }
             Some(got) => got,
         }
+    }
+
+    fn refuse(&mut self) {
+        refuse(&mut self.media);
+        refuse(&mut self.control);
+        refuse(&mut self.tunnel);
     }
 
     fn write(&mut self, channel: Channel, octets: &[u8]) -> Result<bool, Failed> {

@@ -61,18 +61,48 @@ fn a_trace_keeps_up_to_its_limit(rt: HostRuntime) -> Result<(), Fail> {
     Ok(())
 }
 
-/// A receiving link on a free port of this machine, and a link that sends to it.
-fn pair(rt: &HostRuntime, profile: Profile) -> Result<(UdpLink, UdpLink), Failed> {
+#[test]
+fn a_refused_datagram_leaves_the_peers(rt: HostRuntime) -> Result<(), Fail> {
+    let alloc = rt.alloc();
+    let mut script = Vec::new(alloc);
+    script.push(ScriptRead::Datagram(Channel::Media, Octets::of(alloc, b"A")?))?;
+    script.push(ScriptRead::Datagram(Channel::Control, Octets::of(alloc, b"B")?))?;
+    script.push(ScriptRead::Datagram(Channel::Media, Octets::of(alloc, b"C")?))?;
+    let mut link = ScriptLink::with(alloc, script, false, 1, &[], &[])?;
+    let mut block = [0; 2048];
+    for (refused, media, control) in [
+        (true, false, false),
+        (false, false, true),
+        (true, false, true),
+    ] {
+        link.read(&mut block);
+        if refused {
+            link.refuse();
+        }
+        assert_eq!(rt; link.write(Channel::Media, &[1; 2049]).is_err(), media);
+        assert_eq!(rt; link.write(Channel::Control, &[1; 2049]).is_err(), control);
+    }
+    Ok(())
+}
+
+/// A receiving link on a free port of this machine, and where it is.
+fn bound(rt: &HostRuntime, profile: Profile) -> Result<(UdpLink, LinkSpec), Failed> {
     for step in 0..100_u16 {
         let spec = LinkSpec {
             address: [127, 0, 0, 1],
             port: 24_000 + 2 * step,
         };
         if let Ok(receiving) = UdpLink::open(rt, &spec, Role::Receives, profile) {
-            return Ok((receiving, UdpLink::open(rt, &spec, Role::Sends, profile)?));
+            return Ok((receiving, spec));
         }
     }
     Err(Failed)
+}
+
+/// A receiving link on a free port of this machine, and a link that sends to it.
+fn pair(rt: &HostRuntime, profile: Profile) -> Result<(UdpLink, UdpLink), Failed> {
+    let (receiving, spec) = bound(rt, profile)?;
+    Ok((receiving, UdpLink::open(rt, &spec, Role::Sends, profile)?))
 }
 
 /// The next answer that isn't Quiet, of a hundred reads.
@@ -105,6 +135,30 @@ fn datagrams_go_both_ways_on_their_channels(rt: HostRuntime) -> Result<(), Faile
     let (mut receiving, mut sending) = pair(&rt, Profile::Main)?;
     assert!(rt; sending.write(Channel::Tunnel, b"GH") == Ok(true));
     assert!(rt; next(&mut receiving, &mut block) == Got::Datagram(Channel::Tunnel, 2));
+    Ok(())
+}
+
+#[test]
+fn a_stranger_that_is_refused_draws_no_answer(rt: HostRuntime) -> Result<(), Failed> {
+    let (mut receiving, spec) = bound(&rt, Profile::Main)?;
+    let mut sending = UdpLink::open(&rt, &spec, Role::Sends, Profile::Main)?;
+    let mut stranger = UdpLink::open(&rt, &spec, Role::Sends, Profile::Main)?;
+    let mut block = [0; 2048];
+    assert_eq!(rt; stranger.write(Channel::Tunnel, b"S"), Ok(true));
+    next(&mut receiving, &mut block);
+    receiving.refuse();
+    assert_eq!(rt; receiving.write(Channel::Tunnel, b"X"), Ok(false));
+    assert_eq!(rt; sending.write(Channel::Tunnel, b"A"), Ok(true));
+    next(&mut receiving, &mut block);
+    assert_eq!(rt; stranger.write(Channel::Tunnel, b"S"), Ok(true));
+    next(&mut receiving, &mut block);
+    receiving.refuse();
+    assert_eq!(rt; receiving.write(Channel::Tunnel, b"Y"), Ok(true));
+    assert_eq!(rt;
+        next(&mut sending, &mut block),
+        Got::Datagram(Channel::Tunnel, 1)
+    );
+    assert_eq!(rt; stranger.read(&mut block), Got::Quiet);
     Ok(())
 }
 

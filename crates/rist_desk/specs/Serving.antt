@@ -34,7 +34,7 @@ pub record ServesBy {L C U : Type 0} (desk : Option Given) (moments : C → Opti
   pub end : Ended
   pub ended : new.end ≡ Some end
   pub served : (f : Feed) → IsFeed f old.opener place limits (moments old.clock) (tells.reads old.link)
-      → IsServed desk f (tells.knows old.link) end (moments new.clock) (tells.reads new.link)
+      → IsServed desk f (tells.knows old.link) (tells.knows new.link) end (moments new.clock) (tells.reads new.link)
       (holds (list old.trace) (tells.taken old.link)) (holds (list new.trace) (tells.taken new.link))
   pub session : new.opener ≡ old.opener
   -- End and Failed come exactly where the link's count rose

@@ -39,7 +39,7 @@ fn all_turns<
     requires turns { (0 < limits.now.turns) × (limits.now.turns ≤ 2 ^ 40) }
     ensures served { (f : Feed) → IsFeed f worker.old.opener place limits.now (C.moments worker.old.clock)
         (L.reads worker.old.link)
-        → IsServed (Some N.given) f (L.knows worker.old.link) result (C.moments worker.new.clock)
+        → IsServed (Some N.given) f (L.knows worker.old.link) (L.knows worker.new.link) result (C.moments worker.new.clock)
         (L.reads worker.new.link)
         (holds (U.list worker.old.trace) (L.taken worker.old.link))
         (holds (U.list worker.new.trace) (L.taken worker.new.link)) }

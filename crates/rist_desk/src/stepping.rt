@@ -1,12 +1,14 @@
 //! A worker's steps on the desk, and what they make on its link.
 ghost use Rattle.std.specs.Prelude.{◌≡◌, ◌<◌, [], ◌∷◌, ◌++◌, IfErr, OnOk, OnErr, ℕ, List, Some, Err, option_map};
+ghost use Rattle.outside_io.specs.declared.channel.Channel.{Channel as ChannelValue};
 ghost use Rattle.outside_io.specs.Causes.{HasCause, RoseWhere};
 ghost use Rattle.rist_reporter.specs.OneMore.{outs_of};
 ghost use Rattle.rist_ends.specs.Told.{IsFit, IsNoEnd};
-ghost use Rattle.rist_desk.specs.Items.{told_plan, datagram_plan};
+ghost use Rattle.rist_wire.specs.Item.{item_of};
+ghost use Rattle.rist_desk.specs.Items.{told_plan, item_plan, datagram_plan};
 ghost use Rattle.rist_desk.specs.Turns.{is_tick_due, tick_steps, ticked_after};
-ghost use Rattle.rist_desk.specs.Sending.{Goes, CutShort, LacksRoom, holds, written, written_where};
-ghost use Rattle.rist_desk.specs.Inside.Links.{IsKept, IsInside, SentPart, has_link_failed};
+ghost use Rattle.rist_desk.specs.Sending.{Goes, CutShort, LacksRoom, IsKnownIn, holds, written, written_where};
+ghost use Rattle.rist_desk.specs.Inside.Links.{IsKept, IsKeptBy, IsInside, SentPart, has_link_failed, peers_by};
 
 use crate::desk::Desk;
 use crate::ended::Ended;
@@ -17,7 +19,7 @@ use outside_io::{Channel, Failed, Sink};
 use outside_net::{Link, Trace};
 use rist_ends::{Answer, Outs, Told, What};
 use rist_reporter::Out;
-use rist_wire::Opener;
+use rist_wire::{Item, Opener, WireBad};
 use rtp_packet::MAX_PAYLOAD;
 use std::sync::{Mutex, Wait};
 
@@ -89,7 +91,53 @@ fn make_step<N: Name, T: StepTrace + Drop, K: Sink + Drop, L: Link, U: StepTrace
     }
 }
 
-/// Makes the step of a datagram: of its item, or as one that was refused.
+/// Makes the step of an item, or of a datagram that was refused.
+fn step_item<N: Name, T: StepTrace + Drop, K: Sink + Drop, L: Link, U: StepTrace, R: Wait>(
+    rt: &R,
+    desk: &Mutex<Desk<N, T, K>>,
+    link: &mut L,
+    own: &mut U,
+    outs: &mut Outs,
+    place: u8,
+    us: u64,
+    item: &Result<Item<'_>, WireBad>,
+) -> Result<(), Ended>
+    requires place { place < 16 }
+    ensures ok { OnOk result (Goes (Some N.given) (L.knows link.old) (holds (U.list own.old) (L.taken link.old))
+        (holds (U.list own.new) (L.taken link.new)) (item_plan place us item.now ∷ [])) }
+    ensures err { IfErr result (λ end. CutShort (Some N.given) (L.knows link.old) end
+        (holds (U.list own.old) (L.taken link.old))
+        (holds (U.list own.new) (L.taken link.new)) (item_plan place us item.now ∷ [])) }
+    ensures inside { IfErr result IsInside }
+    ensures full { result ≡ Err Ended.TraceFull → LacksRoom N.given (U.limit own.new) (U.list own.new) }
+    ensures same { IsKept L.reads L.ends L.knows link.old link.new }
+    ensures cause { RoseWhere (has_link_failed result) (L.faults link.old) (L.faults link.new) }
+{
+    let mut block = [0; MAX_PAYLOAD];
+    let told = Told {
+        link: place,
+        us,
+        what: what_of(item, &mut block),
+    };
+    make_step(rt, desk, link, own, outs, &told)
+}
+
+/// Leaves whoever sent a datagram as its channel's peer, unless it was refused.
+fn settle<L: Link>(link: &mut L, item: &Result<Item<'_>, WireBad>)
+    ensures peers { (c : ChannelValue) → L.knows link.new c ≡ peers_by item.now (L.knew link.old) (L.knows link.old) c }
+    ensures reads { L.reads link.new ≡ L.reads link.old }
+    ensures taken { L.taken link.new ≡ L.taken link.old }
+    ensures ends { L.ends link.new ≡ L.ends link.old }
+    ensures faults { L.faults link.new ≡ L.faults link.old }
+{
+    match item {
+        Ok(_) => {}
+        Err(_) => link.refuse(),
+    }
+}
+
+/// Makes the step of the datagram that the link's last read gave: of its item, or as one that was refused. Whoever sent
+/// one that was refused gets none of what is made.
 pub fn step_datagram<N: Name, T: StepTrace + Drop, K: Sink + Drop, L: Link, U: StepTrace, R: Wait>(
     rt: &R,
     desk: &Mutex<Desk<N, T, K>>,
@@ -103,25 +151,21 @@ pub fn step_datagram<N: Name, T: StepTrace + Drop, K: Sink + Drop, L: Link, U: S
     octets: &mut [u8],
 ) -> Result<(), Ended>
     requires place { place < 16 }
-    ensures ok { OnOk result (Goes (Some N.given) (L.knows link.old) (holds (U.list own.old) (L.taken link.old))
+    requires grown { IsKnownIn (L.knew link.old) (L.knows link.old) }
+    ensures ok { OnOk result (Goes (Some N.given) (L.knew link.old) (holds (U.list own.old) (L.taken link.old))
         (holds (U.list own.new) (L.taken link.new)) (datagram_plan opener.old place us channel octets.old ∷ [])) }
-    ensures err { IfErr result (λ end. CutShort (Some N.given) (L.knows link.old) end
+    ensures err { IfErr result (λ end. CutShort (Some N.given) (L.knew link.old) end
         (holds (U.list own.old) (L.taken link.old))
         (holds (U.list own.new) (L.taken link.new)) (datagram_plan opener.old place us channel octets.old ∷ [])) }
     ensures inside { IfErr result IsInside }
     ensures full { result ≡ Err Ended.TraceFull → LacksRoom N.given (U.limit own.new) (U.list own.new) }
-    ensures same { IsKept L.reads L.ends L.knows link.old link.new }
+    ensures same { IsKeptBy L.reads L.ends L.knew L.knows (item_of opener.old channel octets.old) link.old link.new }
     ensures cause { RoseWhere (has_link_failed result) (L.faults link.old) (L.faults link.new) }
     ensures opener { opener.new ≡ opener.old }
 {
-    let mut block = [0; MAX_PAYLOAD];
     let item = opener.take(channel, octets);
-    let told = Told {
-        link: place,
-        us,
-        what: what_of(&item, &mut block),
-    };
-    make_step(rt, desk, link, own, outs, &told)
+    settle(link, &item);
+    step_item(rt, desk, link, own, outs, place, us, &item)
 }
 
 /// Makes a tick where one is due.

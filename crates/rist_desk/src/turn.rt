@@ -5,8 +5,9 @@ ghost use Rattle.outside_io.specs.Causes.{RoseWhere};
 ghost use Rattle.outside_net.specs.Links.{Gave, Quiet, answer_of};
 ghost use Rattle.rist_desk.specs.Turns.{Feed, is_tick_due, tick_steps, turn_steps, ticked_after, quiet_since, is_idle};
 ghost use Rattle.rist_desk.specs.Turns.{end_by, IsServed};
-ghost use Rattle.rist_desk.specs.Sending.{Holds, holds, Goes, TurnEnds, LacksRoom};
-ghost use Rattle.rist_desk.specs.Inside.Links.{IsKept};
+ghost use Rattle.rist_wire.specs.Item.{item_of};
+ghost use Rattle.rist_desk.specs.Sending.{Holds, holds, Goes, TurnEnds, LacksRoom, IsKnownIn};
+ghost use Rattle.rist_desk.specs.Inside.Links.{IsKept, IsKeptBy};
 ghost use Rattle.rist_desk.specs.Inside.Going.{IsTask, IsGoing, is_link_end, is_link_failure};
 
 use crate::desk::Desk;
@@ -37,16 +38,17 @@ fn datagram_turn<N: Name, T: StepTrace + Drop, K: Sink + Drop, L: Link, U: StepT
     last: bool,
 ) -> Option<Ended>
     requires place { place < 16 }
-    ensures gains { IfNone result (Goes (Some N.given) (L.knows link.old) (holds (U.list own.old) (L.taken link.old))
+    requires grown { IsKnownIn (L.knew link.old) (L.knows link.old) }
+    ensures gains { IfNone result (Goes (Some N.given) (L.knew link.old) (holds (U.list own.old) (L.taken link.old))
         (holds (U.list own.new) (L.taken link.new))
         (turn_steps opener.old place ticked.old us (Gave (record { channel = channel; octets = octets.old })))) }
     ensures going { IfNone result (last ≡ false) }
     ensures ticked { IfNone result (ticked.new ≡ ticked_after ticked.old us) }
-    ensures ended { (idle : Bool) → IfSome result (λ end. TurnEnds (Some N.given) (L.knows link.old) end
+    ensures ended { (idle : Bool) → IfSome result (λ end. TurnEnds (Some N.given) (L.knew link.old) end
         (end_by (Gave (record { channel = channel; octets = octets.old })) last idle)
         (holds (U.list own.old) (L.taken link.old)) (holds (U.list own.new) (L.taken link.new))
         (turn_steps opener.old place ticked.old us (Gave (record { channel = channel; octets = octets.old })))) }
-    ensures same { IsKept L.reads L.ends L.knows link.old link.new }
+    ensures same { IsKeptBy L.reads L.ends L.knew L.knows (item_of opener.old channel octets.old) link.old link.new }
     ensures opener { opener.new ≡ opener.old }
     ensures inside { is_link_end result ≡ false }
     ensures full { result ≡ Some Ended.TraceFull → LacksRoom N.given (U.limit own.new) (U.list own.new) }
@@ -147,7 +149,7 @@ pub fn turn<N: Name, T: StepTrace + Drop, K: Sink + Drop, L: Link, C: Clock, U: 
         → IsGoing (Some N.given) f n knows (L.knows worker.old.link) (C.moments worker.old.clock)
         (L.reads worker.old.link)
         first (holds (U.list worker.old.trace) (L.taken worker.old.link)) ticked.old since.old
-        → IsServed (Some N.given) f knows end (C.moments worker.new.clock) (L.reads worker.new.link)
+        → IsServed (Some N.given) f knows (L.knows worker.new.link) end (C.moments worker.new.clock) (L.reads worker.new.link)
         first (holds (U.list worker.new.trace) (L.taken worker.new.link))) }
     ensures more { IfNone result (last ≡ false) }
     ensures full { result ≡ Some Ended.TraceFull

@@ -108,6 +108,8 @@ impl Link for Wire {
 
     ghost knows = { λ wire channel. true };
 
+    ghost knew = { λ wire channel. true };
+
     ghost faults = { λ wire. wire.faults };
 
     ghost ends = { λ wire. 0 };
@@ -115,6 +117,8 @@ impl Link for Wire {
     fn read(&mut self, _buf: &mut [u8; 2048]) -> Got {
         Got::Quiet
     }
+
+    fn refuse(&mut self) {}
 
     fn write(&mut self, channel: Channel, octets: &[u8]) -> Result<bool, Failed> {
         match self.put(channel, octets) {

@@ -50,6 +50,8 @@ impl Link for GateLink {
 
     ghost knows = { λ link. knows_in link.inner.known };
 
+    ghost knew = { λ link. knows_in link.inner.before };
+
     ghost faults = { λ link. link.inner.faults };
 
     ghost ends = { λ link. link.inner.ends };
@@ -61,6 +63,10 @@ impl Link for GateLink {
             self.is_shut = !is_entered(&self.other);
         }
         self.inner.read(buf)
+    }
+
+    fn refuse(&mut self) {
+        self.inner.refuse();
     }
 
     fn write(&mut self, channel: Channel, octets: &[u8]) -> Result<bool, Failed> {
