@@ -4,6 +4,7 @@ use Rattle.outside_io.specs.Causes.{Rose, HasWriteCause}
 use Rattle.outside_io.specs.Told.{Appends, AppendsPart, IsEmpty}
 use Rattle.outside_host.specs.Shelf.{Shelf, Stays, ChangesSinks}
 use Rattle.outside_host.specs.declared.host.Place.TheVariants.{Here, Back}
+use Rattle.made_script.specs.declared.draws.Script.{Script}
 use Rattle.rist_world.specs.declared.running.Report.{Report}
 use Rattle.rist_world.specs.Made.{IsMadeRun}
 use Rattle.rist_world.specs.Summary.{summary_of}
@@ -13,10 +14,14 @@ use Rattle.rist_top.specs.Objects.{Tells}
 use Rattle.rist_top.specs.declared.status.Status.{Status}
 use Rattle.rist_top.specs.declared.status.Status.TheVariants as statuses
 
--- octets are the summary of what came of the made script over so many links
-pub record IsSummary (links : ℕ) (octets : List ℕ) : Type 0 where
+-- the script that a command names
+abbrev pub script_of : DrillCommand → Script
+script_of c = record { number = c.number; count = c.count; links = c.links; loss = c.loss }
+
+-- octets are the summary of what came of a made script
+pub record IsSummary (script : Script) (octets : List ℕ) : Type 0 where
   pub report : Report
-  pub run : IsMadeRun links report
+  pub run : IsMadeRun script report
   pub text : octets ≡ summary_of report
 
 -- a simulated run is done, or memory was refused, or the standard output could not be opened or written to
@@ -33,7 +38,7 @@ pub record Drills {I O E L C : Type 0} (tells : Tells I O E) (old new : Shelf I 
   pub gave : new.sinks (codes "-") ≡ Back filled
   pub fresh : IsEmpty (tells.contents sink)
   pub octets : List ℕ
-  pub summary : IsSummary c.links octets
+  pub summary : IsSummary (script_of c) octets
   pub whole : status ≡ statuses.Done → Appends (tells.contents sink) (tells.contents filled) octets
   pub part : status ≡ statuses.WriteFault → AppendsPart (tells.contents sink) (tells.contents filled) octets
   pub write : HasWriteCause (fault_of status) (tells.write_faults sink) (tells.write_faults filled)

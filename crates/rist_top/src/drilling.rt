@@ -6,7 +6,7 @@ ghost use Rattle.outside_host.specs.Shelf.{ChangesSinks, Stays};
 ghost use Rattle.rist_words.specs.Shown.{shown_drill};
 ghost use Rattle.rist_words.specs.Ranges.{IsInDrill};
 ghost use Rattle.rist_top.specs.Causes.{CanRefuse, fault_of};
-ghost use Rattle.rist_top.specs.DoesDrill.{Drills, IsDrillEnd, IsSummary};
+ghost use Rattle.rist_top.specs.DoesDrill.{Drills, IsDrillEnd, IsSummary, script_of};
 
 use crate::status::Status;
 use crate::telling::Telling;
@@ -23,7 +23,7 @@ fn summarize(
     out: &mut [u8; SUMMARY_LEN],
 ) -> Result<usize, NoMemory>
     requires range { IsInDrill (shown_drill line.now) }
-    ensures summary { IfOk result (λ length. IsSummary line.now.links (take length out.new)) }
+    ensures summary { IfOk result (λ length. IsSummary (script_of (shown_drill line.now)) (take length out.new)) }
     ensures within { IfOk result (λ length. length ≤ SUMMARY_LEN) }
 {
     let report = drill_made(alloc, line.number, line.count, line.links, line.loss)?;

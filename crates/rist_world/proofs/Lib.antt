@@ -3,3 +3,4 @@ pub mod ReceiverLemmas
 pub mod RunLemmas
 pub mod TextLemmas
 pub mod MadeLemmas
+pub mod ScriptLemmas

@@ -1,5 +1,5 @@
 -- What came of a script.
-use Rattle.std.specs.Prelude.{◌≡◌, ℕ, List, reverse, drop, Option}
+use Rattle.std.specs.Prelude.{◌≡◌, ◌<◌, ◌^◌, ℕ, List, length, reverse, drop, Option}
 use Rattle.psk_seal.specs.Sealer.{SealerState}
 use Rattle.receiver_rules.specs.History.{released_payloads, released_bytes}
 use Rattle.request_rules.specs.Steps.{buffer_history}
@@ -10,11 +10,13 @@ use Rattle.world_rules.specs.Flows.{flows_of}
 use Rattle.world_rules.specs.Short.{IsShort}
 use Rattle.world_rules.specs.World.{Setup, Course, IsSetup, IsSealerOf, links_of, beginning, MakesAll}
 
--- Moves, the oldest first, were made from the beginning on, and the digest is that of all that the receiver released.
--- Where they are a short script, that is what was reached, epoch after epoch, by rising number, and nothing else.
-pub record Drilled (setup : Setup) (near far : Option SealerState) (moves : List Move) (hash : List ℕ) : Type 0 where
+-- Moves, the oldest first, were made from the beginning on: where they are fewer than 2^27, all those of a script. The digest
+-- is that of all that the receiver released. Where they are a short script, that is what was reached, epoch after epoch, by
+-- rising number, and nothing else.
+pub record Drilled (setup : Setup) (near far : Option SealerState) (script : Setup → Course → List Move → Course → Type 0) (moves : List Move) (hash : List ℕ) : Type 0 where
   pub course : Course
   pub makes : MakesAll setup (reverse moves) (beginning near far (links_of setup)) course
+  pub follows : length moves < 2 ^ 27 → script setup (beginning near far (links_of setup)) (reverse moves) course
   pub digest : hash ≡ sha256 (released_bytes setup.control.limits (buffer_history course.steps))
   pub exact : IsSetup setup → IsSealerOf setup.session near → IsShort setup.session.width (reverse moves)
       → PlaysReached setup.control.limits setup.session.width (flows_of setup.flow setup.first course.work.history)

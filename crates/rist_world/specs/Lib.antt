@@ -1,4 +1,6 @@
 pub mod World
+pub mod Mover
 pub mod Drill
+pub mod Script
 pub mod Made
 pub mod Summary

@@ -1,204 +1,163 @@
 //! The made script: a stream of packets over links that lose, delay and exchange datagrams by the words of a seeded
 //! generator (this profile).
-ghost use Rattle.std.specs.Prelude.{◌≤◌};
+ghost use Rattle.std.specs.Prelude.{◌≡◌, ◌≤◌, ◌<◌, ◌+◌, ◌++◌, ◌∷◌, [], IfOk, map};
+ghost use Rattle.std.specs.List.{range_with_len};
+ghost use Rattle.rist_world.specs.Script.{is_same_way, is_due, carry_by, carries_on, carries, sends, ticks, slot_moves};
+ghost use Rattle.rist_world.specs.Script.{moves_at, micros_of, held_on};
 
 use crate::mover::Mover;
 use crate::world::World;
-use outside_io::{Entropy, Failed, NoMemory};
+use made_script::{Draws, Due, Held, Script, Way, payload_of};
+use outside_io::NoMemory;
 use outside_net::Octets;
-use rand_chacha::ChaCha8Rng;
-use rand_core::SeedableRng;
-use rand_core::utils::NextWord;
 use std::alloc::Global;
+use std::collections::VecDeque;
+use std::marker::Model;
 use world_rules::Move;
-
-/// How long the script goes on after the last payload, in slots.
-const SLOTS_AFTER: u32 = 1100;
 
 /// A slot's length in microseconds.
 const SLOT_LEN: u64 = 1000;
 
-/// A datagram is due one to five slots after the slot in which it was put.
-const MOST_DELAY: u32 = 5;
-
-/// The generator of a number: its key is the number's eight octets, the highest first, and then 24 octets of this
-/// value.
-pub(crate) fn generator(number: u64, filling: u8) -> ChaCha8Rng {
-    let mut key = [filling; 32];
-    key[..8].copy_from_slice(&number.to_be_bytes());
-    ChaCha8Rng::from_seed(key)
-}
-
-/// The words of a generator as a source of random words.
-#[derive(Drop)]
-pub(crate) struct Drawn {
-    pub(crate) generator: ChaCha8Rng,
-}
-
-impl Entropy for Drawn {
-    ghost use Rattle.std.specs.Prelude.{None};
-
-    ghost remaining = { λ drawn. None };
-
-    ghost faults = { λ drawn. 0 };
-
-    fn word(&mut self) -> Result<u32, Failed> {
-        Ok(self.generator.next_word())
-    }
-}
-
-/// A datagram by its link and its place there.
-#[derive(Clone, Copy, PartialEq, Eq, PartialOrd, Ord)]
-struct Place {
-    link: u8,
-    place: u64,
-}
-
-/// What was put one way: how many datagrams of each link have their word, and which are due in each of the next slots.
-#[derive(Drop)]
-struct Way {
-    drawn: [u64; 4],
-    due: Vec<Vec<Place>>,
-}
-
-impl Way {
-    fn with(alloc: Global) -> Result<Way, NoMemory> {
-        let mut due = Vec::with_capacity(alloc, 6)?;
-        for _ in 0..6 {
-            if due.push(Vec::new(alloc)).is_err() {
-                return Err(NoMemory);
-            }
-        }
-        Ok(Way { drawn: [0; 4], due })
-    }
-}
-
-/// What the script does next.
-#[derive(Clone, Copy)]
-enum Stage {
-    /// A slot begins.
-    Begin,
-    /// The sender's clock ticks.
-    Ticks,
-    /// Datagrams that are due come to the receiver: the next is this one of them.
-    Carries(usize),
-    /// The receiver's clock ticks for this link.
-    Links(u8),
-    /// Datagrams that are due come to the sender: the next is this one of them.
-    CarriesBack(usize),
-    /// The script is over.
-    Over,
-}
-
 /// The script of a number: so many payloads over so many links, of which so many datagrams in a thousand are lost.
 #[derive(Drop)]
 pub struct Made {
-    words: ChaCha8Rng,
-    count: u32,
-    links: u8,
-    loss: u32,
+    draws: Draws,
+    queue: VecDeque<Move>,
+}
+
+impl Model for Made {
+    ghost use Rattle.rist_world.specs.Script.{MadeState};
+
+    ghost Value = { MadeState };
+
+    ghost view = { λ m. record { draws = m.draws; queue = m.queue.items } };
+}
+
+// How many microseconds after the first slot one begins.
+fn micros_of(slot: u32) -> u64
+    ensures value { result ≡ micros_of slot }
+{
+    SLOT_LEN * u64::from(slot)
+}
+
+// Puts a move behind the others.
+fn push(moves: &mut VecDeque<Move>, next: Move) -> Result<(), NoMemory>
+    ensures items { IfOk result (λ done. moves.new.items ≡ moves.old.items ++ next ∷ []) }
+{
+    match moves.push_back(next) {
+        Ok(()) => Ok(()),
+        Err(_) => Err(NoMemory),
+    }
+}
+
+// Puts the moves that carry what is due in a slot on a link.
+fn push_link(
+    moves: &mut VecDeque<Move>,
+    dues: &[Due],
+    way: Way,
+    link: u8,
     slot: u32,
-    stage: Stage,
-    forward: Way,
-    backward: Way,
-    now: Vec<Place>,
-}
-
-/// A turn of the script.
-enum Turn {
-    /// A move.
-    Makes(Move),
-    /// None yet: it goes on with its next stage.
-    GoesOn,
-    /// The script is over.
-    IsOver,
-}
-
-/// The octets of a transport packet.
-const PACKET_LEN: usize = 188;
-
-/// The octets of a payload: seven transport packets.
-const PAYLOAD_LEN: usize = 7 * PACKET_LEN;
-
-// The octet at a place of a transport packet: each fifth packet is null, and the others differ from one another.
-fn octet_of(payload: u32, packet: usize, place: usize) -> u8 {
-    let is_null = (u64::from(payload) + packet as u64 % 8) % 5 == 0;
-    match (place, is_null) {
-        (0, _) => 0x47,
-        (1, true) => 0x1F,
-        (1, false) => 0x01,
-        (2, true) => 0xFF,
-        (2, false) => 0x00,
-        (3, _) => 0x10,
-        (_, true) => 0xFF,
-        (_, false) => ((u64::from(payload) + packet as u64 % 8 + place as u64 % 256) % 256) as u8,
-    }
-}
-
-// The payload of a number.
-fn payload_of(alloc: Global, payload: u32) -> Result<Octets, NoMemory> {
-    let mut octets = [0; PAYLOAD_LEN];
-    for place in 0..PAYLOAD_LEN {
-        octets[place] = octet_of(payload, place / PACKET_LEN, place % PACKET_LEN);
-    }
-    Octets::of(alloc, &octets)
-}
-
-impl Way {
-    // The datagrams that are due in a slot, by link and then by place.
-    fn take_due(&mut self, alloc: Global, slot: u32) -> Result<Vec<Place>, NoMemory> {
-        let Some(due) = self.due.get_mut((slot % 6) as usize) else {
-            return Ok(Vec::new(alloc));
-        };
-        let mut now = std::mem::replace(due, Vec::new(alloc));
-        now.sort()?;
-        Ok(now)
-    }
-
-    // A datagram of this place has this word: it is lost, or due in one of the next slots.
-    fn draw(
-        &mut self,
-        link: u8,
-        place: u64,
-        word: u32,
-        loss: u32,
-        slot: u32,
-    ) -> Result<(), NoMemory> {
-        if word % 1000 < loss {
-            return Ok(());
-        }
-        let at = (u64::from(slot) + 1 + u64::from(word / 65_536 % MOST_DELAY)) % 6;
-        let Some(due) = self.due.get_mut(at as usize) else {
-            return Ok(());
-        };
-        match due.push(Place { link, place }) {
-            Ok(()) => Ok(()),
-            Err(_) => Err(NoMemory),
+) -> Result<(), NoMemory>
+    ensures items { IfOk result (λ done. moves.new.items ≡ moves.old.items ++ carries_on way link slot dues.now) }
+{
+    let us = micros_of(slot);
+    for due in dues.iter() {
+        if due.way == way && due.link == link && due.slot == slot {
+            let next = match way {
+                Way::Forward => Move::Carry(link, due.place, us),
+                Way::Backward => Move::CarryBack(link, due.place, us),
+            };
+            push(moves, next)?;
         }
     }
+    Ok(())
+}
 
-    // Draws a word for each datagram of a link that has none yet.
-    fn draw_link(
-        &mut self,
-        words: &mut ChaCha8Rng,
-        link: u8,
-        held: u64,
-        loss: u32,
-        slot: u32,
-    ) -> Result<(), NoMemory> {
-        let Some(drawn) = self.drawn.get_mut(usize::from(link)) else {
-            return Ok(());
-        };
-        let first = *drawn;
-        *drawn = held;
-        for place in first..held {
-            self.draw(link, place, words.next_word(), loss, slot)?;
-        }
-        Ok(())
+// Puts those of all links.
+fn push_way(moves: &mut VecDeque<Move>, draws: &Draws, way: Way) -> Result<(), NoMemory>
+    ensures items { IfOk result (λ done. moves.new.items
+        ≡ moves.old.items ++ carries way draws.now.script.links draws.now.slot draws.now.dues) }
+{
+    for link in 0..draws.script().links {
+        push_link(moves, draws.dues(), way, link, draws.slot())?;
+    }
+    Ok(())
+}
+
+// Puts a tick of the receiver's clock for each link.
+fn push_ticks(moves: &mut VecDeque<Move>, links: u8, slot: u32) -> Result<(), NoMemory>
+    ensures items { IfOk result (λ done. moves.new.items ≡ moves.old.items ++ ticks links slot) }
+{
+    for link in 0..links {
+        push(moves, Move::Tick(link, micros_of(slot)))?;
+    }
+    Ok(())
+}
+
+// Puts the move that sends a slot's payload, where one is left.
+fn push_send(
+    alloc: Global,
+    moves: &mut VecDeque<Move>,
+    script: &Script,
+    slot: u32,
+) -> Result<(), NoMemory>
+    ensures items { IfOk result (λ done. moves.new.items ≡ moves.old.items ++ sends script.now slot) }
+{
+    if slot >= script.count {
+        return Ok(());
+    }
+    let payload = Octets::of(alloc, &payload_of(slot))?;
+    push(moves, Move::Send(micros_of(slot), payload))
+}
+
+// The moves of the slot that is on; behind the last one stands the end.
+fn moves_at(alloc: Global, draws: &Draws) -> Result<VecDeque<Move>, NoMemory>
+    ensures items { IfOk result (λ moves. moves.items ≡ moves_at draws.now.script draws.now.slot draws.now.dues) }
+{
+    let mut moves = VecDeque::new(alloc);
+    let script = draws.script();
+    let slot = draws.slot();
+    if slot >= draws.slots() {
+        push(&mut moves, Move::End(micros_of(slot)))?;
+        return Ok(moves);
+    }
+    push_send(alloc, &mut moves, script, slot)?;
+    push(&mut moves, Move::SenderTick(micros_of(slot)))?;
+    push_way(&mut moves, draws, Way::Forward)?;
+    push_ticks(&mut moves, script.links, slot)?;
+    push_way(&mut moves, draws, Way::Backward)?;
+    Ok(moves)
+}
+
+// How many datagrams the first four links hold.
+fn held_in(world: &World) -> Held
+    ensures forward { result.forward ≡ map (held_on world.now.forward) (range_with_len 0 4) }
+    ensures backward { result.backward ≡ map (held_on world.now.backward) (range_with_len 0 4) }
+{
+    Held {
+        forward: [
+            world.forward(0),
+            world.forward(1),
+            world.forward(2),
+            world.forward(3),
+        ],
+        backward: [
+            world.backward(0),
+            world.backward(1),
+            world.backward(2),
+            world.backward(3),
+        ],
     }
 }
 
 impl Made {
+    ghost use Rattle.std.specs.Prelude.{◌≡◌, ◌≤◌, ◌<◌, ◌+◌, [], IfOk};
+    ghost use Rattle.rist_world.specs.World.{IsWorldAfter};
+    ghost use Rattle.made_script.specs.declared.draws.Script.{Script as ScriptValue};
+    ghost use Rattle.made_script.specs.Draws.{IsDrawn, draw};
+    ghost use Rattle.rist_world.specs.Mover.{HasGivenNone};
+    ghost use Rattle.rist_world.specs.Script.{moves_at, slot_count, HasGiven};
+
     /// The script of a number.
     pub fn with(
         alloc: Global,
@@ -208,119 +167,61 @@ impl Made {
         loss: u16,
     ) -> Result<Made, NoMemory>
         requires { (links ≤ 4) × (count ≤ 5000) }
+        ensures script { IfOk result (λ made. made.draws.script
+            ≡ record { number = number; count = count; links = links; loss = loss }) }
+        ensures none { IfOk result (λ made. HasGivenNone (⟦<Made as Mover>⟧.given made)) }
     {
-        Ok(Made {
-            words: generator(number, 0),
+        let script = Script {
+            number,
             count,
             links,
-            loss: u32::from(loss),
-            slot: 0,
-            stage: Stage::Begin,
-            forward: Way::with(alloc)?,
-            backward: Way::with(alloc)?,
-            now: Vec::new(alloc),
-        })
+            loss,
+        };
+        let draws = Draws::with(alloc, script);
+        let queue = moves_at(alloc, &draws)?;
+        Ok(Made { draws, queue })
     }
 
-    // Words for all that was put in this slot: forward ones first, by link, then by place.
-    fn draw(&mut self, world: &World) -> Result<(), NoMemory> {
-        for link in 0..self.links {
-            self.forward.draw_link(
-                &mut self.words,
-                link,
-                world.forward(link),
-                self.loss,
-                self.slot,
-            )?;
-        }
-        for link in 0..self.links {
-            self.backward.draw_link(
-                &mut self.words,
-                link,
-                world.backward(link),
-                self.loss,
-                self.slot,
-            )?;
-        }
+    // The next slot begins, after one behind which the links hold so many datagrams.
+    fn turn(&mut self, alloc: Global, held: &Held) -> Result<(), NoMemory>
+        requires slot { self.old.draws.slot < slot_count self.old.draws.script }
+        ensures script { IfOk result (λ done. self.new.draws.script ≡ self.old.draws.script) }
+        ensures slot { IfOk result (λ done. self.new.draws.slot ≡ self.old.draws.slot + 1) }
+        ensures drawn { IfOk result (λ done. (drawn : _) → IsDrawn self.old.draws drawn
+            → IsDrawn self.new.draws (draw self.old.draws.script self.old.draws.slot held.now drawn)) }
+        ensures queue { IfOk result (λ done. self.new.queue
+            ≡ moves_at self.new.draws.script self.new.draws.slot self.new.draws.dues) }
+    {
+        self.draws.draw(held)?;
+        self.queue = moves_at(alloc, &self.draws)?;
         Ok(())
     }
 
-    // The slot is over: the next one begins, or the script ends.
-    fn end_slot(&mut self, world: &World) -> Result<Turn, NoMemory> {
-        self.draw(world)?;
-        self.slot = self.slot.saturating_add(1);
-        if self.slot < self.count.saturating_add(SLOTS_AFTER) {
-            self.stage = Stage::Begin;
-            return Ok(Turn::GoesOn);
+    // The next slot begins where all moves of the one that is on were given, unless that is the last.
+    fn prepare(&mut self, alloc: Global, world: &World) -> Result<(), NoMemory>
+        ensures given { IfOk result (λ done. (setup from moves to : _) → HasGiven self.old setup from moves to
+            → IsWorldAfter setup world.now to → HasGiven self.new setup from moves to) }
+        ensures script { IfOk result (λ done. self.new.draws.script ≡ self.old.draws.script) }
+        ensures some { IfOk result (λ done. self.new.queue ≡ []
+            → slot_count self.new.draws.script ≤ self.new.draws.slot) }
+    {
+        if !self.queue.is_empty() || self.draws.slot() >= self.draws.slots() {
+            return Ok(());
         }
-        self.stage = Stage::Over;
-        Ok(Turn::Makes(Move::End(SLOT_LEN * u64::from(self.slot))))
-    }
-
-    // A payload is sent, where one is left.
-    fn begin(&mut self, alloc: Global, us: u64) -> Result<Turn, NoMemory> {
-        self.stage = Stage::Ticks;
-        if self.slot >= self.count {
-            return Ok(Turn::GoesOn);
-        }
-        Ok(Turn::Makes(Move::Send(us, payload_of(alloc, self.slot)?)))
-    }
-
-    // The next of the datagrams that are due to the receiver.
-    fn carry(&mut self, next: usize, us: u64) -> Turn {
-        let Some(due) = self.now.get(next) else {
-            self.stage = Stage::Links(0);
-            return Turn::GoesOn;
-        };
-        self.stage = Stage::Carries(next.saturating_add(1));
-        Turn::Makes(Move::Carry(due.link, due.place, us))
-    }
-
-    // The next of those that are due to the sender; behind the last the slot is over.
-    fn carry_back(&mut self, world: &World, next: usize, us: u64) -> Result<Turn, NoMemory> {
-        let Some(due) = self.now.get(next) else {
-            return self.end_slot(world);
-        };
-        self.stage = Stage::CarriesBack(next.saturating_add(1));
-        Ok(Turn::Makes(Move::CarryBack(due.link, due.place, us)))
-    }
-
-    // What the script does at its stage.
-    fn turn(&mut self, alloc: Global, world: &World) -> Result<Turn, NoMemory> {
-        let us = SLOT_LEN * u64::from(self.slot);
-        match self.stage {
-            Stage::Begin => self.begin(alloc, us),
-            Stage::Ticks => {
-                self.now = self.forward.take_due(alloc, self.slot)?;
-                self.stage = Stage::Carries(0);
-                Ok(Turn::Makes(Move::SenderTick(us)))
-            }
-            Stage::Carries(next) => Ok(self.carry(next, us)),
-            Stage::Links(link) => {
-                if link < self.links {
-                    self.stage = Stage::Links(link + 1);
-                    return Ok(Turn::Makes(Move::Tick(link, us)));
-                }
-                self.now = self.backward.take_due(alloc, self.slot)?;
-                self.stage = Stage::CarriesBack(0);
-                Ok(Turn::GoesOn)
-            }
-            Stage::CarriesBack(next) => self.carry_back(world, next, us),
-            Stage::Over => Ok(Turn::IsOver),
-        }
+        self.turn(alloc, &held_in(world))?;
+        Ok(())
     }
 }
 
 impl Mover for Made {
+    ghost use Rattle.rist_world.specs.Script.{IsMadeScript, HasGiven};
+
+    ghost script = { λ made. IsMadeScript made.draws.script };
+
+    ghost given = { λ made. HasGiven made };
+
     fn next(&mut self, alloc: Global, world: &World) -> Result<Option<Move>, NoMemory> {
-        // At most four stages follow one another without a move.
-        for _ in 0..8 {
-            match self.turn(alloc, world)? {
-                Turn::Makes(next) => return Ok(Some(next)),
-                Turn::GoesOn => {}
-                Turn::IsOver => return Ok(None),
-            }
-        }
-        Ok(None)
+        self.prepare(alloc, world)?;
+        Ok(self.queue.pop_front())
     }
 }

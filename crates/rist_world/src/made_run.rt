@@ -1,11 +1,12 @@
 //! The run of a made script.
-ghost use Rattle.std.specs.Prelude.{◌≡◌, ◌≤◌, IfOk, IfSome, IsSome};
-ghost use Rattle.psk_seal.specs.Nonces.{AreNonces};
-ghost use Rattle.rist_world.specs.Made.{IsMadeRun, made_session, made_sender, made_receiver};
+ghost use Rattle.std.specs.Prelude.{◌≡◌, ◌≤◌, ◌+◌, IfOk};
+ghost use Rattle.made_script.specs.Words.{words_left};
+ghost use Rattle.rist_world.specs.Made.{GivesSealer, IsMadeRun, made_session, made_sender, made_receiver};
 
-use crate::made::{Drawn, Made, generator};
+use crate::made::Made;
 use crate::running::{Report, drill};
 use bond_links::Bond;
+use made_script::Drawn;
 use outside_io::{NoMemory, Profile};
 use psk_keys::Phrase;
 use psk_seal::Sealer;
@@ -63,12 +64,15 @@ fn made_receiver() -> ReceiverSettings
     }
 }
 
-// The next sealer whose nonces come from these words, which never end.
-fn drawn_sealer(drawn: &mut Drawn) -> Option<Sealer>
-    ensures some { IsSome result }
-    ensures nonces { IfSome result (λ sealer. AreNonces sealer.nonces) }
+// The next sealer whose nonces come from these words, of which sixteen are left.
+fn drawn_sealer(words: &mut Drawn) -> Option<Sealer>
+    requires left { 16 ≤ words.old.left }
+    requires faults { words.old.faults ≡ 0 }
+    ensures sealer { GivesSealer (words_left words.old) (words_left words.new) result }
+    ensures left { words.new.left + 16 ≡ words.old.left }
+    ensures faults { words.new.faults ≡ 0 }
 {
-    match Sealer::with(drawn) {
+    match Sealer::with(words) {
         Ok(sealer) => Some(sealer),
         Err(_) => unreachable!(),
     }
@@ -85,13 +89,12 @@ pub fn drill_made(
 ) -> Result<Report, NoMemory>
     requires links { (1 ≤ links) × (links ≤ 4) }
     requires count { count ≤ 5000 }
-    ensures run { IfOk result (λ report. IsMadeRun links report) }
+    ensures run { IfOk result (λ report. IsMadeRun
+        (record { number = number; count = count; links = links; loss = loss }) report) }
 {
-    let mut drawn = Drawn {
-        generator: generator(number, 1),
-    };
-    let near = drawn_sealer(&mut drawn);
-    let far = drawn_sealer(&mut drawn);
+    let mut words = Drawn::with(number, 1, 32);
+    let near = drawn_sealer(&mut words);
+    let far = drawn_sealer(&mut words);
     let mut mover = Made::with(alloc, number, count, links, loss)?;
     let session = made_session();
     drill(

@@ -1,12 +1,12 @@
 //! A run of a script.
-ghost use Rattle.std.specs.Prelude.{◌≡◌, ◌≤◌, ◌%◌, reverse, is_some, IfOk};
+ghost use Rattle.std.specs.Prelude.{◌≡◌, ◌≤◌, ◌%◌, is_some, IfOk};
 ghost use Rattle.sender_rules.specs.declared.bounds.TheConstants.{MAX_STORED};
 ghost use Rattle.sender_rules.specs.Bonding.{link_count};
 ghost use Rattle.rist_wire.specs.Session.{IsSession};
 ghost use Rattle.rist_ends.specs.Settings.{IsInRange};
 ghost use Rattle.sha2.specs.Sha256.{sha256};
-ghost use Rattle.world_rules.specs.World.{MakesAll};
 ghost use Rattle.rist_world.specs.World.{GoesOn, setup_of};
+ghost use Rattle.rist_world.specs.Mover.{HasGivenNone, MakesScript};
 ghost use Rattle.rist_world.specs.Drill.{Drilled};
 
 use crate::mover::Mover;
@@ -46,11 +46,12 @@ pub struct Report {
 
 // Makes the moves of a script.
 fn run<M: Mover>(alloc: Global, world: &mut World, mover: &mut M) -> Result<Vec<Move>, NoMemory>
+    requires none { HasGivenNone (M.given mover.old) }
     ensures made { IfOk result (λ moves. GoesOn world.old world.new
-        (λ setup from to. MakesAll setup (reverse moves.items) from to)) }
+        (λ setup from to. MakesScript (M.script mover.old) setup from moves.items to)) }
 {
     let mut moves = Vec::new(alloc);
-    for _ in 0..MOST_MOVES {
+    for made in 0..MOST_MOVES {
         let Some(next) = mover.next(alloc, world)? else {
             return Ok(moves);
         };
@@ -71,8 +72,8 @@ fn digest_of(octets: &[u8]) -> [u8; 32]
     hasher.finalize()
 }
 
-/// Both ends in a session, and the moves that a mover gives, to its end or the first 2^27: what came of them. A
-/// sealer for each end is handed in exactly where the session has a passphrase.
+/// Both ends in a session, and the moves that a mover gives, to its end or the first 2^27: what came of them. The mover
+/// has given none before. A sealer for each end is handed in exactly where the session has a passphrase.
 pub fn drill<M: Mover>(
     alloc: Global,
     session: &Session,
@@ -91,8 +92,9 @@ pub fn drill<M: Mover>(
     requires settings { IsInRange far.now }
     requires near { is_some near_sealer ≡ is_some session.now.pass }
     requires far { is_some far_sealer ≡ is_some session.now.pass }
+    requires none { HasGivenNone (M.given mover.old) }
     ensures run { IfOk result (λ report. Drilled (setup_of session.now near far.now) near_sealer far_sealer
-        report.moves.items report.digest) }
+        (M.script mover.old) report.moves.items report.digest) }
 {
     let mut world = World::with(alloc, session, near, far, near_sealer, far_sealer, links)?;
     let moves = run(alloc, &mut world, mover)?;

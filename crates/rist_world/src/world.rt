@@ -148,12 +148,18 @@ impl World {
     }
 
     /// How many datagrams the sender put on a link: 0 where that isn't there.
-    pub fn forward(&self, link: u8) -> u64 {
+    pub fn forward(&self, link: u8) -> u64
+        ensures value { result
+            ≡ (if nat_lt link (length self.now.forward) then length (get_or self.now.forward link none).put else 0) }
+    {
         held_on(&self.forward, link)
     }
 
     /// How many datagrams the receiver put on a link: 0 where that isn't there.
-    pub fn backward(&self, link: u8) -> u64 {
+    pub fn backward(&self, link: u8) -> u64
+        ensures value { result
+            ≡ (if nat_lt link (length self.now.backward) then length (get_or self.now.backward link none).put else 0) }
+    {
         held_on(&self.backward, link)
     }
 
@@ -325,7 +331,9 @@ fn note_again(
 }
 
 // How many datagrams were put on a link.
-fn held_on(wires: &[Wire], link: u8) -> u64 {
+fn held_on(wires: &[Wire], link: u8) -> u64
+    ensures value { result ≡ (if nat_lt link (length wires.now) then length (get_or wires.now link none).put else 0) }
+{
     match wires.get(usize::from(link)) {
         Some(wire) => wire.len() as u64,
         None => 0,

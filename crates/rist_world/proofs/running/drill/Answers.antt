@@ -5,5 +5,5 @@ use Rattle.rist_world.proofs.running.drill.Goals as goal
 
 pub returns : goal.returns
 returns g c = record {
-  run = drilled _ c.args.near_sealer c.args.far_sealer c.args.links c.in_ok-world.world _ c.in_ok-moves.moves.items c.digest_of.result (sym c.requires.links.2) c.in_ok-world.ensures.state c.in_ok-moves.ensures.made (c.digest_of.ensures.value ∙ ap sha256 c.written.ensures.value);
+  run = drilled _ c.args.near_sealer c.args.far_sealer _ c.args.links c.in_ok-world.world _ c.in_ok-moves.moves.items c.digest_of.result (sym c.requires.links.2) c.in_ok-world.ensures.state c.in_ok-moves.ensures.made (c.digest_of.ensures.value ∙ ap sha256 c.written.ensures.value);
 }

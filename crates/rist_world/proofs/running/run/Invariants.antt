@@ -1,7 +1,5 @@
-use Rattle.std.proofs.Common.{reverse}
-use Rattle.world_rules.specs.World.{MakesAll}
-use Rattle.rist_world.specs.World.{GoesOn}
+use Rattle.rist_world.proofs.RunLemmas.{Running}
 use Rattle.rist_world.proofs.running.run.Given as goal
 
-abbrev pub invariant-loop : goal.invariant-loop
-invariant-loop g l = GoesOn l.fn.world l.world (λ setup from to. MakesAll setup (reverse l.moves.items) from to)
+abbrev pub invariant-loop-made : goal.invariant-loop-made
+invariant-loop-made g l = Running l.fn.world l.world (g.M.Mover.script l.fn.mover) (g.M.Mover.given l.fn.mover) (g.M.Mover.script l.mover) (g.M.Mover.given l.mover) l.moves.items l.made
