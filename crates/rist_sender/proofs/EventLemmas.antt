@@ -1,9 +1,8 @@
 -- What a sender keeps after one more event.
 use Rattle.std.proofs.Common.{◌≡◌, ◌≢◌, ◌∙◌, ℕ, ◌+◌, ◌%◌, ◌^◌, ◌<◌, Bool, true, false, List, ◌∷◌, length, set, get_or, Option, None, Some, refl, sym, ap, subst, arith}
-use Rattle.std.specs.Prelude.{◌==◌, ◌||◌, ◌&&◌, max, if◌then◌else◌}
+use Rattle.std.specs.Prelude.{◌==◌, ◌||◌, ◌&&◌, if◌then◌else◌}
 use Rattle.std.proofs.lemmas.List.{get_or-set_other, get_or-set_same, length-set}
 use Rattle.std.proofs.lemmas.Bool.{eq-eqb, eqb-true}
-use Rattle.receiver_rules.specs.Steps.{tick_of}
 use Rattle.sender_rules.specs.Sendings.{Packet, First, Again}
 use Rattle.retransmit_store.specs.State.{StoreState, IsStoreAfter}
 use Rattle.rist_rtt.specs.Echo.{EchoOf}
@@ -14,7 +13,7 @@ use Rattle.rist_sender.specs.declared.answer.Answer.TheVariants.{Took, NoPeer, F
 use Rattle.rist_sender.specs.Links.{is_failed}
 use Rattle.rist_sender.specs.Messages.{Original, Retransmission, Report, RttAnswer, Alive, Status}
 use Rattle.rist_sender.specs.History.{Wrote, sendings_of, is_down, is_report, is_alive, last_time}
-use Rattle.rist_sender.specs.Calls.{Work, called_at, without_pair, written_as, after_write, after_sent, with_event}
+use Rattle.rist_sender.specs.Calls.{Work, without_pair, written_as, after_write, after_sent, with_event}
 use Rattle.rist_sender.specs.Sender.{SenderState, IsSenderAfter}
 use Rattle.rist_sender.specs.Inside.Kept.{down_with}
 
@@ -69,19 +68,6 @@ pub time_left : (link t : ℕ) (times : List (Option ℕ)) (h : ℕ → Option �
 time_left link t times h had l lt = had l lt ∙ sym (ap (λ (b : Bool). if b then Some t else h l) (and_false (link == l)))
 
 -- ---- calls
-
-pub called_after : (s : SenderState) (from : Work) (us : ℕ) → IsSenderAfter s from → IsSenderAfter (record s { time = max s.time (tick_of us) }) (called_at us from)
-called_after s from us is = record {
-  sealer = is.sealer;
-  links = is.links;
-  store = is.store;
-  time = omega (arith, is.time);
-  count = is.count;
-  octets = is.octets;
-  down = is.down;
-  reports = is.reports;
-  keepalives = is.keepalives;
-}
 
 pub short_after : (s : SenderState) (from : Work) → IsSenderAfter s from → IsSenderAfter s (without_pair from)
 short_after s from is = record {
