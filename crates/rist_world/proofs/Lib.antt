@@ -1,6 +1,9 @@
+pub mod TallyLemmas
 pub mod SenderLemmas
 pub mod ReceiverLemmas
 pub mod RunLemmas
 pub mod TextLemmas
 pub mod MadeLemmas
 pub mod ScriptLemmas
+pub mod ReleasedLemmas
+pub mod CountedLemmas

@@ -16,7 +16,7 @@ use Rattle.rist_world.specs.declared.running.Report.{Report}
 use Rattle.rist_world.specs.World.{setup_of}
 use Rattle.rist_world.specs.Script.{IsMadeScript}
 use Rattle.rist_world.specs.Drill.{Drilled}
-use Rattle.rist_world.specs.Made.{GivesSealer, IsSealerFrom, IsMadeRun, nonce_words, made_session, made_sender, made_receiver}
+use Rattle.rist_world.specs.Made.{GivesSealer, IsSealerFrom, IsMadeRun, counts_in, nonce_words, made_session, made_sender, made_receiver}
 
 -- the words that an option holds
 abbrev told : Option (List ℕ) → List ℕ
@@ -63,7 +63,7 @@ behind first second sealer gives = ap (drop 16) gives.taken ∙ ap (λ n. drop n
 
 pub made_run : {E : Type 0} → (script mover : Script) (session : Session) (sender : SenderSettings) (receiver : ReceiverSettings) (first second third : List ℕ) (near far : Option SealerState) (result : Result Report E) → mover ≡ script → session ≡ made_session
     → sender ≡ made_sender script.links → receiver ≡ made_receiver → first ≡ nonce_words script.number → GivesSealer first second near → GivesSealer second third far
-    → IfOk result (λ report. Drilled (setup_of session sender receiver) near far (IsMadeScript mover) report.moves.items report.digest) → IfOk result (λ report. IsMadeRun script report)
+    → IfOk result (λ report. Drilled (setup_of session sender receiver) near far (IsMadeScript mover) report.moves.items (counts_in report) report.digest) → IfOk result (λ report. IsMadeRun script report)
 made_run script mover session sender receiver first second third near far (Err e) m s n r words by_near by_far run = tt
 made_run script mover session sender receiver first second third near far (Ok report) m s n r words by_near by_far run = record {
   near = near;
@@ -71,8 +71,8 @@ made_run script mover session sender receiver first second third near far (Ok re
   sender = subst (λ ws. IsSealerFrom (take 16 ws) near) words (front first second near by_near);
   receiver = subst (λ ws. IsSealerFrom (take 16 (drop 16 ws)) far) words (subst (λ ws. IsSealerFrom (take 16 ws) far) (sym (behind first second near by_near)) (front second third far by_far));
   sealed = sealed near by_near.words by_near.made by_near.sound;
-  run = subst (λ x. Drilled (setup_of made_session (made_sender script.links) made_receiver) near far (IsMadeScript x) report.moves.items report.digest) m
-      (subst (λ x. Drilled (setup_of x (made_sender script.links) made_receiver) near far (IsMadeScript mover) report.moves.items report.digest) s
-      (subst (λ x. Drilled (setup_of session x made_receiver) near far (IsMadeScript mover) report.moves.items report.digest) n
-      (subst (λ x. Drilled (setup_of session sender x) near far (IsMadeScript mover) report.moves.items report.digest) r run)));
+  run = subst (λ x. Drilled (setup_of made_session (made_sender script.links) made_receiver) near far (IsMadeScript x) report.moves.items (counts_in report) report.digest) m
+      (subst (λ x. Drilled (setup_of x (made_sender script.links) made_receiver) near far (IsMadeScript mover) report.moves.items (counts_in report) report.digest) s
+      (subst (λ x. Drilled (setup_of session x made_receiver) near far (IsMadeScript mover) report.moves.items (counts_in report) report.digest) n
+      (subst (λ x. Drilled (setup_of session sender x) near far (IsMadeScript mover) report.moves.items (counts_in report) report.digest) r run)));
 }

@@ -1,6 +1,8 @@
 -- A world after a move of its receiver.
-use Rattle.std.proofs.Common.{◌≡◌, ◌≢◌, ◌∙◌, ℕ, zero, suc, ◌*◌, ◌<◌, Bool, true, false, List, [], ◌∷◌, ◌++◌, length, map, replicate, set, get_or, Option, None, Some, Result, Ok, Err, IfOk, refl, sym, ap, subst, arith, slice_get, append-nil}
-use Rattle.std.specs.Prelude.{nat_lt, if◌then◌else◌, is_err}
+use Rattle.std.proofs.Common.{◌≡◌, ◌≢◌, ◌∙◌, ℕ, zero, suc, ◌+◌, ◌*◌, ◌<◌, Bool, true, false, List, [], ◌∷◌, ◌++◌, length, map, replicate, set, get_or, Option, None, Some, Result, Ok, Err, IfOk, refl, sym, ap, subst, arith, slice_get, append-nil}
+use Rattle.std.specs.Prelude.{nat_lt, if◌then◌else◌, is_err, is_some, cond, ◌&&◌, ◌||◌, ◌==◌}
+use Rattle.std.specs.List.{count_by, sum_by}
+use Rattle.std.proofs.lemmas.List.Sums.{sum_by-cons}
 use Rattle.std.proofs.lemmas.Bool.{true≢false, le-ltb, ltb-true}
 use Rattle.std.proofs.lemmas.List.{set-get_or, map-set, get_or-map, length-replicate, get_or-replicate}
 use Rattle.outside_io.specs.Told.{Writes}
@@ -14,6 +16,10 @@ use Rattle.request_rules.specs.Steps.{Step, Input, Media, Control, Keepalive, Re
 use Rattle.receiver_rules.specs.ReceiverSteps.{buffer_event}
 use Rattle.rist_wire.specs.Writing.{ShutterState, pairs_left}
 use Rattle.rist_wire.specs.declared.session.Session.{Session}
+use Rattle.rist_wire.specs.declared.bad.WireBad.{WireBad}
+use Rattle.rist_wire.specs.declared.item.Item.{Item}
+use Rattle.rist_wire.specs.Item.{item_of}
+use Rattle.rist_ends.specs.Items.{input_read}
 use Rattle.rist_control.specs.Control.{ControlSettings, Datagram as ControlDatagram, input_datagrams}
 use Rattle.rist_reporter.specs.declared.out.Outs.{Outs}
 use Rattle.rist_reporter.specs.OneMore.{AnswersAfter, step_answered, is_short, answer_count, after_pairs, outs_of}
@@ -24,17 +30,23 @@ use Rattle.rist_ends.specs.declared.outcome.Outcome.{Outcome}
 use Rattle.rist_ends.specs.declared.outcome.Outcome.TheVariants as outcomes
 use Rattle.rist_ends.specs.Outcome.{IfStepped, is_stepped, result_of}
 use Rattle.rist_ends.specs.Receiver.{ReceiverState, IsReceiverAfter, Steps, settings_of}
-use Rattle.rist_ends.specs.Told.{step_of, phase_after}
+use Rattle.rist_ends.specs.Told.{step_of, input_of, phase_after}
 use Rattle.sender_rules.specs.Bonding.{link_count}
 use Rattle.psk_seal.specs.Sealer.{SealerState}
 use Rattle.rist_ends.specs.declared.settings.Settings.{Settings as ReceiverSettings}
 use Rattle.rist_ends.specs.Settings.{control_settings}
 use Rattle.rist_sender.specs.declared.settings.Settings.{Settings as SenderSettings}
 use Rattle.rist_sender.specs.Sender.{SenderState, IsSenderAfter, has_keepalives}
-use Rattle.rist_sender.specs.Calls.{IfElse}
-use Rattle.world_rules.specs.World.{Setup, Course, beginning, links_of, forward_on, forward_at, datagram_made, datagrams_made, Receives, ReceivesIf, step_carried, CarriesIf}
+use Rattle.rist_sender.specs.Calls.{Work, IfElse}
+use Rattle.world_rules.specs.World.{Setup, Course, Carried, beginning, links_of, forward_on, forward_at, datagram_made, datagrams_made, Receives, ReceivesIf, step_carried, with_carried, CarriesIf}
+use Rattle.world_rules.specs.Counts.{sent_count, number_count, asked_count, carried_count, was_carried, media_of, media_read}
+use Rattle.world_rules.proofs.CountLemmas.{words_in, asked_then}
+use Rattle.rist_ends.specs.Counts.{capped}
+use Rattle.request_rules.specs.declared.word.AskWord.{AskWord}
+use Rattle.rist_world.specs.Tally.{TallyState, IsTallyOf, raised_if, came_at}
 use Rattle.rist_world.specs.World.{WireState, WrittenState, WorldState, IsWorldAfter, GoesTo, GoesOn, phase_of, datagrams_on, none, setup_of}
 use Rattle.rist_world.proofs.SenderLemmas.{some_same}
+use Rattle.rist_world.proofs.TallyLemmas.{one_if}
 
 -- ---- what is put back
 
@@ -128,11 +140,25 @@ limits_then r setup from step was now is w =
 
 -- ---- a step
 
-pub step_goes : (setup : Setup) (old : WorldState) (r : ReceiverState) (w : WrittenState) (b : List WireState) (from : Course) (told : Told) (outcome : Outcome) → is_stepped outcome ≡ true → IsWorldAfter setup old from
+-- the numbers of a step's words were counted
+tally_asked : (setup : Setup) (old new : TallyState) (from to : Course) (more : ℕ) → new ≡ record old { asked = capped (old.asked + more) } → to.work ≡ from.work → to.carried ≡ from.carried
+    → asked_count setup.control to.steps ≡ asked_count setup.control from.steps + more → IsTallyOf setup old from → IsTallyOf setup new to
+tally_asked setup old new from to more is work carried count t = subst (λ (x : TallyState). IsTallyOf setup x to) (sym is)
+    (record {
+      kind = t.kind;
+      sent = t.sent ∙ ap (λ (x : Work). capped (sent_count x.history)) (sym work);
+      carried = t.carried ∙ ap (λ cs. capped (carried_count setup cs)) (sym carried);
+      asked = omega (arith, count, t.asked);
+      links = t.links;
+      came = λ link place among. t.came link place among ∙ ap (λ cs. was_carried cs link place) (sym carried);
+    })
+
+pub step_goes : (setup : Setup) (old : WorldState) (r : ReceiverState) (w : WrittenState) (b : List WireState) (t : TallyState) (from : Course) (told : Told) (outcome : Outcome) → is_stepped outcome ≡ true
+    → t ≡ record old.tally { asked = capped (old.tally.asked + number_count old.tally.kind (words_in (result_of outcome))) } → IsWorldAfter setup old from
     → Steps old.receiver r told outcome (Some old.written.octets) (Some w.octets)
     → datagrams_on b ≡ set (datagrams_on old.backward) told.link (get_or (datagrams_on old.backward) told.link [] ++ datagrams_made (result_of outcome))
-    → GoesTo setup (record { sender = old.sender; near = old.near; receiver = r; far = old.far; written = w; forward = old.forward; backward = b; flows = old.flows }) (ReceivesIf setup (step_of told) from)
-step_goes setup old r w b from told outcome stepped is s back =
+    → GoesTo setup (record { sender = old.sender; near = old.near; receiver = r; far = old.far; written = w; forward = old.forward; backward = b; flows = old.flows; tally = t }) (ReceivesIf setup (step_of told) from)
+step_goes setup old r w b t from told outcome stepped counted is s back =
     let running : has_ended (buffer_history from.steps) ≡ false
     = open_then (has_ended (buffer_history from.steps)) old.receiver.buffer.phase is.phase (λ closed. not_stopped outcome stepped (s.ended closed)) in
     let answers : AnswersAfter setup.control (record { session = setup.session; sealer = from.sealer }) from.steps (step_of told) (result_of outcome)
@@ -144,6 +170,7 @@ step_goes setup old r w b from told outcome stepped is s back =
       steps = step_answered (step_of told) (result_of outcome) ∷ from.steps;
       sealer = after_pairs (answer_count (result_of outcome)) from.sealer;
       backward = set from.backward told.link (get_or from.backward told.link [] ++ datagrams_made (result_of outcome));
+      carried = from.carried;
     } in
     record {
       to = to;
@@ -164,27 +191,38 @@ step_goes setup old r w b from told outcome stepped is s back =
             ∙ ap (released_bytes setup.control.limits) (sym same);
         backward = back ∙ ap (λ ds. set ds told.link (get_or ds told.link [] ++ datagrams_made (result_of outcome))) is.backward;
         flows = is.flows;
+        tally = tally_asked setup old.tally t from to (number_count setup.control.policy.kind (words_in (result_of outcome)))
+            (counted ∙ ap (λ kind. record old.tally { asked = capped (old.tally.asked + number_count kind (words_in (result_of outcome))) }) is.tally.kind) refl refl
+            (asked_then setup.control (record { session = setup.session; sealer = from.sealer }) from.steps (step_of told) (result_of outcome) answers) is.tally;
       };
     }
 
+-- nothing more was counted
+none_more : (asked x more : ℕ) → asked ≡ capped x → more ≡ 0 → asked ≡ capped (asked + more)
+none_more asked x more is none = omega (arith, is, none)
+
+none_asked : (setup : Setup) (t : TallyState) (from : Course) (words : List AskWord) → words ≡ [] → IsTallyOf setup t from → t ≡ record t { asked = capped (t.asked + number_count t.kind words) }
+none_asked setup t from words none is =
+    ap (λ asked. record t { asked = asked }) (none_more t.asked (asked_count setup.control from.steps) (number_count t.kind words) is.asked (ap (number_count t.kind) none))
+
 -- a step that makes nothing
-pub quiet_goes : (setup : Setup) (old : WorldState) (r : ReceiverState) (w : WrittenState) (from : Course) (told : Told) (outcome : Outcome) → is_stepped outcome ≡ true → datagrams_made (result_of outcome) ≡ []
+pub quiet_goes : (setup : Setup) (old : WorldState) (r : ReceiverState) (w : WrittenState) (from : Course) (told : Told) (outcome : Outcome) → is_stepped outcome ≡ true → datagrams_made (result_of outcome) ≡ [] → words_in (result_of outcome) ≡ []
     → IsWorldAfter setup old from → Steps old.receiver r told outcome (Some old.written.octets) (Some w.octets)
-    → GoesTo setup (record { sender = old.sender; near = old.near; receiver = r; far = old.far; written = w; forward = old.forward; backward = old.backward; flows = old.flows }) (ReceivesIf setup (step_of told) from)
-quiet_goes setup old r w from told outcome stepped nothing is s =
-    step_goes setup old r w old.backward from told outcome stepped is s
+    → GoesTo setup (record { sender = old.sender; near = old.near; receiver = r; far = old.far; written = w; forward = old.forward; backward = old.backward; flows = old.flows; tally = old.tally }) (ReceivesIf setup (step_of told) from)
+quiet_goes setup old r w from told outcome stepped nothing silent is s =
+    step_goes setup old r w old.backward old.tally from told outcome stepped (none_asked setup old.tally from (words_in (result_of outcome)) silent is.tally) is s
     (sym (ap (λ ds. set (datagrams_on old.backward) told.link (get_or (datagrams_on old.backward) told.link [] ++ ds)) nothing
     ∙ ap (set (datagrams_on old.backward) told.link) (append-nil (get_or (datagrams_on old.backward) told.link []))
     ∙ set-get_or (datagrams_on old.backward) told.link []))
 
 -- a step that makes datagrams, whose links were lent as a slice, and came back
-pub made_goes : {A E : Type 0} → (old : WorldState) (r : ReceiverState) (w : WrittenState) (lent b back : List WireState) (told : Told) (outs : Outs) (result : Result A E) {whole : WorldState} → lent ≡ old.backward → back ≡ b
+pub made_goes : {A E : Type 0} → (old : WorldState) (r : ReceiverState) (w : WrittenState) (lent b back : List WireState) (t : TallyState) (told : Told) (outs : Outs) (words : List AskWord) (result : Result A E) {whole : WorldState} → t ≡ record old.tally { asked = capped (old.tally.asked + number_count old.tally.kind words) } → words ≡ outs.asked → lent ≡ old.backward → back ≡ b
     → Steps old.receiver r told (outcomes.Made outs) (Some old.written.octets) (Some w.octets)
     → IfOk result (λ done. datagrams_on b ≡ set (datagrams_on lent) told.link (get_or (datagrams_on lent) told.link [] ++ map datagram_made (outs_of outs))) → old ≡ whole
-    → IfOk result (λ done. GoesOn whole (record { sender = old.sender; near = old.near; receiver = r; far = old.far; written = w; forward = old.forward; backward = back; flows = old.flows }) (λ setup from. ReceivesIf setup (step_of told) from))
-made_goes old r w lent b back told outs (Err e) was now s is whole = tt
-made_goes old r w lent b back told outs (Ok x) was now s is whole = λ setup from stands.
-    step_goes setup old r w back from told (outcomes.Made outs) refl (subst (λ w. IsWorldAfter setup w from) (sym whole) stands) s
+    → IfOk result (λ done. GoesOn whole (record { sender = old.sender; near = old.near; receiver = r; far = old.far; written = w; forward = old.forward; backward = back; flows = old.flows; tally = t }) (λ setup from. ReceivesIf setup (step_of told) from))
+made_goes old r w lent b back t told outs words (Err e) counted asked was now s is whole = tt
+made_goes old r w lent b back t told outs words (Ok x) counted asked was now s is whole = λ setup from stands.
+    step_goes setup old r w back t from told (outcomes.Made outs) refl (counted ∙ ap (λ ws. record old.tally { asked = capped (old.tally.asked + number_count old.tally.kind ws) }) asked) (subst (λ w. IsWorldAfter setup w from) (sym whole) stands) s
     (ap datagrams_on now ∙ is ∙ ap (λ ws. set (datagrams_on ws) told.link (get_or (datagrams_on ws) told.link [] ++ map datagram_made (outs_of outs))) was)
 
 -- nothing is done after an end
@@ -205,16 +243,76 @@ carried_is setup old from link place d is e =
     by false among = refl
 
 pub absent_goes : (setup : Setup) (old : WorldState) (from : Course) (link place us : ℕ) → IsWorldAfter setup old from → forward_at setup from link place ≡ None
-    → GoesTo setup old (λ to. CarriesIf setup link us (forward_at setup from link place) from to)
-absent_goes setup old from link place us is e = record { to = from; fact = subst (λ d. CarriesIf setup link us d from from) (sym e) refl; stands = is }
+    → GoesTo setup old (λ to. CarriesIf setup link place us (forward_at setup from link place) from to)
+absent_goes setup old from link place us is e = record { to = from; fact = subst (λ d. CarriesIf setup link place us d from from) (sym e) refl; stands = is }
+
+-- one where a datagram is media
+abbrev one_of : Session → Carried → ℕ
+one_of session c = cond (is_some (media_of session c.datagram)) 1 0
+
+-- one more datagram was counted
+counted_more : (session : Session) (link place : ℕ) (d : Datagram) (cs : List Carried) (count : ℕ) (media : Bool) → media ≡ is_some (media_of session d) → count ≡ capped (count_by (λ (c : Carried). is_some (media_of session c.datagram)) cs)
+    → raised_if media count ≡ capped (count_by (λ (c : Carried). is_some (media_of session c.datagram)) (record { link = link; place = place; datagram = d } ∷ cs))
+counted_more session link place d cs count true e is =
+    omega (arith, is, sum_by-cons (one_of session) (record { link = link; place = place; datagram = d }) cs, one_if (is_some (media_of session d)) true (sym e))
+counted_more session link place d cs count false e is =
+    omega (arith, is, sum_by-cons (one_of session) (record { link = link; place = place; datagram = d }) cs, one_if (is_some (media_of session d)) false (sym e))
+
+-- the world before the step, where the datagram was counted
+pub carried_then : (setup : Setup) (old : WorldState) (t : TallyState) (from : Course) (link place : ℕ) (d : Datagram) (media : Bool) → media ≡ is_some (media_of setup.session d)
+    → t ≡ record old.tally { carried = raised_if media old.tally.carried; came = t.came }
+    → ((k at : ℕ) → k < length old.tally.came → came_at t.came k at ≡ ((link == k && place == at) || came_at old.tally.came k at)) → length t.came ≡ length old.tally.came
+    → IsWorldAfter setup old from
+    → IsWorldAfter setup (record { sender = old.sender; near = old.near; receiver = old.receiver; far = old.far; written = old.written; forward = old.forward; backward = old.backward; flows = old.flows; tally = t }) (with_carried link place d from)
+carried_then setup old t from link place d media says counts came size is = record {
+  sender = is.sender;
+  rules = is.rules;
+  sending = is.sending;
+  near = is.near;
+  far = is.far;
+  links = is.links;
+  forward = is.forward;
+  receiver = is.receiver;
+  control = is.control;
+  shutter = is.shutter;
+  phase = is.phase;
+  written = is.written;
+  backward = is.backward;
+  flows = is.flows;
+  tally = record {
+    kind = ap (λ (x : TallyState). x.kind) counts ∙ is.tally.kind;
+    sent = ap (λ (x : TallyState). x.sent) counts ∙ is.tally.sent;
+    carried = ap (λ (x : TallyState). x.carried) counts ∙ counted_more setup.session link place d from.carried old.tally.carried media says is.tally.carried;
+    asked = ap (λ (x : TallyState). x.asked) counts ∙ is.tally.asked;
+    links = size ∙ is.tally.links;
+    came = λ k at among. came k at (omega (arith, among, is.tally.links)) ∙ ap (λ b. (link == k && place == at) || b) (is.tally.came k at among);
+  };
+}
 
 pub carry_goes : (setup : Setup) (new : WorldState) (from : Course) (link place us : ℕ) (d : Datagram) (step : Step) → forward_at setup from link place ≡ Some d → step ≡ step_carried setup link us d
-    → GoesTo setup new (ReceivesIf setup step from) → GoesTo setup new (λ to. CarriesIf setup link us (forward_at setup from link place) from to)
+    → GoesTo setup new (ReceivesIf setup step (with_carried link place d from)) → GoesTo setup new (λ to. CarriesIf setup link place us (forward_at setup from link place) from to)
 carry_goes setup new from link place us d step at is g = record {
   to = g.to;
-  fact = subst (λ x. CarriesIf setup link us x from g.to) (sym at) (subst (λ s. ReceivesIf setup s from g.to) is g.fact);
+  fact = subst (λ x. CarriesIf setup link place us x from g.to) (sym at) (subst (λ s. ReceivesIf setup s (with_carried link place d from) g.to) is g.fact);
   stands = g.stands;
 }
+
+-- a datagram that is there comes, is counted, and makes a step
+pub carry_all : {A E : Type 0} → (old new : WorldState) {whole : WorldState} (far : Session) (t : TallyState) (link place us : ℕ) (d : Datagram) (item : Result Item WireBad) (what : What) (media : Bool) (result : Result A E) → old ≡ whole
+    → far ≡ old.far → Some d ≡ (if nat_lt link (length old.forward) then slice_get (get_or old.forward link none).put place else None) → item ≡ item_of old.far d.channel d.octets → media ≡ is_some (media_read item)
+    → ((u : ℕ) → input_of u what ≡ input_read u item) → t ≡ record old.tally { carried = raised_if media old.tally.carried; came = t.came }
+    → ((k at : ℕ) → k < length old.tally.came → came_at t.came k at ≡ ((link == k && place == at) || came_at old.tally.came k at)) → length t.came ≡ length old.tally.came
+    → IfOk result (λ done. GoesOn (record { sender = old.sender; near = old.near; receiver = old.receiver; far = far; written = old.written; forward = old.forward; backward = old.backward; flows = old.flows; tally = t }) new
+    (λ setup from. ReceivesIf setup (step_of (record { link = link; us = us; what = what })) from))
+    → IfOk result (λ done. GoesOn whole new (λ setup from to. CarriesIf setup link place us (forward_at setup from link place) from to))
+carry_all old new far t link place us d item what media (Err e) same far_is there read says input counts came size goes = tt
+carry_all old new far t link place us d item what media (Ok x) same far_is there read says input counts came size goes = λ setup from stands.
+    let is = subst (λ w. IsWorldAfter setup w from) (sym same) stands in
+    let opened : item ≡ item_of setup.session d.channel d.octets = read ∙ ap (λ session. item_of session d.channel d.octets) is.far in
+    let counted = carried_then setup old t from link place d media (says ∙ ap (λ i. is_some (media_read i)) opened) counts came size is in
+    let before = subst (λ f. IsWorldAfter setup (record { sender = old.sender; near = old.near; receiver = old.receiver; far = f; written = old.written; forward = old.forward; backward = old.backward; flows = old.flows; tally = t }) (with_carried link place d from)) (sym far_is) counted in
+    carry_goes setup new from link place us d (step_of (record { link = link; us = us; what = what })) (carried_is setup old from link place (Some d) is there)
+    (ap (λ i. record { link = link; tick = tick_of us; input = i }) (input us ∙ ap (input_read us) opened)) (goes setup (with_carried link place d from) before)
 
 -- ---- before any move
 
@@ -222,14 +320,14 @@ no_datagrams_on : (n : ℕ) → datagrams_on (replicate n none) ≡ replicate n 
 no_datagrams_on zero = refl
 no_datagrams_on (suc n) = ap (λ ds. [] ∷ ds) (no_datagrams_on n)
 
-pub begins : (session : Session) (near : SenderSettings) (far : ReceiverSettings) (near_sealer far_sealer : Option SealerState) (links : ℕ) (s : SenderState) (n f : Session) (r : ReceiverState) (w : WrittenState) (forward backward : List WireState) (flows : List ℕ)
+pub begins : (session : Session) (near : SenderSettings) (far : ReceiverSettings) (near_sealer far_sealer : Option SealerState) (links : ℕ) (s : SenderState) (n f : Session) (r : ReceiverState) (w : WrittenState) (forward backward : List WireState) (flows : List ℕ) (t : TallyState)
     → link_count near.bond ≡ links
     → s.flow ≡ near.flow → s.first ≡ near.first → s.hold ≡ 90 * near.hold → s.store.size ≡ near.store → s.bonding ≡ near.bond → s.session ≡ session
     → IsSenderAfter s (record { history = []; sealer = near_sealer; is_short = false }) → n ≡ session → f ≡ session → settings_of r ≡ control_settings far session
     → r.reporter.shutter ≡ record { session = session; sealer = far_sealer } → r.buffer.phase ≡ Open → IsReceiverAfter r [] → w ≡ record { octets = []; faults = 0 }
-    → forward ≡ replicate links none → backward ≡ replicate links none → flows ≡ near.flow ∷ []
-    → IsWorldAfter (setup_of session near far) (record { sender = s; near = n; receiver = r; far = f; written = w; forward = forward; backward = backward; flows = flows }) (beginning near_sealer far_sealer links)
-begins session near far near_sealer far_sealer links s n f r w forward backward flows count flow_is first_is hold_is size_is bond_is session_is state n_is f_is control shutter phase receiver w_is forward_is backward_is flows_is = record {
+    → forward ≡ replicate links none → backward ≡ replicate links none → flows ≡ near.flow ∷ [] → t ≡ record { kind = far.nack; sent = 0; carried = 0; asked = 0; came = replicate links [] }
+    → IsWorldAfter (setup_of session near far) (record { sender = s; near = n; receiver = r; far = f; written = w; forward = forward; backward = backward; flows = flows; tally = t }) (beginning near_sealer far_sealer links)
+begins session near far near_sealer far_sealer links s n f r w forward backward flows t count flow_is first_is hold_is size_is bond_is session_is state n_is f_is control shutter phase receiver w_is forward_is backward_is flows_is tally_is = record {
   sender = state;
   rules = λ i. record {
     flow = flow_is i;
@@ -252,4 +350,6 @@ begins session near far near_sealer far_sealer links s n f r w forward backward 
   written = ap (λ (x : WrittenState). x.octets) w_is;
   backward = ap datagrams_on backward_is ∙ no_datagrams_on links;
   flows = flows_is;
+  tally = subst (λ (x : TallyState). IsTallyOf (setup_of session near far) x (beginning near_sealer far_sealer links)) (sym tally_is)
+      (record { kind = refl; sent = refl; carried = refl; asked = refl; links = length-replicate links [] ∙ sym count; came = λ link place among. ap (λ bs. get_or bs place false) (get_or-replicate links link [] [] (omega (arith, among, count))) });
 }

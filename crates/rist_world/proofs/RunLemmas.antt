@@ -8,6 +8,8 @@ use Rattle.world_rules.specs.World.{Setup, Course, links_of, beginning, Makes, M
 use Rattle.world_rules.proofs.CourseLemmas.{plays_short}
 use Rattle.rist_world.specs.World.{WorldState, IsWorldAfter, GoesOn}
 use Rattle.rist_world.specs.Mover.{HasGivenNone, GivesNext, MakesScript}
+use Rattle.rist_world.specs.declared.counts.Counts.{Counts}
+use Rattle.rist_world.specs.Counted.{Counted}
 use Rattle.rist_world.specs.Drill.{Drilled}
 
 -- Moves of a script were made in a world, so many, and a mover has given them.
@@ -74,15 +76,17 @@ all_made first now script given script_now given_now moves count run many = λ s
     }
 
 -- what came of a script
-pub drilled : (setup : Setup) (near far : Option SealerState) (script : Setup → Course → List Move → Course → Type 0) (links : ℕ) (first last : WorldState) (moves : List Move) (hash : List ℕ) → links ≡ links_of setup
-    → IsWorldAfter setup first (beginning near far links) → GoesOn first last (λ setup from to. MakesScript script setup from moves to) → hash ≡ sha256 last.written.octets → Drilled setup near far script moves hash
-drilled setup near far script links first last moves hash count begun goes is =
+pub drilled : (setup : Setup) (near far : Option SealerState) (script : Setup → Course → List Move → Course → Type 0) (links : ℕ) (first last : WorldState) (moves : List Move) (counts : Counts) (hash : List ℕ) → links ≡ links_of setup
+    → IsWorldAfter setup first (beginning near far links) → GoesOn first last (λ setup from to. MakesScript script setup from moves to)
+    → ((setup : Setup) (course : Course) → IsWorldAfter setup last course → Counted setup course counts) → hash ≡ sha256 last.written.octets → Drilled setup near far script moves counts hash
+drilled setup near far script links first last moves counts hash count begun goes counted is =
     let g = goes setup (beginning near far links) begun in
     let run : MakesScript script setup (beginning near far (links_of setup)) moves g.to = subst (λ n. MakesScript script setup (beginning near far n) moves g.to) count g.fact in
     record {
       course = g.to;
       makes = run.makes;
       follows = run.whole;
+      counted = counted setup g.to g.stands;
       digest = is ∙ ap sha256 g.stands.written;
       exact = λ legal sealer short. plays_short setup near far (reverse moves) g.to legal sealer short run.makes;
     }

@@ -1,5 +1,5 @@
 -- A world after a move of its sender.
-use Rattle.std.proofs.Common.{◌≡◌, ◌∙◌, ℕ, ◌%◌, ◌^◌, ◌<◌, Bool, true, false, not, List, [], ◌∷◌, ◌++◌, length, map, get_or, Option, None, Some, Result, Ok, Err, IfOk, refl, sym, ap, subst, arith, slice_get}
+use Rattle.std.proofs.Common.{◌≡◌, ◌∙◌, ℕ, ◌+◌, ◌%◌, ◌^◌, ◌<◌, Bool, true, false, not, List, [], ◌∷◌, ◌++◌, length, map, get_or, Option, None, Some, Result, Ok, Err, IfOk, refl, sym, ap, subst, arith, slice_get}
 use Rattle.std.specs.Prelude.{◌==◌, ◌&&◌, nat_lt, if◌then◌else◌, unwrap_or}
 use Rattle.std.specs.List.{list_any}
 use Rattle.std.proofs.lemmas.Bool.{ltb-true, lt-ltb}
@@ -17,7 +17,11 @@ use Rattle.rist_sender.specs.Sender.{SenderState, IsSenderAfter, StaysSet, Does,
 use Rattle.sent_flows.specs.Flows.{SentFlow, is_known}
 use Rattle.world_rules.specs.Flows.{flows_of, flow_after, put_on}
 use Rattle.world_rules.specs.World.{Setup, Course, links_of, rules_after, Works, SendsIn, TicksIn, FeedsIn, FeedsIf, compound_carried, compound_read, backward_at, renewed_in, is_new}
+use Rattle.world_rules.proofs.CountLemmas.{sends_count, feeds_count, ticks_count}
 use Rattle.world_rules.proofs.AddLemmas.{Adds, adds_sends, adds_feeds, adds_ticks, flow_stays, first_stays, names_stay, known_by_name, taken_since}
+use Rattle.world_rules.specs.Counts.{sent_count, sent_by}
+use Rattle.rist_ends.specs.Counts.{capped}
+use Rattle.rist_world.specs.Tally.{TallyState, IsTallyOf}
 use Rattle.rist_world.specs.World.{WireState, WorldState, IsWorldAfter, GoesTo, datagrams_on, none}
 
 -- what a wire tells
@@ -61,14 +65,27 @@ forward_goes setup old s f from Q d a is link w among =
     ∙ ap (λ ds. ds ++ datagrams_taken g.gained) (is.forward link w among)
     ∙ sym (taken_since setup.flow setup.session link from.work d.to g.gained a more)
 
+-- the sender's work goes on
+abbrev worked : Work → Course → Course
+worked to from = record { work = to; steps = from.steps; sealer = from.sealer; backward = from.backward; carried = from.carried }
+
+-- so many more payloads were counted
+tally_sent : (setup : Setup) (old new : TallyState) (from : Course) (to : Work) (more : ℕ) → new ≡ record old { sent = capped (old.sent + more) } → sent_count to.history ≡ sent_count from.work.history + more
+    → IsTallyOf setup old from → IsTallyOf setup new (worked to from)
+tally_sent setup old new from to more is count t = subst (λ (x : TallyState). IsTallyOf setup x (worked to from)) (sym is)
+    (record { kind = t.kind; sent = omega (arith, count, t.sent); carried = t.carried; asked = t.asked; links = t.links; came = t.came })
+
+tally_same : (setup : Setup) (old : TallyState) (from : Course) (to : Work) → sent_count to.history ≡ sent_count from.work.history → IsTallyOf setup old from → IsTallyOf setup old (worked to from)
+tally_same setup old from to count t = record { kind = t.kind; sent = t.sent ∙ ap capped (sym count); carried = t.carried; asked = t.asked; links = t.links; came = t.came }
+
 -- after a call the world goes on
-pub sender_goes : (setup : Setup) (old : WorldState) (s : SenderState) (f : List WireState) (from : Course) (Q : Work → Type 0) (R : Work → Work → Type 0) → ((to : Work) → Q to → Adds from.work to)
-    → ((to : Work) → Q to → R from.work to) → IsWorldAfter setup old from → StaysSet old.sender s → length f ≡ length old.forward → Does wire_line old.sender s old.forward f from.work Q
-    → GoesTo setup (record { sender = s; near = old.near; receiver = old.receiver; far = old.far; written = old.written; forward = f; backward = old.backward; flows = old.flows }) (λ to. Works R from to)
-sender_goes setup old s f from Q R adds means is stays size d =
+pub sender_goes : (setup : Setup) (old : WorldState) (s : SenderState) (f : List WireState) (t : TallyState) (from : Course) (Q : Work → Type 0) (R : Work → Work → Type 0) → ((to : Work) → Q to → Adds from.work to)
+    → ((to : Work) → Q to → R from.work to) → ((to : Work) → Q to → IsTallyOf setup t (worked to from)) → IsWorldAfter setup old from → StaysSet old.sender s → length f ≡ length old.forward → Does wire_line old.sender s old.forward f from.work Q
+    → GoesTo setup (record { sender = s; near = old.near; receiver = old.receiver; far = old.far; written = old.written; forward = f; backward = old.backward; flows = old.flows; tally = t }) (λ to. Works R from to)
+sender_goes setup old s f t from Q R adds means counts is stays size d =
     let a = adds d.to d.fact in
     record {
-      to = record { work = d.to; steps = from.steps; sealer = from.sealer; backward = from.backward };
+      to = worked d.to from;
       fact = record { works = means d.to d.fact; is = refl };
       stands = record {
         sender = d.stands;
@@ -85,17 +102,18 @@ sender_goes setup old s f from Q R adds means is stays size d =
         written = is.written;
         backward = is.backward;
         flows = is.flows ∙ sym (ap (λ h. map (λ (x : SentFlow). x.flow) (flows_of setup.flow setup.first h)) a.is ∙ names_stay setup.flow setup.first a.added from.work.history a.same);
+        tally = counts d.to d.fact;
       };
     }
 
 -- the same where the links were lent as a slice, and came back
-lent_goes : (setup : Setup) (old : WorldState) (s : SenderState) (lent f back : List WireState) (from : Course) (Q : List WireState → Work → Type 0) (R : Work → Work → Type 0) → lent ≡ old.forward → back ≡ f
-    → ((to : Work) → Q old.forward to → Adds from.work to) → ((to : Work) → Q old.forward to → R from.work to) → IsWorldAfter setup old from → StaysSet old.sender s → length f ≡ length lent
+lent_goes : (setup : Setup) (old : WorldState) (s : SenderState) (lent f back : List WireState) (t : TallyState) (from : Course) (Q : List WireState → Work → Type 0) (R : Work → Work → Type 0) → lent ≡ old.forward → back ≡ f
+    → ((to : Work) → Q old.forward to → Adds from.work to) → ((to : Work) → Q old.forward to → R from.work to) → ((to : Work) → Q old.forward to → IsTallyOf setup t (worked to from)) → IsWorldAfter setup old from → StaysSet old.sender s → length f ≡ length lent
     → Does wire_line old.sender s lent f from.work (Q lent)
-    → GoesTo setup (record { sender = s; near = old.near; receiver = old.receiver; far = old.far; written = old.written; forward = back; backward = old.backward; flows = old.flows }) (λ to. Works R from to)
-lent_goes setup old s lent f back from Q R was now adds means is stays size d =
-    subst (λ fs. GoesTo setup (record { sender = s; near = old.near; receiver = old.receiver; far = old.far; written = old.written; forward = fs; backward = old.backward; flows = old.flows }) (λ to. Works R from to)) (sym now)
-    (sender_goes setup old s f from (Q old.forward) R adds means is stays (size ∙ ap length was) (subst (λ fs. Does wire_line old.sender s fs f from.work (Q fs)) was d))
+    → GoesTo setup (record { sender = s; near = old.near; receiver = old.receiver; far = old.far; written = old.written; forward = back; backward = old.backward; flows = old.flows; tally = t }) (λ to. Works R from to)
+lent_goes setup old s lent f back t from Q R was now adds means counts is stays size d =
+    subst (λ fs. GoesTo setup (record { sender = s; near = old.near; receiver = old.receiver; far = old.far; written = old.written; forward = fs; backward = old.backward; flows = old.flows; tally = t }) (λ to. Works R from to)) (sym now)
+    (sender_goes setup old s f t from (Q old.forward) R adds means counts is stays (size ∙ ap length was) (subst (λ fs. Does wire_line old.sender s fs f from.work (Q fs)) was d))
 
 -- what each call means in the setup
 pub sends_in : (setup : Setup) (old : WorldState) (from : Course) (us : ℕ) (payload : List ℕ) (result : Result Unit SendBad) (to : Work) → IsWorldAfter setup old from
@@ -122,26 +140,29 @@ feeds_in setup old from us link compound result to is feeds = record {
       (subst (λ rules. FeedsBack rules (length old.forward) us link compound result from.work to) is.rules feeds);
 }
 
-pub send_goes : (setup : Setup) (old : WorldState) (s : SenderState) (lent f back : List WireState) (from : Course) (us : ℕ) (payload : List ℕ) (result : Result Unit SendBad) → IsWorldAfter setup old from → StaysSet old.sender s
+pub send_goes : (setup : Setup) (old : WorldState) (s : SenderState) (lent f back : List WireState) (t : TallyState) (from : Course) (us : ℕ) (payload : List ℕ) (result : Result Unit SendBad) → t ≡ record old.tally { sent = capped (old.tally.sent + sent_by result) } → IsWorldAfter setup old from → StaysSet old.sender s
     → lent ≡ old.forward → back ≡ f → length f ≡ length lent → Does wire_line old.sender s lent f from.work (Sends (rules_of old.sender) (length lent) us payload result from.work)
-    → GoesTo setup (record { sender = s; near = old.near; receiver = old.receiver; far = old.far; written = old.written; forward = back; backward = old.backward; flows = old.flows }) (λ to. Works (SendsIn setup us payload) from to)
-send_goes setup old s lent f back from us payload result is stays was now size d =
-    lent_goes setup old s lent f back from (λ fs. Sends (rules_of old.sender) (length fs) us payload result from.work) (SendsIn setup us payload) was now
-    (λ to q. adds_sends _ _ us payload result from.work to q) (λ to q. sends_in setup old from us payload result to is q) is stays size d
+    → GoesTo setup (record { sender = s; near = old.near; receiver = old.receiver; far = old.far; written = old.written; forward = back; backward = old.backward; flows = old.flows; tally = t }) (λ to. Works (SendsIn setup us payload) from to)
+send_goes setup old s lent f back t from us payload result counted is stays was now size d =
+    lent_goes setup old s lent f back t from (λ fs. Sends (rules_of old.sender) (length fs) us payload result from.work) (SendsIn setup us payload) was now
+    (λ to q. adds_sends _ _ us payload result from.work to q) (λ to q. sends_in setup old from us payload result to is q)
+    (λ to q. tally_sent setup old.tally t from to (sent_by result) counted (sends_count _ _ us payload result from.work to q) is.tally) is stays size d
 
 pub tick_goes : (setup : Setup) (old : WorldState) (s : SenderState) (lent f back : List WireState) (from : Course) (us : ℕ) (result : Result Unit SendBad) → IsWorldAfter setup old from → StaysSet old.sender s
     → lent ≡ old.forward → back ≡ f → length f ≡ length lent → Does wire_line old.sender s lent f from.work (Ticks (rules_of old.sender) (length lent) us result from.work)
-    → GoesTo setup (record { sender = s; near = old.near; receiver = old.receiver; far = old.far; written = old.written; forward = back; backward = old.backward; flows = old.flows }) (λ to. Works (TicksIn setup us) from to)
+    → GoesTo setup (record { sender = s; near = old.near; receiver = old.receiver; far = old.far; written = old.written; forward = back; backward = old.backward; flows = old.flows; tally = old.tally }) (λ to. Works (TicksIn setup us) from to)
 tick_goes setup old s lent f back from us result is stays was now size d =
-    lent_goes setup old s lent f back from (λ fs. Ticks (rules_of old.sender) (length fs) us result from.work) (TicksIn setup us) was now
-    (λ to q. adds_ticks _ _ us result from.work to q) (λ to q. ticks_in setup old from us result to is q) is stays size d
+    lent_goes setup old s lent f back old.tally from (λ fs. Ticks (rules_of old.sender) (length fs) us result from.work) (TicksIn setup us) was now
+    (λ to q. adds_ticks _ _ us result from.work to q) (λ to q. ticks_in setup old from us result to is q)
+    (λ to q. tally_same setup old.tally from to (ticks_count _ _ us result from.work to q) is.tally) is stays size d
 
 pub feedback_goes : (setup : Setup) (old : WorldState) (s : SenderState) (lent f back : List WireState) (from : Course) (us link : ℕ) (compound : List Content) (result : Result ℕ SendBad) → IsWorldAfter setup old from → StaysSet old.sender s
     → lent ≡ old.forward → back ≡ f → length f ≡ length lent → Does wire_line old.sender s lent f from.work (FeedsBack (rules_of old.sender) (length lent) us link compound result from.work)
-    → GoesTo setup (record { sender = s; near = old.near; receiver = old.receiver; far = old.far; written = old.written; forward = back; backward = old.backward; flows = old.flows }) (λ to. Works (FeedsIn setup us link compound) from to)
+    → GoesTo setup (record { sender = s; near = old.near; receiver = old.receiver; far = old.far; written = old.written; forward = back; backward = old.backward; flows = old.flows; tally = old.tally }) (λ to. Works (FeedsIn setup us link compound) from to)
 feedback_goes setup old s lent f back from us link compound result is stays was now size d =
-    lent_goes setup old s lent f back from (λ fs. FeedsBack (rules_of old.sender) (length fs) us link compound result from.work) (FeedsIn setup us link compound) was now
-    (λ to q. adds_feeds _ _ us link compound result from.work to q) (λ to q. feeds_in setup old from us link compound result to is q) is stays size d
+    lent_goes setup old s lent f back old.tally from (λ fs. FeedsBack (rules_of old.sender) (length fs) us link compound result from.work) (FeedsIn setup us link compound) was now
+    (λ to q. adds_feeds _ _ us link compound result from.work to q) (λ to q. feeds_in setup old from us link compound result to is q)
+    (λ to q. tally_same setup old.tally from to (feeds_count _ _ us link compound result from.work to q) is.tally) is stays size d
 
 -- ---- another flow
 
@@ -159,7 +180,7 @@ not_new setup old whole from flow first same is e =
 
 pub renew_goes : (setup : Setup) (old : WorldState) (s : SenderState) (flow first : ℕ) (flows : List ℕ) (from : Course) → IsWorldAfter setup old from → flows ≡ flow ∷ old.flows → is_new setup from flow ≡ true
     → s ≡ record old.sender { flow = flow; first = first; store = record { size = old.sender.store.size; packets = [] }; count = 0; octets = 0 } → IsSenderAfter s (renewed_as flow first from.work)
-    → GoesTo setup (record { sender = s; near = old.near; receiver = old.receiver; far = old.far; written = old.written; forward = old.forward; backward = old.backward; flows = flows })
+    → GoesTo setup (record { sender = s; near = old.near; receiver = old.receiver; far = old.far; written = old.written; forward = old.forward; backward = old.backward; flows = flows; tally = old.tally })
     (λ to. IfElse (is_new setup from flow) (to ≡ renewed_in flow first from) (to ≡ from))
 renew_goes setup old s flow first flows from is more new value state = record {
   to = renewed_in flow first from;
@@ -179,6 +200,7 @@ renew_goes setup old s flow first flows from is more new value state = record {
     written = is.written;
     backward = is.backward;
     flows = more ∙ ap (λ fs. flow ∷ fs) is.flows;
+    tally = record { kind = is.tally.kind; sent = is.tally.sent; carried = is.tally.carried; asked = is.tally.asked; links = is.tally.links; came = is.tally.came };
   };
 }
 
@@ -187,14 +209,14 @@ renew_goes setup old s flow first flows from is more new value state = record {
 pub back_goes : (setup : Setup) (old : WorldState) (near : Session) (s : SenderState) (lent f back : List WireState) (from : Course) (place us link : ℕ) (compound : List Content) (result : Result ℕ SendBad) → near ≡ old.near
     → compound_carried setup (backward_at from link place) ≡ Some compound → IsWorldAfter setup old from → StaysSet old.sender s
     → lent ≡ old.forward → back ≡ f → length f ≡ length lent → Does wire_line old.sender s lent f from.work (FeedsBack (rules_of old.sender) (length lent) us link compound result from.work)
-    → GoesTo setup (record { sender = s; near = near; receiver = old.receiver; far = old.far; written = old.written; forward = back; backward = old.backward; flows = old.flows })
+    → GoesTo setup (record { sender = s; near = near; receiver = old.receiver; far = old.far; written = old.written; forward = back; backward = old.backward; flows = old.flows; tally = old.tally })
     (λ to. FeedsIf setup us link (compound_carried setup (backward_at from link place)) from to)
 back_goes setup old near s lent f back from place us link compound result same at is stays was now size d =
     let g = feedback_goes setup old s lent f back from us link compound result is stays was now size d in
     record {
       to = g.to;
       fact = subst (λ x. FeedsIf setup us link x from g.to) (sym at) g.fact;
-      stands = subst (λ n. IsWorldAfter setup (record { sender = s; near = n; receiver = old.receiver; far = old.far; written = old.written; forward = back; backward = old.backward; flows = old.flows }) g.to) (sym same) g.stands;
+      stands = subst (λ n. IsWorldAfter setup (record { sender = s; near = n; receiver = old.receiver; far = old.far; written = old.written; forward = back; backward = old.backward; flows = old.flows; tally = old.tally }) g.to) (sym same) g.stands;
     }
 
 -- the compound that a datagram is

@@ -13,6 +13,7 @@ use Rattle.rist_sender.specs.declared.settings.Settings.{Settings as SenderSetti
 use Rattle.made_script.specs.declared.draws.Script.{Script}
 use Rattle.made_script.specs.Words.{words_from}
 use Rattle.world_rules.specs.World.{Setup, IsSealerOf}
+use Rattle.rist_world.specs.declared.counts.Counts.{Counts}
 use Rattle.rist_world.specs.declared.running.Report.{Report}
 use Rattle.rist_world.specs.World.{setup_of}
 use Rattle.rist_world.specs.Drill.{Drilled}
@@ -53,6 +54,10 @@ pub record GivesSealer (old new : List ℕ) (sealer : Option SealerState) : Type
 abbrev pub nonce_words : ℕ → List ℕ
 nonce_words number = words_from number 1 0 32
 
+-- the counts of a report
+abbrev pub counts_in : Report → Counts
+counts_in r = record { sent = r.sent; carried = r.carried; lost = r.lost; asked = r.asked; resent = r.resent; released = r.released }
+
 -- The moves of the report are those of the made script, by sealers of its session, and the report tells what came of them.
 pub record IsMadeRun (script : Script) (report : Report) : Type 0 where
   pub near : Option SealerState
@@ -60,4 +65,4 @@ pub record IsMadeRun (script : Script) (report : Report) : Type 0 where
   pub sender : IsSealerFrom (take 16 (nonce_words script.number)) near
   pub receiver : IsSealerFrom (take 16 (drop 16 (nonce_words script.number))) far
   pub sealed : IsSealerOf made_session near
-  pub run : Drilled (made_setup script.links) near far (IsMadeScript script) report.moves.items report.digest
+  pub run : Drilled (made_setup script.links) near far (IsMadeScript script) report.moves.items (counts_in report) report.digest

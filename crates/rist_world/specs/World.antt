@@ -15,6 +15,7 @@ use Rattle.rist_sender.specs.Sender.{SenderState, IsSenderAfter, has_keepalives,
 use Rattle.sent_flows.specs.Flows.{SentFlow}
 use Rattle.world_rules.specs.Flows.{flows_of}
 use Rattle.world_rules.specs.World.{Setup, Course, links_of, rules_after, forward_on}
+use Rattle.rist_world.specs.Tally.{TallyState, IsTallyOf}
 
 -- the datagrams that were put on a link one way, the oldest first, and how many writes failed for want of memory
 pub record WireState : Type 0 where
@@ -31,7 +32,7 @@ pub record WrittenState : Type 0 where
   pub faults : ℕ
 
 -- the sender, and what opens the datagrams that come back to it; the receiver, what opens those that come to it, and
--- what it wrote; the links each way; and the SSRCs of the flows so far, the newest first
+-- what it wrote; the links each way; the SSRCs of the flows so far, the newest first; and what is counted
 pub record WorldState : Type 0 where
   pub sender : SenderState
   pub near : Session
@@ -41,6 +42,7 @@ pub record WorldState : Type 0 where
   pub forward : List WireState
   pub backward : List WireState
   pub flows : List ℕ
+  pub tally : TallyState
 
 -- what both ends are set to
 abbrev pub setup_of : Session → SenderSettings → ReceiverSettings → Setup
@@ -64,8 +66,8 @@ phase_of false = Open
 abbrev pub datagrams_on : List WireState → List (List Datagram)
 datagrams_on wires = map (λ (w : WireState). w.put) wires
 
--- what it keeps is that of a course: the sender its work, each link what was put on it, the receiver its steps, and
--- what was written is what these released
+-- what it keeps is that of a course: the sender its work, each link what was put on it, the receiver its steps, what
+-- was written is what these released, and what is counted is what came of it
 pub record IsWorldAfter (setup : Setup) (w : WorldState) (course : Course) : Type 0 where
   pub sender : IsSenderAfter w.sender course.work
   pub rules : rules_of w.sender ≡ rules_after setup course.work.history
@@ -81,6 +83,7 @@ pub record IsWorldAfter (setup : Setup) (w : WorldState) (course : Course) : Typ
   pub written : w.written.octets ≡ released_bytes setup.control.limits (buffer_history course.steps)
   pub backward : datagrams_on w.backward ≡ course.backward
   pub flows : w.flows ≡ map (λ (f : SentFlow). f.flow) (flows_of setup.flow setup.first course.work.history)
+  pub tally : IsTallyOf setup w.tally course
 
 -- there is a course of which this holds, and the world is as it says
 pub record GoesTo (setup : Setup) (w : WorldState) (P : Course → Type 0) : Type 0 where

@@ -2,6 +2,7 @@
 //! the run: what the sender did, the receiver's steps, and the datagrams on the way (`IsWorldAfter`).
 #![tactic(auto)]
 
+mod counts;
 mod made;
 mod made_run;
 mod mover;

@@ -8,7 +8,9 @@ ghost use Rattle.sha2.specs.Sha256.{sha256};
 ghost use Rattle.rist_world.specs.World.{GoesOn, setup_of};
 ghost use Rattle.rist_world.specs.Mover.{HasGivenNone, MakesScript};
 ghost use Rattle.rist_world.specs.Drill.{Drilled};
+ghost use Rattle.rist_world.specs.Made.{counts_in};
 
+use crate::counts::counts_of;
 use crate::mover::Mover;
 use crate::world::World;
 use outside_io::NoMemory;
@@ -94,18 +96,19 @@ pub fn drill<M: Mover>(
     requires far { is_some far_sealer ≡ is_some session.now.pass }
     requires none { HasGivenNone (M.given mover.old) }
     ensures run { IfOk result (λ report. Drilled (setup_of session.now near far.now) near_sealer far_sealer
-        (M.script mover.old) report.moves.items report.digest) }
+        (M.script mover.old) report.moves.items (counts_in report) report.digest) }
 {
     let mut world = World::with(alloc, session, near, far, near_sealer, far_sealer, links)?;
     let moves = run(alloc, &mut world, mover)?;
+    let counts = counts_of(&mut world);
     Ok(Report {
         moves,
-        sent: world.tally().sent,
-        carried: world.tally().carried,
-        lost: world.tally().lost(),
-        asked: world.tally().asked,
-        resent: world.tally().resent,
-        released: world.kept(),
+        sent: counts.sent,
+        carried: counts.carried,
+        lost: counts.lost,
+        asked: counts.asked,
+        resent: counts.resent,
+        released: counts.released,
         digest: digest_of(world.written()),
     })
 }

@@ -1,117 +1,225 @@
-//! What became of the datagrams of a simulated network, counted for a summary.
+//! What is counted while a simulated network runs.
+ghost use Rattle.std.specs.Prelude.{◌≡◌, ◌+◌, length};
+ghost use Rattle.request_rules.specs.Words.{numbers_in};
+ghost use Rattle.rist_ends.specs.Counts.{capped};
+ghost use Rattle.world_rules.specs.Counts.{media_read, sent_by};
+ghost use Rattle.rist_world.specs.Tally.{raised_if};
+
 use outside_io::NoMemory;
 use request_rules::{AskWord, NackKind};
+use rist_sender::SendBad;
+use rist_wire::{Item, WireBad};
 use std::alloc::Global;
+use std::marker::Model;
 
-/// What a datagram that the sender put says, and whether it came to the receiver.
-#[derive(Clone, Copy, Debug, PartialEq, Eq)]
-pub(crate) enum Fate {
-    /// It is no media.
-    Control,
-    /// Media that was not carried yet.
-    Waiting,
-    /// Media that was carried.
-    Carried,
+/// Which datagrams of a link came to the receiver, by their places: none of those behind the last place did.
+#[derive(Drop)]
+struct Came {
+    places: Vec<bool>,
 }
 
-/// Counts of a run. A contract sees nothing of them.
+impl Model for Came {
+    ghost use Rattle.std.specs.Prelude.{List, Bool};
+
+    ghost Value = { List Bool };
+
+    ghost view = { λ c. c.places.items };
+}
+
+impl Came {
+    ghost use Rattle.std.specs.Prelude.{◌≡◌, ℕ, [], get_or, false, ◌==◌, ◌||◌, IfOk};
+
+    /// None has come.
+    fn with(alloc: Global) -> Came
+        ensures value { result ≡ [] }
+    {
+        Came {
+            places: Vec::new(alloc),
+        }
+    }
+
+    /// The datagram at a place has come.
+    fn add(&mut self, place: usize) -> Result<(), NoMemory>
+        ensures value { IfOk result (λ done. (k : ℕ)
+            → get_or self.new k false ≡ (place == k || get_or self.old k false)) }
+    {
+        if place < self.places.len() {
+            self.places[place] = true;
+            return Ok(());
+        }
+        for _ in self.places.len()..place {
+            if self.places.push(false).is_err() {
+                return Err(NoMemory);
+            }
+        }
+        match self.places.push(true) {
+            Ok(()) => Ok(()),
+            Err(_) => Err(NoMemory),
+        }
+    }
+}
+
+/// Counts of a run so far. Each stays at its greatest value.
 #[derive(Drop)]
 pub(crate) struct Tally {
-    fates: Vec<Vec<Fate>>,
-    pub(crate) sent: u64,
-    pub(crate) carried: u64,
-    pub(crate) asked: u64,
-    pub(crate) resent: u64,
+    kind: NackKind,
+    sent: u64,
+    carried: u64,
+    asked: u64,
+    came: Vec<Came>,
 }
 
-// How many numbers a request word asks for.
-fn numbers_of(kind: NackKind, word: &AskWord) -> u64 {
+impl Model for Tally {
+    ghost use Rattle.rist_world.specs.Tally.{TallyState};
+
+    ghost Value = { TallyState };
+
+    ghost view = { λ t. record { kind = t.kind; sent = t.sent; carried = t.carried; asked = t.asked; came = t.came.items } };
+}
+
+/// Of media, whether it says that it is a retransmission; nothing of what is no media.
+pub(crate) fn media_in(item: &Result<Item<'_>, WireBad>) -> Option<bool>
+    ensures value { result ≡ media_read item.now }
+{
+    match item {
+        Ok(Item::Media(media)) => Some(media.again),
+        Ok(Item::Control(_)) => None,
+        Ok(Item::Keepalive(_)) => None,
+        Err(_) => None,
+    }
+}
+
+/// One more, where that is counted.
+pub(crate) fn raise_if(count: &mut u64, is: bool)
+    ensures value { count.new ≡ raised_if is count.old }
+{
+    if is {
+        *count = count.saturating_add(1);
+    }
+}
+
+/// How many payloads a call of the sender with this answer sent.
+fn sent_by(answer: Result<(), SendBad>) -> u64
+    ensures value { result ≡ sent_by answer }
+{
+    match answer {
+        Ok(()) => 1,
+        Err(SendBad::Spent) => 0,
+        Err(SendBad::LinksDown) => 1,
+    }
+}
+
+/// How many numbers a request word asks for.
+fn numbers_of(kind: NackKind, word: &AskWord) -> u64
+    ensures value { result ≡ length (numbers_in kind word.now) }
+{
+    let second = word.second;
     match kind {
-        NackKind::Range => 1 + u64::from(word.second),
-        NackKind::Mask => 1 + u64::from(word.second.count_ones()),
+        NackKind::Range => 1 + u64::from(second),
+        NackKind::Mask => 1 + u64::from(second.count_ones()),
     }
 }
 
 impl Tally {
-    /// Nothing was counted yet on so many links.
-    pub(crate) fn with(alloc: Global, links: usize) -> Result<Tally, NoMemory> {
-        let mut fates = Vec::with_capacity(alloc, links)?;
-        for _ in 0..links {
-            if fates.push(Vec::new(alloc)).is_err() {
-                return Err(NoMemory);
+    ghost use Rattle.std.specs.Prelude.{◌≡◌, ◌<◌, ℕ, [], replicate, length, get_or, true, false, ◌==◌, ◌||◌, ◌&&◌, if◌then◌else◌, nat_lt, IfOk};
+    ghost use Rattle.world_rules.specs.Counts.{number_count};
+    ghost use Rattle.rist_world.specs.Tally.{came_at};
+
+    /// Nothing was counted yet, where requests are of this kind, and nothing has come on so many links.
+    pub(crate) fn with(alloc: Global, kind: NackKind, links: usize) -> Result<Tally, NoMemory>
+        ensures value { IfOk result (λ t. t ≡ record {
+          kind = kind;
+          sent = 0;
+          carried = 0;
+          asked = 0;
+          came = replicate links [];
+        }) }
+    {
+        let mut came = Vec::with_capacity(alloc, links)?;
+        for made in 0..links {
+            match came.push(Came::with(alloc)) {
+                Ok(()) => {}
+                Err(_) => return Err(NoMemory),
             }
         }
         Ok(Tally {
-            fates,
+            kind,
             sent: 0,
             carried: 0,
             asked: 0,
-            resent: 0,
+            came,
         })
     }
 
-    /// A link holds so many datagrams now: those that came since are of this kind.
-    pub(crate) fn put(&mut self, link: usize, total: usize, fate: Fate) -> Result<(), NoMemory> {
-        let Some(fates) = self.fates.get_mut(link) else {
-            return Ok(());
-        };
-        for _ in fates.len()..total {
-            if fates.push(fate).is_err() {
-                return Err(NoMemory);
-            }
+    /// A payload was to be sent: it was, unless no pair or no number was left for it.
+    pub(crate) fn send(&mut self, answer: Result<(), SendBad>)
+        ensures value { self.new ≡ record self.old { sent = capped (self.old.sent + sent_by answer) } }
+    {
+        self.sent = self.sent.saturating_add(sent_by(answer));
+    }
+
+    /// The datagram at a place of a link came to the receiver: media, or not.
+    pub(crate) fn carry(&mut self, link: u8, place: u64, media: bool) -> Result<(), NoMemory>
+        ensures counts { IfOk result (λ done. self.new ≡ record self.old {
+          carried = raised_if media self.old.carried;
+          came = self.new.came;
+        }) }
+        ensures came { IfOk result (λ done. (k at : ℕ) → k < length self.old.came
+            → came_at self.new.came k at ≡ ((link == k && place == at) || came_at self.old.came k at)) }
+        ensures length { IfOk result (λ done. length self.new.came ≡ length self.old.came) }
+    {
+        raise_if(&mut self.carried, media);
+        let link = usize::from(link);
+        if link < self.came.len() {
+            return self.came[link].add(place as usize);
         }
         Ok(())
     }
 
-    /// The datagram at a place of a link came to the receiver.
-    pub(crate) fn carry(&mut self, link: usize, place: usize) {
-        let Some(fates) = self.fates.get_mut(link) else {
-            return;
-        };
-        let Some(fate) = fates.get_mut(place) else {
-            return;
-        };
-        if *fate != Fate::Control {
-            *fate = Fate::Carried;
-            self.carried = self.carried.saturating_add(1);
-        }
-    }
-
-    /// Whether the datagram at a place of a link is there and is media.
-    pub(crate) fn is_media(&self, link: usize, place: usize) -> bool {
-        let Some(fates) = self.fates.get(link) else {
+    /// Whether the datagram at a place of a link came to the receiver.
+    pub(crate) fn came(&self, link: u8, place: u64) -> bool
+        ensures value { result ≡ came_at self.now.came link place }
+    {
+        let Some(came) = self.came.get(usize::from(link)) else {
             return false;
         };
-        match fates.get(place) {
-            Some(fate) => *fate != Fate::Control,
+        match came.places.get(place as usize) {
+            Some(is) => *is,
             None => false,
         }
     }
 
     /// Numbers were asked for.
-    pub(crate) fn ask(&mut self, kind: NackKind, words: &[AskWord]) {
+    pub(crate) fn ask(&mut self, words: &[AskWord])
+        ensures value { self.new ≡ record self.old {
+          asked = capped (self.old.asked + number_count self.old.kind words.now);
+        } }
+    {
+        let mut asked = self.asked;
         for word in words.iter() {
-            self.asked = self.asked.saturating_add(numbers_of(kind, word));
+            asked = asked.saturating_add(numbers_of(self.kind, word));
         }
+        self.asked = asked;
     }
 
-    /// How many media datagrams were put and never carried.
-    pub(crate) fn lost(&self) -> u64 {
-        let mut lost = 0_u64;
-        for fates in self.fates.iter() {
-            lost = lost.saturating_add(waiting(fates));
-        }
-        lost
+    /// How many payloads were sent.
+    pub(crate) fn sent(&self) -> u64
+        ensures value { result ≡ self.now.sent }
+    {
+        self.sent
     }
-}
 
-// How many of these are media that was not carried.
-fn waiting(fates: &[Fate]) -> u64 {
-    let mut count = 0_u64;
-    for fate in fates.iter() {
-        if *fate == Fate::Waiting {
-            count = count.saturating_add(1);
-        }
+    /// How often media came to the receiver.
+    pub(crate) fn carried(&self) -> u64
+        ensures value { result ≡ self.now.carried }
+    {
+        self.carried
     }
-    count
+
+    /// How many numbers were asked for.
+    pub(crate) fn asked(&self) -> u64
+        ensures value { result ≡ self.now.asked }
+    {
+        self.asked
+    }
 }

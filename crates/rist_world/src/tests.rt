@@ -115,6 +115,25 @@ fn what_is_asked_for_again_is_released_once(rt: HostRuntime) -> Result<(), Fail>
 }
 
 #[test]
+fn each_number_of_a_range_is_counted(rt: HostRuntime) -> Result<(), Fail> {
+    let alloc = rt.alloc();
+    let moves = vec![in alloc;
+        send(alloc, 0, b'A')?,
+        send(alloc, 1, b'B')?,
+        send(alloc, 2, b'C')?,
+        send(alloc, 3, b'D')?,
+        Move::Carry(0, 0, 3000),
+        Move::Carry(0, 3, 4000),
+        Move::Carry(0, 3, 5000),
+        Move::Tick(0, 30_000),
+    ]?;
+    let report = played(alloc, &moves)?;
+    assert_eq!(rt; (report.sent, report.carried, report.lost), (4, 3, 2));
+    assert_eq!(rt; (report.asked, report.resent), (2, 0));
+    Ok(())
+}
+
+#[test]
 fn flows_follow_one_another(rt: HostRuntime) -> Result<(), Fail> {
     let alloc = rt.alloc();
     let moves = vec![in alloc;

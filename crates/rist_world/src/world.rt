@@ -6,16 +6,15 @@ ghost use Rattle.rist_reporter.specs.OneMore.{outs_of};
 ghost use Rattle.world_rules.specs.World.{datagram_made};
 ghost use Rattle.rist_world.specs.World.{datagrams_on, none};
 
-use crate::tally::{Fate, Tally};
+use crate::tally::{Tally, media_in};
 use crate::wire::Wire;
 use crate::written::Written;
 use outside_io::{Channel, NoMemory};
 use outside_net::MAX_DATAGRAM;
 use psk_seal::Sealer;
 use reorder_buffer::MAX_PAYLOAD;
-use request_rules::NackKind;
 use rist_ends::{Outcome, Outs, Receiver, Settings as ReceiverSettings, Told, What, what_of};
-use rist_sender::{SendBad, Sender, Settings as SenderSettings};
+use rist_sender::{Sender, Settings as SenderSettings};
 use rist_wire::{Item, Opener, Session};
 use std::alloc::Global;
 use std::marker::Model;
@@ -34,7 +33,6 @@ pub struct World {
     forward: Vec<Wire>,
     backward: Vec<Wire>,
     flows: Vec<u32>,
-    kind: NackKind,
     tally: Tally,
 }
 
@@ -54,6 +52,7 @@ impl Model for World {
       forward = w.forward.items;
       backward = w.backward.items;
       flows = w.flows.items;
+      tally = w.tally;
     } };
 
     ghost invariant = { λ w. (length w.forward.items ≡ link_count w.sender.bonding)
@@ -87,6 +86,7 @@ impl World {
     ghost use Rattle.world_rules.specs.World.{Course, Makes, beginning, links_of, Works, SendsIn, TicksIn, FeedsIf, CarriesIf, ReceivesIf};
     ghost use Rattle.world_rules.specs.World.{compound_carried, backward_at, forward_at, is_new, renewed_in};
     ghost use Rattle.rist_world.specs.World.{IsWorldAfter, GoesOn, setup_of};
+    ghost use Rattle.rist_world.specs.Counted.{media_at};
 
     /// Both ends in a session, before any move. A sealer for each is handed in exactly where the session has a
     /// passphrase.
@@ -121,8 +121,7 @@ impl World {
             forward: wires(alloc, usize::from(links))?,
             backward: wires(alloc, usize::from(links))?,
             flows,
-            kind: far.nack,
-            tally: Tally::with(alloc, usize::from(links))?,
+            tally: Tally::with(alloc, far.nack, usize::from(links))?,
         })
     }
 
@@ -164,8 +163,11 @@ impl World {
     }
 
     /// Whether the datagram that the sender put at a place of a link, from 0, is there and is media.
-    pub fn media(&self, link: u8, place: u64) -> bool {
-        self.tally.is_media(usize::from(link), place as usize)
+    pub fn media(&mut self, link: u8, place: u64) -> bool
+        ensures value { result ≡ is_some (media_at self.old link place) }
+        ensures same { self.new ≡ self.old }
+    {
+        self.media_at(link, place).is_some()
     }
 
     /// What the receiver wrote.
@@ -175,8 +177,30 @@ impl World {
         self.written.octets()
     }
 
-    /// What came of the datagrams so far.
-    pub(crate) fn tally(&self) -> &Tally {
+    /// Of media that the sender put at a place of a link, whether it says that it is a retransmission; nothing of what
+    /// is no media or isn't there.
+    pub(crate) fn media_at(&mut self, link: u8, place: u64) -> Option<bool>
+        ensures value { result ≡ media_at self.old link place }
+        ensures same { self.new ≡ self.old }
+    {
+        let mut datagram = [0; MAX_DATAGRAM];
+        match datagram_at(&self.forward, link, place, &mut datagram) {
+            Some((channel, length)) => media_in(&self.far.take(channel, &mut datagram[..length])),
+            None => None,
+        }
+    }
+
+    /// How many links there are.
+    pub(crate) fn links(&self) -> u8
+        ensures value { result ≡ length self.now.forward }
+    {
+        self.forward.len() as u8
+    }
+
+    /// What was counted so far.
+    pub(crate) fn tally(&self) -> &Tally
+        ensures value { result.now ≡ self.now.tally }
+    {
         &self.tally
     }
 
@@ -194,7 +218,8 @@ impl World {
             (λ setup from to. Works (SendsIn setup us payload.now) from to)) }
     {
         let sent = self.sender.send(us, payload, &mut self.forward);
-        note_sent(&mut self.tally, &self.forward, sent)
+        self.tally.send(sent);
+        check_memory(&self.forward)
     }
 
     /// The sender's clock ticks.
@@ -203,7 +228,7 @@ impl World {
             (λ setup from to. Works (TicksIn setup us) from to)) }
     {
         let _ = self.sender.tick(us, &mut self.forward);
-        note(&mut self.tally, &self.forward, Fate::Control)
+        check_memory(&self.forward)
     }
 
     /// The datagram that the receiver put at a place of a link, from 0, comes to the sender, if it is there.
@@ -218,8 +243,8 @@ impl World {
         let Ok(Item::Control(compound)) = self.near.take(channel, &mut datagram[..length]) else {
             return Ok(());
         };
-        let again = self.sender.feedback(us, link, &compound, &mut self.forward);
-        note_again(&mut self.tally, &self.forward, link, again)
+        let _ = self.sender.feedback(us, link, &compound, &mut self.forward);
+        check_memory(&self.forward)
     }
 
     /// Another flow begins, where its SSRC is even and none of the earlier ones.
@@ -240,15 +265,16 @@ impl World {
     /// The datagram that the sender put at a place of a link, from 0, comes to the receiver, if it is there.
     pub(crate) fn carry(&mut self, link: u8, place: u64, us: u64) -> Result<(), NoMemory>
         ensures value { IfOk result (λ done. GoesOn self.old self.new
-            (λ setup from to. CarriesIf setup link us (forward_at setup from link place) from to)) }
+            (λ setup from to. CarriesIf setup link place us (forward_at setup from link place) from to)) }
     {
         let mut datagram = [0; MAX_DATAGRAM];
         let Some((channel, length)) = datagram_at(&self.forward, link, place, &mut datagram) else {
             return Ok(());
         };
-        self.tally.carry(usize::from(link), place as usize);
         let mut block = [0; MAX_PAYLOAD];
         let item = self.far.take(channel, &mut datagram[..length]);
+        let media = media_in(&item).is_some();
+        self.tally.carry(link, place, media)?;
         let what = what_of(&item, &mut block);
         self.step(&Told { link, us, what })
     }
@@ -284,7 +310,7 @@ impl World {
         match self.receiver.step(told, &mut self.written) {
             Outcome::WriteFault => Err(NoMemory),
             Outcome::Made(outs) => {
-                self.tally.ask(self.kind, outs.asked.words());
+                self.tally.ask(outs.asked.words());
                 put_back(&mut self.backward, told.link, &outs)
             }
             Outcome::Stopped => Ok(()),
@@ -293,41 +319,6 @@ impl World {
             Outcome::Nothing => Ok(()),
         }
     }
-}
-
-// What the sender put since is of this kind. Refuses where some write has failed.
-fn note(tally: &mut Tally, wires: &[Wire], fate: Fate) -> Result<(), NoMemory> {
-    for (link, wire) in wires.iter().enumerate() {
-        tally.put(link, wire.len(), fate)?;
-    }
-    check_memory(wires)
-}
-
-// What the sender put since are originals, if the payload was sent. Refuses where some write has failed.
-fn note_sent(tally: &mut Tally, wires: &[Wire], sent: Result<(), SendBad>) -> Result<(), NoMemory> {
-    if sent.is_ok() {
-        tally.sent = tally.sent.saturating_add(1);
-    }
-    note(tally, wires, Fate::Waiting)
-}
-
-// Likewise after a compound came back on a link: the last of what was put are retransmissions.
-fn note_again(
-    tally: &mut Tally,
-    wires: &[Wire],
-    link: u8,
-    again: Result<u32, SendBad>,
-) -> Result<(), NoMemory> {
-    let again = again.unwrap_or(0);
-    let link = usize::from(link);
-    let total = match wires.get(link) {
-        Some(wire) => wire.len(),
-        None => 0,
-    };
-    tally.put(link, total.saturating_sub(again as usize), Fate::Control)?;
-    tally.put(link, total, Fate::Waiting)?;
-    tally.resent = tally.resent.saturating_add(u64::from(again));
-    check_memory(wires)
 }
 
 // How many datagrams were put on a link.

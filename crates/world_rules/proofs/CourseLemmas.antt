@@ -31,7 +31,7 @@ use Rattle.world_rules.specs.declared.moves.Move.{Move}
 use Rattle.world_rules.specs.declared.moves.Move.TheVariants as moves
 use Rattle.world_rules.specs.Flows.{flows_of, put_on}
 use Rattle.world_rules.specs.Short.{IsWithin, IsMoveWithin, AreWithin, AreNoEnds, is_end, is_send, send_count, IsShort}
-use Rattle.world_rules.specs.World.{Setup, IsSetup, Course, links_of, forward_on, forward_at, backward_at, Works, SendsIn, FeedsIf, compound_carried, Receives, ReceivesIf, step_carried, CarriesIf, renewed_in, is_new, Makes, beginning, MakesAll, IsSealerOf}
+use Rattle.world_rules.specs.World.{Setup, IsSetup, Course, links_of, forward_on, forward_at, backward_at, Works, SendsIn, FeedsIf, compound_carried, Receives, ReceivesIf, step_carried, with_carried, CarriesIf, renewed_in, is_new, Makes, beginning, MakesAll, IsSealerOf}
 use Rattle.world_rules.proofs.MessageLemmas.{Brings, HasPairs, has_pairs, event_read}
 use Rattle.world_rules.proofs.SenderLemmas.{AllBring, AreSteadyFlows, IsSound, Leaves, more_room, sends_leaves, feeds_leaves, ticks_leaves, renew_leaves}
 
@@ -125,12 +125,18 @@ put_brings session flows (t ∷ ts) d k a is us = taken_brings session flows t t
 
 -- ---- a move
 
-carried : (setup : Setup) (low count link micros : ℕ) (d : Option Datagram) (from to : Course) → (t : IsTrue setup low count from)
+-- one more datagram on its way changes nothing of that
+true_with : (setup : Setup) (low count link place : ℕ) (d : Datagram) (from : Course) → IsTrue setup low count from → IsTrue setup low count (with_carried link place d from)
+true_with setup low count link place d from t = record { current = t.current; older = t.older; sound = t.sound; brings = t.brings }
+
+carried : (setup : Setup) (low count link place micros : ℕ) (d : Option Datagram) (from to : Course) → (t : IsTrue setup low count from)
     → ((x : Datagram) → d ≡ Some x → (us : ℕ) → BringsCopy setup.session.width (t.current ∷ t.older) (event_read us (item_of setup.session x.channel x.octets)))
-    → CarriesIf setup link micros d from to → IsTrue setup low count to
-carried setup low count link micros None from to t b same = subst (λ (c : Course). IsTrue setup low count c) (sym same) t
-carried setup low count link micros (Some d) from to t b r =
-    received_if setup low count (step_carried setup link micros d) from to (has_ended (buffer_history from.steps)) t (b d refl micros) r
+    → CarriesIf setup link place micros d from to → IsTrue setup low count to
+unfolding true_with
+carried setup low count link place micros None from to t b same = subst (λ (c : Course). IsTrue setup low count c) (sym same) t
+carried setup low count link place micros (Some d) from to t b r =
+    received_if setup low count (step_carried setup link micros d) (with_carried link place d from) to (has_ended (buffer_history from.steps))
+    (true_with setup low count link place d from t) (b d refl micros) r
 
 at_brings : (setup : Setup) (low count link place : ℕ) (from : Course) (t : IsTrue setup low count from) (c : Bool) (x : Datagram)
     → (if c then slice_get (forward_on setup from link) place else None) ≡ Some x → (us : ℕ) → BringsCopy setup.session.width (t.current ∷ t.older) (event_read us (item_of setup.session x.channel x.octets))
@@ -178,7 +184,7 @@ move_true : (setup : Setup) (low count : ℕ) (move : Move) (from to : Course) �
 move_true setup low count (moves.Send micros payload) from to legal within goes t m =
     subst (λ n. IsTrue setup low n to) (suc_is count) (sent_if setup low count micros payload (nat_le (length payload) 1500) from to legal within refl t m)
 move_true setup low count (moves.Carry link place micros) from to legal within goes t m =
-    carried setup low count link micros (forward_at setup from link place) from to t (λ x is us. at_brings setup low count link place from t (nat_lt link (links_of setup)) x is us) m
+    carried setup low count link place micros (forward_at setup from link place) from to t (λ x is us. at_brings setup low count link place from t (nat_lt link (links_of setup)) x is us) m
 move_true setup low count (moves.CarryBack link place micros) from to legal within goes t m =
     fed setup low count link micros (compound_carried setup (backward_at from link place)) from to legal within.high t m
 move_true setup low count (moves.SenderTick micros) from to legal within goes t m =

@@ -2,3 +2,4 @@ pub mod MessageLemmas
 pub mod SenderLemmas
 pub mod CourseLemmas
 pub mod AddLemmas
+pub mod CountLemmas

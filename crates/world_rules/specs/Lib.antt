@@ -1,3 +1,4 @@
 pub mod Flows
 pub mod World
 pub mod Short
+pub mod Counts

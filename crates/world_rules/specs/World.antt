@@ -57,13 +57,20 @@ pub record IsSealerOf (session : Session) (sealer : Option SealerState) : Type 0
   pub paired : is_some sealer ≡ is_some session.pass
   pub nonces : IfSome sealer (λ s. AreNonces s.nonces)
 
--- a run: what the sender did, the receiver's steps, the newest first, its sealer, and the datagrams that it put on
--- each link, the oldest first
+-- a datagram that came to the receiver, the link that it came on, and its place there, from 0
+pub record Carried : Type 0 where
+  pub link : ℕ
+  pub place : ℕ
+  pub datagram : Datagram
+
+-- a run: what the sender did, the receiver's steps, the newest first, its sealer, the datagrams that it put on each
+-- link, the oldest first, and those that came to it, the newest first
 pub record Course : Type 0 where
   pub work : Work
   pub steps : List Step
   pub sealer : Option SealerState
   pub backward : List (List Datagram)
+  pub carried : List Carried
 
 -- how many links there are
 abbrev pub links_of : Setup → ℕ
@@ -98,7 +105,13 @@ backward_at course link place = slice_get (get_or course.backward link []) place
 -- the sender's work goes on, and nothing else changes
 pub record Works (P : Work → Work → Type 0) (from to : Course) : Type 0 where
   pub works : P from.work to.work
-  pub is : to ≡ record { work = to.work; steps = from.steps; sealer = from.sealer; backward = from.backward }
+  pub is : to ≡ record {
+    work = to.work;
+    steps = from.steps;
+    sealer = from.sealer;
+    backward = from.backward;
+    carried = from.carried;
+  }
 
 -- a payload is sent
 pub record SendsIn (setup : Setup) (micros : ℕ) (payload : List ℕ) (from to : Work) : Type 0 where
@@ -153,6 +166,7 @@ pub record Receives (setup : Setup) (step : Step) (from to : Course) : Type 0 wh
     steps = step_answered step result ∷ from.steps;
     sealer = after_pairs (answer_count result) from.sealer;
     backward = set from.backward step.link (get_or from.backward step.link [] ++ datagrams_made result);
+    carried = from.carried;
   }
 
 -- unless it has ended
@@ -164,16 +178,33 @@ abbrev pub step_carried : Setup → ℕ → ℕ → Datagram → Step
 step_carried setup link micros d =
     record { link = link; tick = tick_of micros; input = input_read micros (item_of setup.session d.channel d.octets) }
 
--- a datagram comes to the receiver, if it is there
-abbrev pub CarriesIf : Setup → ℕ → ℕ → Option Datagram → Course → Course → Type 0
-CarriesIf setup link micros None from to = to ≡ from
-CarriesIf setup link micros (Some d) from to = ReceivesIf setup (step_carried setup link micros d) from to
+-- one more datagram has come
+abbrev pub with_carried : ℕ → ℕ → Datagram → Course → Course
+with_carried link place d from = record {
+  work = from.work;
+  steps = from.steps;
+  sealer = from.sealer;
+  backward = from.backward;
+  carried = record { link = link; place = place; datagram = d } ∷ from.carried;
+}
+
+-- a datagram comes to the receiver, if it is there: also to one that has ended
+abbrev pub CarriesIf : Setup → ℕ → ℕ → ℕ → Option Datagram → Course → Course → Type 0
+CarriesIf setup link place micros None from to = to ≡ from
+CarriesIf setup link place micros (Some d) from to =
+    ReceivesIf setup (step_carried setup link micros d) (with_carried link place d from) to
 
 -- ---- another flow
 
 -- the next flow begins
 abbrev pub renewed_in : ℕ → ℕ → Course → Course
-renewed_in flow first from = record { work = renewed_as flow first from.work; steps = from.steps; sealer = from.sealer; backward = from.backward }
+renewed_in flow first from = record {
+  work = renewed_as flow first from.work;
+  steps = from.steps;
+  sealer = from.sealer;
+  backward = from.backward;
+  carried = from.carried;
+}
 
 -- an SSRC of 32 bits is even, and none of the earlier flows'
 abbrev pub is_new : Setup → Course → ℕ → Bool
@@ -186,7 +217,7 @@ is_new setup from flow = nat_lt flow (2 ^ 32) && (flow % 2 == 0) && not (is_know
 abbrev pub Makes : Setup → Move → Course → Course → Type 0
 Makes setup (moves.Send micros payload) from to =
     IfElse (nat_le (length payload) 1500) (Works (SendsIn setup micros payload) from to) (to ≡ from)
-Makes setup (moves.Carry link place micros) from to = CarriesIf setup link micros (forward_at setup from link place) from to
+Makes setup (moves.Carry link place micros) from to = CarriesIf setup link place micros (forward_at setup from link place) from to
 Makes setup (moves.CarryBack link place micros) from to =
     FeedsIf setup micros link (compound_carried setup (backward_at from link place)) from to
 Makes setup (moves.SenderTick micros) from to = Works (TicksIn setup micros) from to
@@ -204,6 +235,7 @@ beginning near far links = record {
   steps = [];
   sealer = far;
   backward = replicate links [];
+  carried = [];
 }
 
 -- moves, the newest first

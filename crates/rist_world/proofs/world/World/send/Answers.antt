@@ -6,8 +6,8 @@ use Rattle.rist_world.proofs.world.World.send.Goals as goal
 
 pub returns : goal.returns
 returns c = record {
-  value = ok_any c.note_sent.result
+  value = ok_any c.check_memory.result
       (λ setup from is.
       let now = subst (λ w. IsWorldAfter setup w from) (sym c.self.view_is) is in
-      send_goes setup _ c.send-sent.new.self _ _ _ from c.args.us c.args.payload.now c.send-sent.result now c.send-sent.ensures.set c.deref_mut.ensures.value (search (rules, places)) c.send-sent.auto.links (c.send-sent.ensures.work from.work now.sender));
+      send_goes setup _ c.send-sent.new.self _ _ _ c.send.new.self from c.args.us c.args.payload.now c.send-sent.result c.send.ensures.value now c.send-sent.ensures.set c.deref_mut.ensures.value (search (rules, places)) c.send-sent.auto.links (c.send-sent.ensures.work from.work now.sender));
 }

@@ -1,0 +1,14 @@
+use Rattle.std.proofs.Common.{rules, ap, sym, ◌∙◌, ◌+◌, length}
+use Rattle.request_rules.specs.Words.{numbers_in}
+use Rattle.rist_world.proofs.TallyLemmas.{range_numbers, mask_numbers}
+use Rattle.rist_world.proofs.tally.numbers_of.Goals as goal
+
+pub returns-in-Range : goal.returns-in-Range
+returns-in-Range c = record {
+  value = ap (λ n. 1 + n) c.from.ensures ∙ range_numbers c.args.word.now ∙ ap (λ k. length (numbers_in k c.args.word.now)) (sym c.in-Range.is);
+}
+
+pub returns-in-Mask : goal.returns-in-Mask
+returns-in-Mask c = record {
+  value = ap (λ n. 1 + n) c.from-in-Mask.ensures ∙ mask_numbers c.args.word.now (search rules) ∙ ap (λ k. length (numbers_in k c.args.word.now)) (sym c.in-Mask.is);
+}
