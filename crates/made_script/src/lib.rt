@@ -4,8 +4,6 @@
 
 mod draws;
 mod payload;
-#[cfg(test)]
-mod tests;
 mod words;
 
 pub use draws::{Draws, Due, Held, MAX_COUNT, MAX_LINKS, SLOTS_AFTER, Script, Way};

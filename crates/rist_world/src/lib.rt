@@ -9,8 +9,6 @@ mod mover;
 mod running;
 mod summary;
 mod tally;
-#[cfg(test)]
-mod tests;
 mod wire;
 mod world;
 mod written;

@@ -1,5 +1,5 @@
-//! Worked rows.
-use super::*;
+//! Worked draws of a made script.
+use made_script::{Draws, Due, Held, PAYLOAD_LEN, Script, Way, generator, payload_of};
 use rand_core::utils::NextWord;
 use std::alloc::Global;
 use std::test::Fail;

@@ -1,7 +1,6 @@
 //! Worked scripts.
 ghost use Rattle.std.specs.Prelude.{◌≤◌};
 
-use super::*;
 use bond_links::Bond;
 use outside_io::Profile;
 use outside_net::Octets;
@@ -9,6 +8,7 @@ use request_rules::NackKind;
 use rist_ends::Settings as ReceiverSettings;
 use rist_sender::Settings as SenderSettings;
 use rist_wire::Session;
+use rist_world::{Listed, Move, Report, SUMMARY_LEN, drill, drill_made, put_summary};
 use seq_unwrap::Width;
 use sha2::{Digest, Sha256};
 use std::alloc::Global;
