@@ -12,8 +12,8 @@ use rist_ends::{Answer, Outs, Receiver, Settings};
 use rist_wire::Opener;
 use std::alloc::Global;
 use std::marker::Brand;
-use std::sync::{Arc, Mutex, Wait};
 use std::sync::atomic::{AtomicU64, Ordering};
+use std::sync::{Arc, Mutex, Wait};
 use std::test::Fail;
 use std::thread::Threads;
 
