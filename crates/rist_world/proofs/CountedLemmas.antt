@@ -1,5 +1,5 @@
 -- What came of a course, in numbers.
-use Rattle.std.proofs.Common.{◌≡◌, ◌∙◌, ℕ, ◌<◌, Bool, true, false, length, get_or, Option, None, refl, sym, ap, subst, arith, slice_get}
+use Rattle.std.proofs.Common.{◌≡◌, ◌∙◌, ℕ, ◌<◌, Bool, true, false, length, get_or, None, refl, sym, ap, arith, slice_get}
 use Rattle.std.specs.Prelude.{nat_lt, if◌then◌else◌, cond, is_some, unwrap_or, not, ◌&&◌}
 use Rattle.std.specs.List.{sum_by, count_by, range_with_len}
 use Rattle.std.proofs.lemmas.Bool.{lt-ltb}
@@ -10,7 +10,7 @@ use Rattle.request_rules.specs.Steps.{buffer_history}
 use Rattle.rist_control.specs.Control.{ControlSettings}
 use Rattle.rist_ends.specs.Counts.{capped, verdict_count}
 use Rattle.world_rules.specs.Counts.{media_if, place_count, is_lost, is_resent}
-use Rattle.world_rules.specs.World.{Setup, Course, links_of, forward_on, forward_at}
+use Rattle.world_rules.specs.World.{Setup, Course, forward_on, forward_at}
 use Rattle.rist_world.specs.declared.counts.Counts.{Counts}
 use Rattle.rist_world.specs.Tally.{came_at}
 use Rattle.rist_world.specs.World.{WorldState, IsWorldAfter, none, phase_of}

@@ -1,7 +1,7 @@
 -- A world after a move of its receiver.
 use Rattle.std.proofs.Common.{◌≡◌, ◌≢◌, ◌∙◌, ℕ, zero, suc, ◌+◌, ◌*◌, ◌<◌, Bool, true, false, List, [], ◌∷◌, ◌++◌, length, map, replicate, set, get_or, Option, None, Some, Result, Ok, Err, IfOk, refl, sym, ap, subst, arith, slice_get, append-nil}
 use Rattle.std.specs.Prelude.{nat_lt, if◌then◌else◌, is_err, is_some, cond, ◌&&◌, ◌||◌, ◌==◌}
-use Rattle.std.specs.List.{count_by, sum_by}
+use Rattle.std.specs.List.{count_by}
 use Rattle.std.proofs.lemmas.List.Sums.{sum_by-cons}
 use Rattle.std.proofs.lemmas.Bool.{true≢false, le-ltb, ltb-true}
 use Rattle.std.proofs.lemmas.List.{set-get_or, map-set, get_or-map, length-replicate, get_or-replicate}

@@ -1,5 +1,5 @@
 -- After an end as many payloads are out as packets were kept.
-use Rattle.std.proofs.Common.{◌≡◌, ◌∙◌, ℕ, suc, ◌+◌, max, Bool, true, false, List, [], ◌∷◌, ◌++◌, length, map, refl, sym, ap, arith, length-append}
+use Rattle.std.proofs.Common.{◌≡◌, ◌∙◌, ℕ, suc, ◌+◌, max, Bool, true, false, List, [], ◌∷◌, length, refl, ap, arith, length-append}
 use Rattle.std.specs.Prelude.{if◌then◌else◌, cond, nat_lt}
 use Rattle.std.proofs.lemmas.List.{length-map}
 use Rattle.receiver_rules.specs.declared.verdict.Verdict.{Verdict}
@@ -8,8 +8,8 @@ use Rattle.receiver_rules.specs.declared.verdict.Verdict.TheVariants.{Kept}
 use Rattle.receiver_rules.specs.declared.limits.Limits.{Limits}
 use Rattle.receiver_rules.specs.Steps as buffer
 use Rattle.receiver_rules.specs.Steps.{Arrival, effective_time, has_ended}
-use Rattle.receiver_rules.specs.Packets.{Packet, Moment, At, Ever, insert_by_number, by_number, is_kept}
-use Rattle.receiver_rules.specs.Epochs.{Epoch, opens_next, new_epoch, epoch_at, earlier_at, epoch_with, epochs_of, verdict_in, packet_in}
+use Rattle.receiver_rules.specs.Packets.{Packet, At, Ever, insert_by_number, by_number, is_kept}
+use Rattle.receiver_rules.specs.Epochs.{Epoch, opens_next, new_epoch, epoch_at, earlier_at, epochs_of, verdict_in, packet_in}
 use Rattle.receiver_rules.specs.History.{packets_over, playout_of, played_out_packets, released_payloads}
 use Rattle.receiver_rules.proofs.CopyOrderLemmas.{playout_end}
 use Rattle.request_rules.specs.Steps.{Input, Media, Control, Keepalive, Refused, Tick, End, Step, buffer_history}

@@ -68,7 +68,8 @@ fn count_all(world: &mut World) -> (u64, u64)
     (lost, resent)
 }
 
-/// What came of the moves that a world has made. Each datagram that the sender put is opened to see whether it is media.
+/// What came of the moves that a world has made. Each datagram that the sender put is opened, to see whether it is
+/// media.
 pub(crate) fn counts_of(world: &mut World) -> Counts
     ensures value { (setup : Setup) (course : Course) → IsWorldAfter setup world.old course
         → Counted setup course result }

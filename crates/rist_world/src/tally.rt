@@ -74,7 +74,13 @@ impl Model for Tally {
 
     ghost Value = { TallyState };
 
-    ghost view = { λ t. record { kind = t.kind; sent = t.sent; carried = t.carried; asked = t.asked; came = t.came.items } };
+    ghost view = { λ t. record {
+      kind = t.kind;
+      sent = t.sent;
+      carried = t.carried;
+      asked = t.asked;
+      came = t.came.items;
+    } };
 }
 
 /// Of media, whether it says that it is a retransmission; nothing of what is no media.
@@ -121,7 +127,7 @@ fn numbers_of(kind: NackKind, word: &AskWord) -> u64
 }
 
 impl Tally {
-    ghost use Rattle.std.specs.Prelude.{◌≡◌, ◌<◌, ℕ, [], replicate, length, get_or, true, false, ◌==◌, ◌||◌, ◌&&◌, if◌then◌else◌, nat_lt, IfOk};
+    ghost use Rattle.std.specs.Prelude.{◌≡◌, ◌<◌, ℕ, [], replicate, length, ◌==◌, ◌||◌, ◌&&◌, IfOk};
     ghost use Rattle.world_rules.specs.Counts.{number_count};
     ghost use Rattle.rist_world.specs.Tally.{came_at};
 

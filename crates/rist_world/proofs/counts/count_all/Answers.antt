@@ -1,4 +1,4 @@
-use Rattle.std.proofs.Common.{rules, ◌∙◌, ap, sym, subst}
+use Rattle.std.proofs.Common.{rules, ◌∙◌, ap}
 use Rattle.rist_world.specs.Counted.{lost_at, resent_at, count_on}
 use Rattle.rist_ends.specs.Counts.{capped}
 use Rattle.rist_world.proofs.TallyLemmas.{added_more}

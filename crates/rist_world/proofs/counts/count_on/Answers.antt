@@ -1,4 +1,4 @@
-use Rattle.std.proofs.Common.{rules, ◌∙◌, ap, sym}
+use Rattle.std.proofs.Common.{rules, ◌∙◌, ap}
 use Rattle.rist_world.specs.Tally.{raised_if}
 use Rattle.rist_world.specs.Counted.{lost_at, resent_at}
 use Rattle.rist_world.proofs.TallyLemmas.{raised_more}

@@ -1,4 +1,4 @@
-use Rattle.std.proofs.Common.{rules, arith, sym}
+use Rattle.std.proofs.Common.{rules, arith}
 use Rattle.rist_world.proofs.TallyLemmas.{pushed}
 use Rattle.rist_world.proofs.tally.Came.add.Goals as goal
 

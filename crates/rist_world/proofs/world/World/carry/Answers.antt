@@ -1,6 +1,5 @@
 use Rattle.std.proofs.Common.{rules, ◌∙◌, ap, take}
 use Rattle.std.specs.Prelude.{is_some}
-use Rattle.std.proofs.lemmas.List.{places}
 use Rattle.rist_world.proofs.ReceiverLemmas.{carry_all}
 use Rattle.rist_world.proofs.world.World.carry.Goals as goal
 
