@@ -1,5 +1,6 @@
 -- What is counted of the records of a capture, and how it is written.
-use Rattle.std.specs.Prelude.{ℕ, List, ◌++◌, codes, decimal}
+use Rattle.std.specs.Prelude.{ℕ, List, ◌++◌, codes}
+use Rattle.count_lines.specs.Lines.{line}
 use Rattle.capture_file.specs.Capture.{Record}
 use Rattle.receiver_rules.specs.declared.limits.Limits.{Limits}
 use Rattle.receiver_rules.specs.declared.verdict.Verdict.TheVariants.{Kept, Stranger, Exhausted, Late, Behind, Early, Twice, Span}
@@ -22,10 +23,6 @@ counts_of limits history = record {
   span = capped (verdict_count Span limits history);
   refused = capped (refused_count history);
 }
-
--- a name, a blank, a count in decimal digits and a line feed
-abbrev pub line : List ℕ → ℕ → List ℕ
-line name count = ((name ++ codes " ") ++ decimal count) ++ codes "\n"
 
 -- a line for each verdict, in the order of the tests, and one for what was refused
 abbrev pub text_of : Counts → List ℕ

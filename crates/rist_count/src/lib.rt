@@ -7,4 +7,3 @@ mod counting;
 mod text;
 
 pub use counting::count;
-pub use text::TEXT_LEN;

@@ -1,31 +1,12 @@
 //! Counts as text.
-ghost use Rattle.std.specs.Prelude.{◌≡◌, ◌≤◌, ◌+◌, ◌++◌, length, take};
-ghost use Rattle.rist_count.specs.Counted.{line, text_of};
+ghost use Rattle.std.specs.Prelude.{◌≡◌, ◌≤◌, take};
+ghost use Rattle.rist_count.specs.Counted.{text_of};
 
-use itoa::Buffer;
-use octet_fields::put_at;
+use count_lines::{MAX_COUNT_LEN, put_line};
 use rist_ends::Counts;
 
-/// The octets of the longest line: a name of nine letters, a blank, twenty digits and a line feed.
-const LINE_LEN: usize = 31;
-
-/// The octets of the longest text: nine lines.
-pub const TEXT_LEN: usize = 279;
-
-// Puts a line to its place, and says where it ends.
-#[tactic(auto, using(crate::proofs::TextLemmas::put_in_turn))]
-fn put_line(out: &mut [u8; TEXT_LEN], at: usize, name: &str, count: u64) -> usize
-    requires short { length name.now ≤ 9 }
-    requires room { at + LINE_LEN ≤ TEXT_LEN }
-    ensures octets { take result out.new ≡ take at out.old ++ line name.now count }
-    ensures within { result ≤ at + LINE_LEN }
-{
-    let mut digits = Buffer::new();
-    let at = put_at(out, at, name.as_bytes());
-    let at = put_at(out, at, b" ");
-    let at = put_at(out, at, digits.format(count).as_bytes());
-    put_at(out, at, b"\n")
-}
+/// The octets of the longest text: nine names of 52 letters in all, each with its count.
+pub const TEXT_LEN: usize = 52 + 9 * MAX_COUNT_LEN;
 
 /// Puts a line for each verdict and one for what was refused into the front of the block, and says how long they are.
 pub fn put_text(counts: &Counts, out: &mut [u8; TEXT_LEN]) -> usize

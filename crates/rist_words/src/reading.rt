@@ -67,45 +67,21 @@ fn command_line<'a>(
     ensures usage { result ≡ Err Refused.Usage → command_line command.now (rows_of (found_of values.now)) ≡ None }
 {
     if command == "replay" {
-        match replay_line(values) {
-            Some(line) => Ok(Line::Replay(line)),
-            None => Err(Refused::Usage),
-        }
+        Ok(Line::Replay(replay_line(values).ok_or(Refused::Usage)?))
     } else if command == "show" {
-        match show_line(values) {
-            Some(line) => Ok(Line::Show(line)),
-            None => Err(Refused::Usage),
-        }
+        Ok(Line::Show(show_line(values).ok_or(Refused::Usage)?))
     } else if command == "count" {
-        match count_line(values) {
-            Some(line) => Ok(Line::Count(line)),
-            None => Err(Refused::Usage),
-        }
+        Ok(Line::Count(count_line(values).ok_or(Refused::Usage)?))
     } else if command == "pack" {
-        match pack_line(values) {
-            Some(line) => Ok(Line::Pack(line)),
-            None => Err(Refused::Usage),
-        }
+        Ok(Line::Pack(pack_line(values).ok_or(Refused::Usage)?))
     } else if command == "send" {
-        match send_line(alloc, values) {
-            Ok(line) => Ok(Line::Send(line)),
-            Err(refused) => Err(refused),
-        }
+        Ok(Line::Send(send_line(alloc, values)?))
     } else if command == "recv" {
-        match recv_line(alloc, values) {
-            Ok(line) => Ok(Line::Recv(line)),
-            Err(refused) => Err(refused),
-        }
+        Ok(Line::Recv(recv_line(alloc, values)?))
     } else if command == "gate" {
-        match gate_line(alloc, values) {
-            Ok(line) => Ok(Line::Gate(line)),
-            Err(refused) => Err(refused),
-        }
+        Ok(Line::Gate(gate_line(alloc, values)?))
     } else if command == "drill" {
-        match drill_line(values) {
-            Some(line) => Ok(Line::Drill(line)),
-            None => Err(Refused::Usage),
-        }
+        Ok(Line::Drill(drill_line(values).ok_or(Refused::Usage)?))
     } else {
         Err(Refused::Usage)
     }

@@ -1,4 +1,4 @@
--- Lines behind one another.
+-- Parts behind one another.
 use Rattle.std.proofs.Common.{◌≡◌, ◌∙◌, ◌++◌, ℕ, List, ap, sym}
 use Rattle.std.proofs.lemmas.List.{append_assoc}
 
