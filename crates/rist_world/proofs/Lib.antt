@@ -2,7 +2,6 @@ pub mod TallyLemmas
 pub mod SenderLemmas
 pub mod ReceiverLemmas
 pub mod RunLemmas
-pub mod TextLemmas
 pub mod MadeLemmas
 pub mod ScriptLemmas
 pub mod ReleasedLemmas

@@ -1,11 +1,8 @@
 -- How what came of a script is written.
-use Rattle.std.specs.Prelude.{ℕ, List, ◌++◌, codes, decimal}
+use Rattle.std.specs.Prelude.{ℕ, List, ◌++◌, codes}
+use Rattle.count_lines.specs.Lines.{line}
 use Rattle.hex.specs.Hex.{encode_lower}
 use Rattle.rist_world.specs.declared.running.Report.{Report}
-
--- a name, a blank, a count in decimal digits and a line feed
-abbrev pub line : List ℕ → ℕ → List ℕ
-line name count = ((name ++ codes " ") ++ decimal count) ++ codes "\n"
 
 -- a line for each count, and the SHA-256 in hexadecimal digits
 abbrev pub summary_of : Report → List ℕ
