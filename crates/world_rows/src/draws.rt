@@ -6,7 +6,7 @@ use std::test::Fail;
 
 /// The first five octets and the last one of a transport packet.
 fn ends_of(payload: &[u8; PAYLOAD_LEN], packet: usize) -> Option<[u8; 6]> {
-    let packet = payload.get(188 * packet..)?;
+    let packet = payload.get(188_usize.checked_mul(packet)?..)?;
     let mut ends = [0; 6];
     for place in 0..5 {
         ends[place] = *packet.get(place)?;
