@@ -168,36 +168,6 @@ fn one_compound_gets_at_most_256_and_each_number_once(rt: HostRuntime) -> Result
     Ok(())
 }
 
-// A report and a description, and then a range NACK of all 65,536 numbers from 0 on; and one that names 5 twice.
-const ASKS_FOR_ALL: [u8; 40] = [
-    0x80, 0xC9, 0, 1, 0, 0, 0, 7, 0x81, 0xCA, 0, 3, 0, 0, 0, 7, 1, 4, 0x72, 0x69, 0x73, 0x74, 0, 0,
-    0x80, 0xCC, 0, 3, 0x10, 0x20, 0x30, 0x40, 0x52, 0x49, 0x53, 0x54, 0, 0, 0xFF, 0xFF,
-];
-
-const ASKS_TWICE: [u8; 44] = [
-    0x80, 0xC9, 0, 1, 0, 0, 0, 7, 0x81, 0xCA, 0, 3, 0, 0, 0, 7, 1, 4, 0x72, 0x69, 0x73, 0x74, 0, 0,
-    0x80, 0xCC, 0, 4, 0x10, 0x20, 0x30, 0x40, 0x52, 0x49, 0x53, 0x54, 0, 5, 0, 0, 0, 5, 0, 0,
-];
-
-#[test]
-fn one_compound_gets_at_most_256_and_each_number_once(rt: HostRuntime) -> Result<(), Fail> {
-    let alloc = rt.alloc();
-    let mut links = Vec::new(alloc);
-    links.push(ScriptLink::with(alloc, Vec::new(alloc), true, 620, &[], &[])?)?;
-    let mut flow = flow_over(alloc, Profile::Simple, 0, Bond::duplicate(1), links)?;
-    for _ in 0..300 {
-        assert_eq!(rt; flow.send(0, b"A"), Ok(()));
-    }
-    for resent in [256, 44, 0] {
-        assert_eq!(rt; flow.feedback(0, 0, &ASKS_FOR_ALL)?, resent);
-    }
-    assert_eq!(rt; flow.feedback(20_000, 0, &ASKS_TWICE)?, 1);
-    let fifth = [0x80, 0x21, 0, 5, 0, 0, 0, 0, 0x10, 0x20, 0x30, 0x41, b'A'];
-    assert_eq!(rt; flow.took(0, 600), Some((Channel::Media, fifth.as_slice())));
-    assert_eq!(rt; flow.took(0, 601), None);
-    Ok(())
-}
-
 #[test]
 fn payloads_are_shared_three_to_one(rt: HostRuntime) -> Result<(), Fail> {
     // Payloads 0, 1, 2 and 4 on link 0, 3 on link 1.
