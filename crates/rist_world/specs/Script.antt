@@ -64,10 +64,11 @@ slot_moves script slot dues =
 abbrev pub moves_at : Script → ℕ → List Due → List Move
 moves_at script slot dues = if nat_lt slot (slot_count script) then slot_moves script slot dues else End (micros_of slot) ∷ []
 
--- how many datagrams each end has put on a link
+-- how many datagrams the sender has put on a link
 abbrev pub forward_count : Setup → Course → ℕ → ℕ
 forward_count setup course link = if nat_lt link (links_of setup) then length (forward_on setup course link) else 0
 
+-- how many the receiver has put on it
 abbrev pub backward_count : Course → ℕ → ℕ
 backward_count course link = length (get_or course.backward link [])
 

@@ -21,8 +21,8 @@ pub trait Mover {
 
     /// The next move, or none where the script has come to its end. The world is what the moves so far have made.
     fn next(&mut self, alloc: Global, world: &World) -> Result<Option<Move>, NoMemory>
-        ensures next { IfOk result (λ next. GivesNext (script self.old) (given self.old) (script self.new) (given self.new)
-            world.now next) };
+        ensures next { IfOk result (λ next. GivesNext (script self.old) (given self.old)
+            (script self.new) (given self.new) world.now next) };
 }
 
 /// The moves of a list, in their order.
