@@ -86,7 +86,10 @@ impl Model for Draws {
 
     ghost view = { λ d. record { script = d.script; slot = d.slot; words = d.words; held = d.held; dues = d.dues.items } };
 
-    ghost invariant = { λ d. (d.script.links ≤ 4) × (d.script.count ≤ 5000) × (d.slot ≤ d.script.count + 1100) };
+    ghost use Rattle.made_script.specs.declared.draws.TheConstants.{MAX_LINKS, MAX_COUNT, SLOTS_AFTER};
+
+    ghost invariant = { λ d. (d.script.links ≤ MAX_LINKS) × (d.script.count ≤ MAX_COUNT)
+        × (d.slot ≤ d.script.count + SLOTS_AFTER) };
 }
 
 // A datagram of a link that draws this word, if it isn't lost.
@@ -121,13 +124,14 @@ fn push_due(dues: &mut Vec<Due>, due: Option<Due>) -> Result<(), NoMemory>
 }
 
 impl Draws {
+    ghost use Rattle.made_script.specs.declared.draws.TheConstants.{MAX_LINKS, MAX_COUNT};
     ghost use Rattle.made_script.specs.Draws.{IsDrawn, nothing_drawn, draw, is_pending};
     ghost use Rattle.std.specs.Prelude.{◌≡◌, ◌≤◌, ◌<◌, ◌+◌, ◌++◌, IfOk};
 
     /// Before the first slot.
     pub fn with(alloc: Global, script: Script) -> Draws
-        requires links { script.links ≤ 4 }
-        requires count { script.count ≤ 5000 }
+        requires links { script.links ≤ MAX_LINKS }
+        requires count { script.count ≤ MAX_COUNT }
         ensures drawn { IsDrawn result nothing_drawn }
         ensures script { result.script ≡ script }
         ensures slot { result.slot ≡ 0 }

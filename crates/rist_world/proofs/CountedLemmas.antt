@@ -1,6 +1,6 @@
 -- What came of a course, in numbers.
-use Rattle.std.proofs.Common.{◌≡◌, ◌∙◌, ℕ, ◌<◌, Bool, true, false, length, get_or, None, refl, sym, ap, arith, slice_get}
-use Rattle.std.specs.Prelude.{nat_lt, if◌then◌else◌, cond, is_some, unwrap_or, not, ◌&&◌}
+use Rattle.std.proofs.Common.{◌≡◌, ◌∙◌, ℕ, ◌<◌, Bool, true, false, length, get_or, sym, ap, arith}
+use Rattle.std.specs.Prelude.{if◌then◌else◌, cond, is_some, unwrap_or, not, ◌&&◌}
 use Rattle.std.specs.List.{sum_by, count_by, range_with_len}
 use Rattle.std.proofs.lemmas.Bool.{lt-ltb}
 use Rattle.reorder_buffer.specs.declared.phase.Phase.TheVariants.{Failed}
@@ -14,8 +14,8 @@ use Rattle.world_rules.specs.World.{Setup, Course, forward_on, forward_at}
 use Rattle.rist_world.specs.declared.counts.Counts.{Counts}
 use Rattle.rist_world.specs.Tally.{came_at}
 use Rattle.rist_world.specs.World.{WorldState, IsWorldAfter, none, phase_of}
-use Rattle.rist_world.specs.Counted.{held_at, media_at, lost_at, resent_at, count_on, Counted}
-use Rattle.rist_world.proofs.ReceiverLemmas.{carried_is}
+use Rattle.rist_world.specs.Counted.{held_at, lost_at, resent_at, count_on, Counted}
+use Rattle.rist_world.proofs.MarkLemmas.{media_is}
 use Rattle.rist_world.proofs.TallyLemmas.{one_if, sum_same}
 use Rattle.rist_world.proofs.ReleasedLemmas.{released_all}
 
@@ -24,11 +24,6 @@ use Rattle.rist_world.proofs.ReleasedLemmas.{released_all}
 held_is : (setup : Setup) (w : WorldState) (course : Course) (link : ℕ) → link < length w.forward → IsWorldAfter setup w course → held_at w link ≡ length (forward_on setup course link)
 held_is setup w course link among is =
     ap (λ (c : Bool). if c then length (get_or w.forward link none).put else 0) (lt-ltb _ _ among) ∙ ap length (is.forward link none (omega (arith, among, is.links)))
-
-media_is : (setup : Setup) (w : WorldState) (course : Course) (link place : ℕ) → IsWorldAfter setup w course → media_at w link place ≡ media_if setup.session (forward_at setup course link place)
-media_is setup w course link place is =
-    ap (λ session. media_if session (if nat_lt link (length w.forward) then slice_get (get_or w.forward link none).put place else None)) is.far
-    ∙ ap (media_if setup.session) (sym (carried_is setup w course link place _ is refl))
 
 lost_is : (setup : Setup) (w : WorldState) (course : Course) (link place : ℕ) → link < length w.forward → IsWorldAfter setup w course → lost_at w link place ≡ is_lost setup course link place
 lost_is setup w course link place among is =

@@ -1,3 +1,4 @@
+pub mod MarkLemmas
 pub mod TallyLemmas
 pub mod SenderLemmas
 pub mod ReceiverLemmas

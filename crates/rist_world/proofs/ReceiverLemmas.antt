@@ -3,7 +3,7 @@ use Rattle.std.proofs.Common.{◌≡◌, ◌≢◌, ◌∙◌, ℕ, zero, suc, �
 use Rattle.std.specs.Prelude.{nat_lt, if◌then◌else◌, is_err, is_some, cond, ◌&&◌, ◌||◌, ◌==◌}
 use Rattle.std.specs.List.{count_by}
 use Rattle.std.proofs.lemmas.List.Sums.{sum_by-cons}
-use Rattle.std.proofs.lemmas.Bool.{true≢false, le-ltb, ltb-true}
+use Rattle.std.proofs.lemmas.Bool.{true≢false, ltb-true}
 use Rattle.std.proofs.lemmas.List.{set-get_or, map-set, get_or-map, length-replicate, get_or-replicate}
 use Rattle.outside_io.specs.Told.{Writes}
 use Rattle.outside_net.specs.Links.{Datagram}
@@ -43,6 +43,7 @@ use Rattle.world_rules.specs.Counts.{sent_count, number_count, asked_count, carr
 use Rattle.world_rules.proofs.CountLemmas.{words_in, asked_then}
 use Rattle.rist_ends.specs.Counts.{capped}
 use Rattle.request_rules.specs.declared.word.AskWord.{AskWord}
+use Rattle.world_rules.proofs.CourseLemmas.{none_short}
 use Rattle.rist_world.specs.Tally.{TallyState, IsTallyOf, raised_if, came_at}
 use Rattle.rist_world.specs.World.{WireState, WrittenState, WorldState, IsWorldAfter, GoesTo, GoesOn, phase_of, datagrams_on, none, setup_of}
 use Rattle.rist_world.proofs.SenderLemmas.{some_same}
@@ -72,10 +73,6 @@ not_stopped : (outcome : Outcome) → is_stepped outcome ≡ true → outcome �
 not_stopped outcome is e = true≢false (sym is ∙ ap is_stepped e)
 
 -- ---- a step that couldn't be answered
-
-none_short : (left : Option ℕ) → is_short left 0 ≡ false
-none_short None = refl
-none_short (Some n) = le-ltb n 0 (omega arith)
 
 -- a step that makes no datagrams is always answered
 silent : (settings : ControlSettings) (shutter : ShutterState) (before : List Step) (step : Step) (result : Result (Option Outs) seal.Spent) → AnswersAfter settings shutter before step result
@@ -157,7 +154,7 @@ pub step_goes : (setup : Setup) (old : WorldState) (r : ReceiverState) (w : Writ
     → t ≡ record old.tally { asked = capped (old.tally.asked + number_count old.tally.kind (words_in (result_of outcome))) } → IsWorldAfter setup old from
     → Steps old.receiver r told outcome (Some old.written.octets) (Some w.octets)
     → datagrams_on b ≡ set (datagrams_on old.backward) told.link (get_or (datagrams_on old.backward) told.link [] ++ datagrams_made (result_of outcome))
-    → GoesTo setup (record { sender = old.sender; near = old.near; receiver = r; far = old.far; written = w; forward = old.forward; backward = b; flows = old.flows; tally = t }) (ReceivesIf setup (step_of told) from)
+    → GoesTo setup (record { sender = old.sender; near = old.near; receiver = r; far = old.far; written = w; forward = old.forward; backward = b; media = old.media; flows = old.flows; tally = t }) (ReceivesIf setup (step_of told) from)
 step_goes setup old r w b t from told outcome stepped counted is s back =
     let running : has_ended (buffer_history from.steps) ≡ false
     = open_then (has_ended (buffer_history from.steps)) old.receiver.buffer.phase is.phase (λ closed. not_stopped outcome stepped (s.ended closed)) in
@@ -190,6 +187,7 @@ step_goes setup old r w b t from told outcome stepped counted is s back =
         written = written_then old.written.octets w.octets _ _ is.written (limits_then old.receiver setup from (step_of told) (Some old.written.octets) (Some w.octets) is.control (if_stepped outcome stepped s.sink from.steps is.receiver))
             ∙ ap (released_bytes setup.control.limits) (sym same);
         backward = back ∙ ap (λ ds. set ds told.link (get_or ds told.link [] ++ datagrams_made (result_of outcome))) is.backward;
+        media = record { links = is.media.links; marks = is.media.marks };
         flows = is.flows;
         tally = tally_asked setup old.tally t from to (number_count setup.control.policy.kind (words_in (result_of outcome)))
             (counted ∙ ap (λ kind. record old.tally { asked = capped (old.tally.asked + number_count kind (words_in (result_of outcome))) }) is.tally.kind) refl refl
@@ -208,7 +206,7 @@ none_asked setup t from words none is =
 -- a step that makes nothing
 pub quiet_goes : (setup : Setup) (old : WorldState) (r : ReceiverState) (w : WrittenState) (from : Course) (told : Told) (outcome : Outcome) → is_stepped outcome ≡ true → datagrams_made (result_of outcome) ≡ [] → words_in (result_of outcome) ≡ []
     → IsWorldAfter setup old from → Steps old.receiver r told outcome (Some old.written.octets) (Some w.octets)
-    → GoesTo setup (record { sender = old.sender; near = old.near; receiver = r; far = old.far; written = w; forward = old.forward; backward = old.backward; flows = old.flows; tally = old.tally }) (ReceivesIf setup (step_of told) from)
+    → GoesTo setup (record { sender = old.sender; near = old.near; receiver = r; far = old.far; written = w; forward = old.forward; backward = old.backward; media = old.media; flows = old.flows; tally = old.tally }) (ReceivesIf setup (step_of told) from)
 quiet_goes setup old r w from told outcome stepped nothing silent is s =
     step_goes setup old r w old.backward old.tally from told outcome stepped (none_asked setup old.tally from (words_in (result_of outcome)) silent is.tally) is s
     (sym (ap (λ ds. set (datagrams_on old.backward) told.link (get_or (datagrams_on old.backward) told.link [] ++ ds)) nothing
@@ -219,7 +217,7 @@ quiet_goes setup old r w from told outcome stepped nothing silent is s =
 pub made_goes : {A E : Type 0} → (old : WorldState) (r : ReceiverState) (w : WrittenState) (lent b back : List WireState) (t : TallyState) (told : Told) (outs : Outs) (words : List AskWord) (result : Result A E) {whole : WorldState} → t ≡ record old.tally { asked = capped (old.tally.asked + number_count old.tally.kind words) } → words ≡ outs.asked → lent ≡ old.backward → back ≡ b
     → Steps old.receiver r told (outcomes.Made outs) (Some old.written.octets) (Some w.octets)
     → IfOk result (λ done. datagrams_on b ≡ set (datagrams_on lent) told.link (get_or (datagrams_on lent) told.link [] ++ map datagram_made (outs_of outs))) → old ≡ whole
-    → IfOk result (λ done. GoesOn whole (record { sender = old.sender; near = old.near; receiver = r; far = old.far; written = w; forward = old.forward; backward = back; flows = old.flows; tally = t }) (λ setup from. ReceivesIf setup (step_of told) from))
+    → IfOk result (λ done. GoesOn whole (record { sender = old.sender; near = old.near; receiver = r; far = old.far; written = w; forward = old.forward; backward = back; media = old.media; flows = old.flows; tally = t }) (λ setup from. ReceivesIf setup (step_of told) from))
 made_goes old r w lent b back t told outs words (Err e) counted asked was now s is whole = tt
 made_goes old r w lent b back t told outs words (Ok x) counted asked was now s is whole = λ setup from stands.
     step_goes setup old r w back t from told (outcomes.Made outs) refl (counted ∙ ap (λ ws. record old.tally { asked = capped (old.tally.asked + number_count old.tally.kind ws) }) asked) (subst (λ w. IsWorldAfter setup w from) (sym whole) stands) s
@@ -263,7 +261,7 @@ pub carried_then : (setup : Setup) (old : WorldState) (t : TallyState) (from : C
     → t ≡ record old.tally { carried = raised_if media old.tally.carried; came = t.came }
     → ((k at : ℕ) → k < length old.tally.came → came_at t.came k at ≡ ((link == k && place == at) || came_at old.tally.came k at)) → length t.came ≡ length old.tally.came
     → IsWorldAfter setup old from
-    → IsWorldAfter setup (record { sender = old.sender; near = old.near; receiver = old.receiver; far = old.far; written = old.written; forward = old.forward; backward = old.backward; flows = old.flows; tally = t }) (with_carried link place d from)
+    → IsWorldAfter setup (record { sender = old.sender; near = old.near; receiver = old.receiver; far = old.far; written = old.written; forward = old.forward; backward = old.backward; media = old.media; flows = old.flows; tally = t }) (with_carried link place d from)
 carried_then setup old t from link place d media says counts came size is = record {
   sender = is.sender;
   rules = is.rules;
@@ -278,6 +276,7 @@ carried_then setup old t from link place d media says counts came size is = reco
   phase = is.phase;
   written = is.written;
   backward = is.backward;
+  media = record { links = is.media.links; marks = is.media.marks };
   flows = is.flows;
   tally = record {
     kind = ap (λ (x : TallyState). x.kind) counts ∙ is.tally.kind;
@@ -302,7 +301,7 @@ pub carry_all : {A E : Type 0} → (old new : WorldState) {whole : WorldState} (
     → far ≡ old.far → Some d ≡ (if nat_lt link (length old.forward) then slice_get (get_or old.forward link none).put place else None) → item ≡ item_of old.far d.channel d.octets → media ≡ is_some (media_read item)
     → ((u : ℕ) → input_of u what ≡ input_read u item) → t ≡ record old.tally { carried = raised_if media old.tally.carried; came = t.came }
     → ((k at : ℕ) → k < length old.tally.came → came_at t.came k at ≡ ((link == k && place == at) || came_at old.tally.came k at)) → length t.came ≡ length old.tally.came
-    → IfOk result (λ done. GoesOn (record { sender = old.sender; near = old.near; receiver = old.receiver; far = far; written = old.written; forward = old.forward; backward = old.backward; flows = old.flows; tally = t }) new
+    → IfOk result (λ done. GoesOn (record { sender = old.sender; near = old.near; receiver = old.receiver; far = far; written = old.written; forward = old.forward; backward = old.backward; media = old.media; flows = old.flows; tally = t }) new
     (λ setup from. ReceivesIf setup (step_of (record { link = link; us = us; what = what })) from))
     → IfOk result (λ done. GoesOn whole new (λ setup from to. CarriesIf setup link place us (forward_at setup from link place) from to))
 carry_all old new far t link place us d item what media (Err e) same far_is there read says input counts came size goes = tt
@@ -310,7 +309,7 @@ carry_all old new far t link place us d item what media (Ok x) same far_is there
     let is = subst (λ w. IsWorldAfter setup w from) (sym same) stands in
     let opened : item ≡ item_of setup.session d.channel d.octets = read ∙ ap (λ session. item_of session d.channel d.octets) is.far in
     let counted = carried_then setup old t from link place d media (says ∙ ap (λ i. is_some (media_read i)) opened) counts came size is in
-    let before = subst (λ f. IsWorldAfter setup (record { sender = old.sender; near = old.near; receiver = old.receiver; far = f; written = old.written; forward = old.forward; backward = old.backward; flows = old.flows; tally = t }) (with_carried link place d from)) (sym far_is) counted in
+    let before = subst (λ f. IsWorldAfter setup (record { sender = old.sender; near = old.near; receiver = old.receiver; far = f; written = old.written; forward = old.forward; backward = old.backward; media = old.media; flows = old.flows; tally = t }) (with_carried link place d from)) (sym far_is) counted in
     carry_goes setup new from link place us d (step_of (record { link = link; us = us; what = what })) (carried_is setup old from link place (Some d) is there)
     (ap (λ i. record { link = link; tick = tick_of us; input = i }) (input us ∙ ap (input_read us) opened)) (goes setup (with_carried link place d from) before)
 
@@ -320,14 +319,14 @@ no_datagrams_on : (n : ℕ) → datagrams_on (replicate n none) ≡ replicate n 
 no_datagrams_on zero = refl
 no_datagrams_on (suc n) = ap (λ ds. [] ∷ ds) (no_datagrams_on n)
 
-pub begins : (session : Session) (near : SenderSettings) (far : ReceiverSettings) (near_sealer far_sealer : Option SealerState) (links : ℕ) (s : SenderState) (n f : Session) (r : ReceiverState) (w : WrittenState) (forward backward : List WireState) (flows : List ℕ) (t : TallyState)
+pub begins : (session : Session) (near : SenderSettings) (far : ReceiverSettings) (near_sealer far_sealer : Option SealerState) (links : ℕ) (s : SenderState) (n f : Session) (r : ReceiverState) (w : WrittenState) (forward backward : List WireState) (m : List (List (Option Bool))) (flows : List ℕ) (t : TallyState)
     → link_count near.bond ≡ links
     → s.flow ≡ near.flow → s.first ≡ near.first → s.hold ≡ 90 * near.hold → s.store.size ≡ near.store → s.bonding ≡ near.bond → s.session ≡ session
     → IsSenderAfter s (record { history = []; sealer = near_sealer; is_short = false }) → n ≡ session → f ≡ session → settings_of r ≡ control_settings far session
     → r.reporter.shutter ≡ record { session = session; sealer = far_sealer } → r.buffer.phase ≡ Open → IsReceiverAfter r [] → w ≡ record { octets = []; faults = 0 }
-    → forward ≡ replicate links none → backward ≡ replicate links none → flows ≡ near.flow ∷ [] → t ≡ record { kind = far.nack; sent = 0; carried = 0; asked = 0; came = replicate links [] }
-    → IsWorldAfter (setup_of session near far) (record { sender = s; near = n; receiver = r; far = f; written = w; forward = forward; backward = backward; flows = flows; tally = t }) (beginning near_sealer far_sealer links)
-begins session near far near_sealer far_sealer links s n f r w forward backward flows t count flow_is first_is hold_is size_is bond_is session_is state n_is f_is control shutter phase receiver w_is forward_is backward_is flows_is tally_is = record {
+    → forward ≡ replicate links none → backward ≡ replicate links none → m ≡ replicate links [] → flows ≡ near.flow ∷ [] → t ≡ record { kind = far.nack; sent = 0; carried = 0; asked = 0; came = replicate links [] }
+    → IsWorldAfter (setup_of session near far) (record { sender = s; near = n; receiver = r; far = f; written = w; forward = forward; backward = backward; media = m; flows = flows; tally = t }) (beginning near_sealer far_sealer links)
+begins session near far near_sealer far_sealer links s n f r w forward backward m flows t count flow_is first_is hold_is size_is bond_is session_is state n_is f_is control shutter phase receiver w_is forward_is backward_is media_is flows_is tally_is = record {
   sender = state;
   rules = λ i. record {
     flow = flow_is i;
@@ -349,6 +348,10 @@ begins session near far near_sealer far_sealer links s n f r w forward backward 
   phase = phase;
   written = ap (λ (x : WrittenState). x.octets) w_is;
   backward = ap datagrams_on backward_is ∙ no_datagrams_on links;
+  media = record {
+    links = ap length media_is ∙ length-replicate links [] ∙ sym count;
+    marks = λ link among. ap (λ ms. get_or ms link []) media_is ∙ get_or-replicate links link [] [] (omega (arith, among, count));
+  };
   flows = flows_is;
   tally = subst (λ (x : TallyState). IsTallyOf (setup_of session near far) x (beginning near_sealer far_sealer links)) (sym tally_is)
       (record { kind = refl; sent = refl; carried = refl; asked = refl; links = length-replicate links [] ∙ sym count; came = λ link place among. ap (λ bs. get_or bs place false) (get_or-replicate links link [] [] (omega (arith, among, count))) });

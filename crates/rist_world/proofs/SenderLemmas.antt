@@ -19,19 +19,20 @@ use Rattle.world_rules.specs.Flows.{flows_of, flow_after, put_on}
 use Rattle.world_rules.specs.World.{Setup, Course, links_of, rules_after, Works, SendsIn, TicksIn, FeedsIn, FeedsIf, compound_carried, compound_read, backward_at, renewed_in, is_new}
 use Rattle.world_rules.proofs.CountLemmas.{sends_count, feeds_count, ticks_count}
 use Rattle.world_rules.proofs.AddLemmas.{Adds, adds_sends, adds_feeds, adds_ticks, flow_stays, first_stays, names_stay, known_by_name, taken_since}
-use Rattle.world_rules.specs.Counts.{sent_count, sent_by}
+use Rattle.world_rules.specs.Counts.{sent_count, sent_by, media_of}
 use Rattle.rist_ends.specs.Counts.{capped}
 use Rattle.rist_world.specs.Tally.{TallyState, IsTallyOf}
-use Rattle.rist_world.specs.World.{WireState, WorldState, IsWorldAfter, GoesTo, datagrams_on, none}
+use Rattle.rist_world.proofs.MarkLemmas.{marked_since}
+use Rattle.rist_world.specs.World.{WireState, WorldState, IsWorldAfter, GoesTo, GoesOn, AreMarked, datagrams_on, marked, none}
 
 -- what a wire tells
 abbrev pub wire_line : Line WireState
 wire_line = record { taken = λ w. Some w.put; knows = λ w c. true; faults = λ w. w.faults; reads = λ w. None; ends = λ w. 0 }
 
--- a fact that no answer changes
-pub ok_any : {A E : Type 0} {Q : Type 0} → (r : Result A E) → Q → IfOk r (λ done. Q)
-ok_any (Ok x) q = q
-ok_any (Err e) q = tt
+-- what follows where a call succeeds
+pub ok_then : {A E P Q : Type 0} → (r : Result A E) → IfOk r (λ done. P) → (P → Q) → IfOk r (λ done. Q)
+ok_then (Ok x) p goes = goes p
+ok_then (Err e) p goes = tt
 
 pub some_same : {A : Type 0} → (x y : A) → ◌≡◌ {A = Option A} (Some x) (Some y) → x ≡ y
 some_same {A} x y e = ap (λ (o : Option A). unwrap_or o x) e
@@ -65,6 +66,18 @@ forward_goes setup old s f from Q d a is link w among =
     ∙ ap (λ ds. ds ++ datagrams_taken g.gained) (is.forward link w among)
     ∙ sym (taken_since setup.flow setup.session link from.work d.to g.gained a more)
 
+-- a link's marks are those of what was put on it, after a call too
+marks_go : (setup : Setup) (old : WorldState) (s : SenderState) (f : List WireState) (m : List (List (Option Bool))) (from : Course) (Q : Work → Type 0) (d : Does wire_line old.sender s old.forward f from.work Q) → Adds from.work d.to
+    → length m ≡ length old.media → AreMarked old.far old.media f m → length f ≡ length old.forward → IsWorldAfter setup old from → (link : ℕ) → link < links_of setup
+    → get_or m link [] ≡ map (media_of setup.session) (datagrams_taken (put_on setup.flow setup.session link d.to.history))
+marks_go setup old s f m from Q d a count marks size is link among =
+    let g = d.given link none (omega (arith, among, is.links)) in
+    marks link (omega (arith, among, size, is.links)) (omega (arith, among, is.media.links))
+    ∙ ap (λ session. marked session (get_or old.media link []) (get_or f link none).put) is.far
+    ∙ marked_since setup.session (get_or old.media link []) (get_or old.forward link none).put (datagrams_taken g.gained) (get_or f link none).put
+    (is.media.marks link among ∙ ap (map (media_of setup.session)) (sym (is.forward link none among))) (some_same _ _ g.delivers.taken)
+    ∙ ap (map (media_of setup.session)) (forward_goes setup old s f from Q d a is link none among)
+
 -- the sender's work goes on
 abbrev worked : Work → Course → Course
 worked to from = record { work = to; steps = from.steps; sealer = from.sealer; backward = from.backward; carried = from.carried }
@@ -79,10 +92,10 @@ tally_same : (setup : Setup) (old : TallyState) (from : Course) (to : Work) → 
 tally_same setup old from to count t = record { kind = t.kind; sent = t.sent ∙ ap capped (sym count); carried = t.carried; asked = t.asked; links = t.links; came = t.came }
 
 -- after a call the world goes on
-pub sender_goes : (setup : Setup) (old : WorldState) (s : SenderState) (f : List WireState) (t : TallyState) (from : Course) (Q : Work → Type 0) (R : Work → Work → Type 0) → ((to : Work) → Q to → Adds from.work to)
-    → ((to : Work) → Q to → R from.work to) → ((to : Work) → Q to → IsTallyOf setup t (worked to from)) → IsWorldAfter setup old from → StaysSet old.sender s → length f ≡ length old.forward → Does wire_line old.sender s old.forward f from.work Q
-    → GoesTo setup (record { sender = s; near = old.near; receiver = old.receiver; far = old.far; written = old.written; forward = f; backward = old.backward; flows = old.flows; tally = t }) (λ to. Works R from to)
-sender_goes setup old s f t from Q R adds means counts is stays size d =
+pub sender_goes : (setup : Setup) (old : WorldState) (far : Session) (s : SenderState) (f : List WireState) (m : List (List (Option Bool))) (t : TallyState) (from : Course) (Q : Work → Type 0) (R : Work → Work → Type 0) → ((to : Work) → Q to → Adds from.work to)
+    → ((to : Work) → Q to → R from.work to) → ((to : Work) → Q to → IsTallyOf setup t (worked to from)) → far ≡ old.far → length m ≡ length old.media → AreMarked old.far old.media f m → IsWorldAfter setup old from → StaysSet old.sender s → length f ≡ length old.forward → Does wire_line old.sender s old.forward f from.work Q
+    → GoesTo setup (record { sender = s; near = old.near; receiver = old.receiver; far = far; written = old.written; forward = f; backward = old.backward; media = m; flows = old.flows; tally = t }) (λ to. Works R from to)
+sender_goes setup old far s f m t from Q R adds means counts same count marks is stays size d =
     let a = adds d.to d.fact in
     record {
       to = worked d.to from;
@@ -92,7 +105,7 @@ sender_goes setup old s f t from Q R adds means counts is stays size d =
         rules = stays.rules ∙ is.rules ∙ sym (rules_stay setup from.work d.to a);
         sending = stays.session ∙ is.sending;
         near = is.near;
-        far = is.far;
+        far = same ∙ is.far;
         links = size ∙ is.links;
         forward = λ link w among. forward_goes setup old s f from Q d a is link w among;
         receiver = is.receiver;
@@ -101,19 +114,21 @@ sender_goes setup old s f t from Q R adds means counts is stays size d =
         phase = is.phase;
         written = is.written;
         backward = is.backward;
+        media = record { links = count ∙ is.media.links; marks = λ link among. marks_go setup old s f m from Q d a count marks size is link among };
         flows = is.flows ∙ sym (ap (λ h. map (λ (x : SentFlow). x.flow) (flows_of setup.flow setup.first h)) a.is ∙ names_stay setup.flow setup.first a.added from.work.history a.same);
         tally = counts d.to d.fact;
       };
     }
 
 -- the same where the links were lent as a slice, and came back
-lent_goes : (setup : Setup) (old : WorldState) (s : SenderState) (lent f back : List WireState) (t : TallyState) (from : Course) (Q : List WireState → Work → Type 0) (R : Work → Work → Type 0) → lent ≡ old.forward → back ≡ f
+lent_goes : (setup : Setup) (old : WorldState) (far : Session) (s : SenderState) (lent f back shown : List WireState) (m : List (List (Option Bool))) (t : TallyState) (from : Course) (Q : List WireState → Work → Type 0) (R : Work → Work → Type 0) → lent ≡ old.forward → back ≡ f
+    → far ≡ old.far → length m ≡ length old.media → shown ≡ back → AreMarked old.far old.media shown m
     → ((to : Work) → Q old.forward to → Adds from.work to) → ((to : Work) → Q old.forward to → R from.work to) → ((to : Work) → Q old.forward to → IsTallyOf setup t (worked to from)) → IsWorldAfter setup old from → StaysSet old.sender s → length f ≡ length lent
     → Does wire_line old.sender s lent f from.work (Q lent)
-    → GoesTo setup (record { sender = s; near = old.near; receiver = old.receiver; far = old.far; written = old.written; forward = back; backward = old.backward; flows = old.flows; tally = t }) (λ to. Works R from to)
-lent_goes setup old s lent f back t from Q R was now adds means counts is stays size d =
-    subst (λ fs. GoesTo setup (record { sender = s; near = old.near; receiver = old.receiver; far = old.far; written = old.written; forward = fs; backward = old.backward; flows = old.flows; tally = t }) (λ to. Works R from to)) (sym now)
-    (sender_goes setup old s f t from (Q old.forward) R adds means counts is stays (size ∙ ap length was) (subst (λ fs. Does wire_line old.sender s fs f from.work (Q fs)) was d))
+    → GoesTo setup (record { sender = s; near = old.near; receiver = old.receiver; far = far; written = old.written; forward = back; backward = old.backward; media = m; flows = old.flows; tally = t }) (λ to. Works R from to)
+lent_goes setup old far s lent f back shown m t from Q R was now same count seen marks adds means counts is stays size d =
+    subst (λ fs. GoesTo setup (record { sender = s; near = old.near; receiver = old.receiver; far = far; written = old.written; forward = fs; backward = old.backward; media = m; flows = old.flows; tally = t }) (λ to. Works R from to)) (sym now)
+    (sender_goes setup old far s f m t from (Q old.forward) R adds means counts same count (subst (λ fs. AreMarked old.far old.media fs m) (seen ∙ now) marks) is stays (size ∙ ap length was) (subst (λ fs. Does wire_line old.sender s fs f from.work (Q fs)) was d))
 
 -- what each call means in the setup
 pub sends_in : (setup : Setup) (old : WorldState) (from : Course) (us : ℕ) (payload : List ℕ) (result : Result Unit SendBad) (to : Work) → IsWorldAfter setup old from
@@ -140,27 +155,27 @@ feeds_in setup old from us link compound result to is feeds = record {
       (subst (λ rules. FeedsBack rules (length old.forward) us link compound result from.work to) is.rules feeds);
 }
 
-pub send_goes : (setup : Setup) (old : WorldState) (s : SenderState) (lent f back : List WireState) (t : TallyState) (from : Course) (us : ℕ) (payload : List ℕ) (result : Result Unit SendBad) → t ≡ record old.tally { sent = capped (old.tally.sent + sent_by result) } → IsWorldAfter setup old from → StaysSet old.sender s
-    → lent ≡ old.forward → back ≡ f → length f ≡ length lent → Does wire_line old.sender s lent f from.work (Sends (rules_of old.sender) (length lent) us payload result from.work)
-    → GoesTo setup (record { sender = s; near = old.near; receiver = old.receiver; far = old.far; written = old.written; forward = back; backward = old.backward; flows = old.flows; tally = t }) (λ to. Works (SendsIn setup us payload) from to)
-send_goes setup old s lent f back t from us payload result counted is stays was now size d =
-    lent_goes setup old s lent f back t from (λ fs. Sends (rules_of old.sender) (length fs) us payload result from.work) (SendsIn setup us payload) was now
+pub send_goes : (setup : Setup) (old : WorldState) (far : Session) (s : SenderState) (lent f back shown : List WireState) (m : List (List (Option Bool))) (t : TallyState) (from : Course) (us : ℕ) (payload : List ℕ) (result : Result Unit SendBad) → t ≡ record old.tally { sent = capped (old.tally.sent + sent_by result) } → IsWorldAfter setup old from → StaysSet old.sender s
+    → lent ≡ old.forward → back ≡ f → far ≡ old.far → length m ≡ length old.media → shown ≡ back → AreMarked old.far old.media shown m → length f ≡ length lent → Does wire_line old.sender s lent f from.work (Sends (rules_of old.sender) (length lent) us payload result from.work)
+    → GoesTo setup (record { sender = s; near = old.near; receiver = old.receiver; far = far; written = old.written; forward = back; backward = old.backward; media = m; flows = old.flows; tally = t }) (λ to. Works (SendsIn setup us payload) from to)
+send_goes setup old far s lent f back shown m t from us payload result counted is stays was now same count seen marks size d =
+    lent_goes setup old far s lent f back shown m t from (λ fs. Sends (rules_of old.sender) (length fs) us payload result from.work) (SendsIn setup us payload) was now same count seen marks
     (λ to q. adds_sends _ _ us payload result from.work to q) (λ to q. sends_in setup old from us payload result to is q)
     (λ to q. tally_sent setup old.tally t from to (sent_by result) counted (sends_count _ _ us payload result from.work to q) is.tally) is stays size d
 
-pub tick_goes : (setup : Setup) (old : WorldState) (s : SenderState) (lent f back : List WireState) (from : Course) (us : ℕ) (result : Result Unit SendBad) → IsWorldAfter setup old from → StaysSet old.sender s
-    → lent ≡ old.forward → back ≡ f → length f ≡ length lent → Does wire_line old.sender s lent f from.work (Ticks (rules_of old.sender) (length lent) us result from.work)
-    → GoesTo setup (record { sender = s; near = old.near; receiver = old.receiver; far = old.far; written = old.written; forward = back; backward = old.backward; flows = old.flows; tally = old.tally }) (λ to. Works (TicksIn setup us) from to)
-tick_goes setup old s lent f back from us result is stays was now size d =
-    lent_goes setup old s lent f back old.tally from (λ fs. Ticks (rules_of old.sender) (length fs) us result from.work) (TicksIn setup us) was now
+pub tick_goes : (setup : Setup) (old : WorldState) (far : Session) (s : SenderState) (lent f back shown : List WireState) (m : List (List (Option Bool))) (from : Course) (us : ℕ) (result : Result Unit SendBad) → IsWorldAfter setup old from → StaysSet old.sender s
+    → lent ≡ old.forward → back ≡ f → far ≡ old.far → length m ≡ length old.media → shown ≡ back → AreMarked old.far old.media shown m → length f ≡ length lent → Does wire_line old.sender s lent f from.work (Ticks (rules_of old.sender) (length lent) us result from.work)
+    → GoesTo setup (record { sender = s; near = old.near; receiver = old.receiver; far = far; written = old.written; forward = back; backward = old.backward; media = m; flows = old.flows; tally = old.tally }) (λ to. Works (TicksIn setup us) from to)
+tick_goes setup old far s lent f back shown m from us result is stays was now same count seen marks size d =
+    lent_goes setup old far s lent f back shown m old.tally from (λ fs. Ticks (rules_of old.sender) (length fs) us result from.work) (TicksIn setup us) was now same count seen marks
     (λ to q. adds_ticks _ _ us result from.work to q) (λ to q. ticks_in setup old from us result to is q)
     (λ to q. tally_same setup old.tally from to (ticks_count _ _ us result from.work to q) is.tally) is stays size d
 
-pub feedback_goes : (setup : Setup) (old : WorldState) (s : SenderState) (lent f back : List WireState) (from : Course) (us link : ℕ) (compound : List Content) (result : Result ℕ SendBad) → IsWorldAfter setup old from → StaysSet old.sender s
-    → lent ≡ old.forward → back ≡ f → length f ≡ length lent → Does wire_line old.sender s lent f from.work (FeedsBack (rules_of old.sender) (length lent) us link compound result from.work)
-    → GoesTo setup (record { sender = s; near = old.near; receiver = old.receiver; far = old.far; written = old.written; forward = back; backward = old.backward; flows = old.flows; tally = old.tally }) (λ to. Works (FeedsIn setup us link compound) from to)
-feedback_goes setup old s lent f back from us link compound result is stays was now size d =
-    lent_goes setup old s lent f back old.tally from (λ fs. FeedsBack (rules_of old.sender) (length fs) us link compound result from.work) (FeedsIn setup us link compound) was now
+pub feedback_goes : (setup : Setup) (old : WorldState) (far : Session) (s : SenderState) (lent f back shown : List WireState) (m : List (List (Option Bool))) (from : Course) (us link : ℕ) (compound : List Content) (result : Result ℕ SendBad) → IsWorldAfter setup old from → StaysSet old.sender s
+    → lent ≡ old.forward → back ≡ f → far ≡ old.far → length m ≡ length old.media → shown ≡ back → AreMarked old.far old.media shown m → length f ≡ length lent → Does wire_line old.sender s lent f from.work (FeedsBack (rules_of old.sender) (length lent) us link compound result from.work)
+    → GoesTo setup (record { sender = s; near = old.near; receiver = old.receiver; far = far; written = old.written; forward = back; backward = old.backward; media = m; flows = old.flows; tally = old.tally }) (λ to. Works (FeedsIn setup us link compound) from to)
+feedback_goes setup old far s lent f back shown m from us link compound result is stays was now same count seen marks size d =
+    lent_goes setup old far s lent f back shown m old.tally from (λ fs. FeedsBack (rules_of old.sender) (length fs) us link compound result from.work) (FeedsIn setup us link compound) was now same count seen marks
     (λ to q. adds_feeds _ _ us link compound result from.work to q) (λ to q. feeds_in setup old from us link compound result to is q)
     (λ to q. tally_same setup old.tally from to (feeds_count _ _ us link compound result from.work to q) is.tally) is stays size d
 
@@ -180,7 +195,7 @@ not_new setup old whole from flow first same is e =
 
 pub renew_goes : (setup : Setup) (old : WorldState) (s : SenderState) (flow first : ℕ) (flows : List ℕ) (from : Course) → IsWorldAfter setup old from → flows ≡ flow ∷ old.flows → is_new setup from flow ≡ true
     → s ≡ record old.sender { flow = flow; first = first; store = record { size = old.sender.store.size; packets = [] }; count = 0; octets = 0 } → IsSenderAfter s (renewed_as flow first from.work)
-    → GoesTo setup (record { sender = s; near = old.near; receiver = old.receiver; far = old.far; written = old.written; forward = old.forward; backward = old.backward; flows = flows; tally = old.tally })
+    → GoesTo setup (record { sender = s; near = old.near; receiver = old.receiver; far = old.far; written = old.written; forward = old.forward; backward = old.backward; media = old.media; flows = flows; tally = old.tally })
     (λ to. IfElse (is_new setup from flow) (to ≡ renewed_in flow first from) (to ≡ from))
 renew_goes setup old s flow first flows from is more new value state = record {
   to = renewed_in flow first from;
@@ -199,25 +214,13 @@ renew_goes setup old s flow first flows from is more new value state = record {
     phase = is.phase;
     written = is.written;
     backward = is.backward;
+    media = record { links = is.media.links; marks = is.media.marks };
     flows = more ∙ ap (λ fs. flow ∷ fs) is.flows;
     tally = record { kind = is.tally.kind; sent = is.tally.sent; carried = is.tally.carried; asked = is.tally.asked; links = is.tally.links; came = is.tally.came };
   };
 }
 
 -- ---- a compound that comes back
-
-pub back_goes : (setup : Setup) (old : WorldState) (near : Session) (s : SenderState) (lent f back : List WireState) (from : Course) (place us link : ℕ) (compound : List Content) (result : Result ℕ SendBad) → near ≡ old.near
-    → compound_carried setup (backward_at from link place) ≡ Some compound → IsWorldAfter setup old from → StaysSet old.sender s
-    → lent ≡ old.forward → back ≡ f → length f ≡ length lent → Does wire_line old.sender s lent f from.work (FeedsBack (rules_of old.sender) (length lent) us link compound result from.work)
-    → GoesTo setup (record { sender = s; near = near; receiver = old.receiver; far = old.far; written = old.written; forward = back; backward = old.backward; flows = old.flows; tally = old.tally })
-    (λ to. FeedsIf setup us link (compound_carried setup (backward_at from link place)) from to)
-back_goes setup old near s lent f back from place us link compound result same at is stays was now size d =
-    let g = feedback_goes setup old s lent f back from us link compound result is stays was now size d in
-    record {
-      to = g.to;
-      fact = subst (λ x. FeedsIf setup us link x from g.to) (sym at) g.fact;
-      stands = subst (λ n. IsWorldAfter setup (record { sender = s; near = n; receiver = old.receiver; far = old.far; written = old.written; forward = back; backward = old.backward; flows = old.flows; tally = old.tally }) g.to) (sym same) g.stands;
-    }
 
 -- the compound that a datagram is
 pub carried_back : (setup : Setup) (old : WorldState) (from : Course) (link place : ℕ) (d : Datagram) (compound : List Content) → IsWorldAfter setup old from
@@ -230,3 +233,19 @@ carried_back setup old from link place d compound is at item =
     by : (c : Bool) → nat_lt link (length old.backward) ≡ c → Some d ≡ (if c then slice_get (get_or old.backward link none).put place else None) → slice_get (get_or (datagrams_on old.backward) link []) place ≡ Some d
     by true among e = ap (λ ds. slice_get ds place) (get_or-map (λ (w : WireState). w.put) old.backward link none [] (ltb-true _ _ among)) ∙ sym e
     by false among e = cc
+
+-- a datagram that is there comes, and is a compound
+pub back_goes : {A E : Type 0} → (old new : WorldState) {whole : WorldState} (near : Session) (link place us : ℕ) (d : Datagram) (compound : List Content) (result : Result A E) → old ≡ whole → near ≡ old.near
+    → Some d ≡ (if nat_lt link (length old.backward) then slice_get (get_or old.backward link none).put place else None) → item_of old.near d.channel d.octets ≡ Ok (items.Control compound)
+    → IfOk result (λ done. GoesOn (record { sender = old.sender; near = near; receiver = old.receiver; far = old.far; written = old.written; forward = old.forward; backward = old.backward; media = old.media; flows = old.flows; tally = old.tally }) new
+    (λ setup from to. Works (FeedsIn setup us link compound) from to))
+    → IfOk result (λ done. GoesOn whole new (λ setup from to. FeedsIf setup us link (compound_carried setup (backward_at from link place)) from to))
+back_goes old new near link place us d compound (Err e) same near_is there item goes = tt
+back_goes old new near link place us d compound (Ok x) same near_is there item goes = λ setup from stands.
+    let is = subst (λ w. IsWorldAfter setup w from) (sym same) stands in
+    let g = goes setup from (subst (λ n. IsWorldAfter setup (record { sender = old.sender; near = n; receiver = old.receiver; far = old.far; written = old.written; forward = old.forward; backward = old.backward; media = old.media; flows = old.flows; tally = old.tally }) from) (sym near_is) is) in
+    record {
+      to = g.to;
+      fact = subst (λ x. FeedsIf setup us link x from g.to) (sym (carried_back setup old from link place d compound is there item)) g.fact;
+      stands = g.stands;
+    }

@@ -1,12 +1,12 @@
 -- What came of a run, in numbers.
-use Rattle.std.specs.Prelude.{◌≡◌, ℕ, length, get_or, slice_get, Bool, true, false, not, ◌&&◌, nat_lt, if◌then◌else◌, is_some, unwrap_or, Option, None}
+use Rattle.std.specs.Prelude.{◌≡◌, ℕ, [], length, get_or, Bool, true, false, not, ◌&&◌, nat_lt, if◌then◌else◌, is_some, unwrap_or, Option, None}
 use Rattle.std.specs.List.{count_by, range_with_len}
 use Rattle.receiver_rules.specs.declared.verdict.Verdict.TheVariants.{Kept}
 use Rattle.receiver_rules.specs.Steps.{has_ended}
 use Rattle.receiver_rules.specs.History.{released_payloads}
 use Rattle.request_rules.specs.Steps.{buffer_history}
 use Rattle.rist_ends.specs.Counts.{capped, verdict_count}
-use Rattle.world_rules.specs.Counts.{media_if, sent_count, carried_count, lost_count, asked_count, resent_count}
+use Rattle.world_rules.specs.Counts.{sent_count, carried_count, lost_count, asked_count, resent_count}
 use Rattle.world_rules.specs.World.{Setup, Course}
 use Rattle.rist_world.specs.declared.counts.Counts.{Counts}
 use Rattle.rist_world.specs.Tally.{came_at}
@@ -18,8 +18,7 @@ held_at w link = if nat_lt link (length w.forward) then length (get_or w.forward
 
 -- of media at a place of a link, whether it says that it is a retransmission; nothing of what is no media or isn't there
 abbrev pub media_at : WorldState → ℕ → ℕ → Option Bool
-media_at w link place =
-    media_if w.far (if nat_lt link (length w.forward) then slice_get (get_or w.forward link none).put place else None)
+media_at w link place = get_or (get_or w.media link []) place None
 
 -- a place of a link holds media that never came to the receiver
 abbrev pub lost_at : WorldState → ℕ → ℕ → Bool

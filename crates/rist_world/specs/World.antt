@@ -1,5 +1,5 @@
 -- What a contract sees of a simulated network.
-use Rattle.std.specs.Prelude.{◌≡◌, ◌<◌, ◌*◌, ℕ, List, [], length, map, get_or, Bool, true, false}
+use Rattle.std.specs.Prelude.{◌≡◌, ◌<◌, ◌*◌, ◌++◌, ℕ, List, [], length, map, drop, get_or, Bool, true, false, Option}
 use Rattle.outside_net.specs.Links.{Datagram}
 use Rattle.receiver_rules.specs.Steps.{has_ended}
 use Rattle.receiver_rules.specs.History.{released_bytes}
@@ -15,6 +15,7 @@ use Rattle.rist_sender.specs.Sender.{SenderState, IsSenderAfter, has_keepalives,
 use Rattle.sent_flows.specs.Flows.{SentFlow}
 use Rattle.world_rules.specs.Flows.{flows_of}
 use Rattle.world_rules.specs.World.{Setup, Course, links_of, rules_after, forward_on}
+use Rattle.world_rules.specs.Counts.{media_of}
 use Rattle.rist_world.specs.Tally.{TallyState, IsTallyOf}
 
 -- the datagrams that were put on a link one way, the oldest first, and how many writes failed for want of memory
@@ -32,7 +33,8 @@ pub record WrittenState : Type 0 where
   pub faults : ℕ
 
 -- the sender, and what opens the datagrams that come back to it; the receiver, what opens those that come to it, and
--- what it wrote; the links each way; the SSRCs of the flows so far, the newest first; and what is counted
+-- what it wrote; the links each way; of each datagram that the sender put on each link, whether it is media and says that
+-- it is a retransmission; the SSRCs of the flows so far, the newest first; and what is counted
 pub record WorldState : Type 0 where
   pub sender : SenderState
   pub near : Session
@@ -41,6 +43,7 @@ pub record WorldState : Type 0 where
   pub written : WrittenState
   pub forward : List WireState
   pub backward : List WireState
+  pub media : List (List (Option Bool))
   pub flows : List ℕ
   pub tally : TallyState
 
@@ -66,8 +69,22 @@ phase_of false = Open
 abbrev pub datagrams_on : List WireState → List (List Datagram)
 datagrams_on wires = map (λ (w : WireState). w.put) wires
 
+-- the marks of a link, and those of the datagrams that were put since
+abbrev pub marked : Session → List (Option Bool) → List Datagram → List (Option Bool)
+marked session marks put = marks ++ map (media_of session) (drop (length marks) put)
+
+-- what was put on each link since is marked, where it has marks
+abbrev pub AreMarked : Session → List (List (Option Bool)) → List WireState → List (List (Option Bool)) → Type 0
+AreMarked session old wires new =
+    (link : ℕ) → link < length wires → link < length old → get_or new link [] ≡ marked session (get_or old link []) (get_or wires link none).put
+
+-- each datagram that the sender put is marked as it reads
+pub record AreMarks (setup : Setup) (media : List (List (Option Bool))) (course : Course) : Type 0 where
+  pub links : length media ≡ links_of setup
+  pub marks : (link : ℕ) → link < links_of setup → get_or media link [] ≡ map (media_of setup.session) (forward_on setup course link)
+
 -- what it keeps is that of a course: the sender its work, each link what was put on it, the receiver its steps, what
--- was written is what these released, and what is counted is what came of it
+-- was written is what these released, its marks are those of what the sender put, and what is counted is what came of it
 pub record IsWorldAfter (setup : Setup) (w : WorldState) (course : Course) : Type 0 where
   pub sender : IsSenderAfter w.sender course.work
   pub rules : rules_of w.sender ≡ rules_after setup course.work.history
@@ -82,6 +99,7 @@ pub record IsWorldAfter (setup : Setup) (w : WorldState) (course : Course) : Typ
   pub phase : w.receiver.buffer.phase ≡ phase_of (has_ended (buffer_history course.steps))
   pub written : w.written.octets ≡ released_bytes setup.control.limits (buffer_history course.steps)
   pub backward : datagrams_on w.backward ≡ course.backward
+  pub media : AreMarks setup w.media course
   pub flows : w.flows ≡ map (λ (f : SentFlow). f.flow) (flows_of setup.flow setup.first course.work.history)
   pub tally : IsTallyOf setup w.tally course
 

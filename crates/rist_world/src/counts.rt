@@ -34,10 +34,9 @@ fn is_lost(media: Option<bool>, came: bool) -> bool
 }
 
 // How many datagrams of a link are media that never came to the receiver, and how many are retransmissions.
-fn count_on(world: &mut World, link: u8) -> (u64, u64)
-    ensures lost { result.0 ≡ capped (count_on world.old (lost_at world.old) link) }
-    ensures resent { result.1 ≡ capped (count_on world.old (resent_at world.old) link) }
-    ensures same { world.new ≡ world.old }
+fn count_on(world: &World, link: u8) -> (u64, u64)
+    ensures lost { result.0 ≡ capped (count_on world.now (lost_at world.now) link) }
+    ensures resent { result.1 ≡ capped (count_on world.now (resent_at world.now) link) }
 {
     let mut lost = 0;
     let mut resent = 0;
@@ -51,12 +50,11 @@ fn count_on(world: &mut World, link: u8) -> (u64, u64)
 }
 
 // The same of all links.
-fn count_all(world: &mut World) -> (u64, u64)
-    ensures lost { result.0 ≡ capped (sum_by (count_on world.old (lost_at world.old))
-        (range_with_len 0 (length world.old.forward))) }
-    ensures resent { result.1 ≡ capped (sum_by (count_on world.old (resent_at world.old))
-        (range_with_len 0 (length world.old.forward))) }
-    ensures same { world.new ≡ world.old }
+fn count_all(world: &World) -> (u64, u64)
+    ensures lost { result.0 ≡ capped (sum_by (count_on world.now (lost_at world.now))
+        (range_with_len 0 (length world.now.forward))) }
+    ensures resent { result.1 ≡ capped (sum_by (count_on world.now (resent_at world.now))
+        (range_with_len 0 (length world.now.forward))) }
 {
     let mut lost = 0_u64;
     let mut resent = 0_u64;
@@ -68,12 +66,10 @@ fn count_all(world: &mut World) -> (u64, u64)
     (lost, resent)
 }
 
-/// What came of the moves that a world has made. Each datagram that the sender put is opened, to see whether it is
-/// media.
-pub(crate) fn counts_of(world: &mut World) -> Counts
-    ensures value { (setup : Setup) (course : Course) → IsWorldAfter setup world.old course
+/// What came of the moves that a world has made.
+pub(crate) fn counts_of(world: &World) -> Counts
+    ensures value { (setup : Setup) (course : Course) → IsWorldAfter setup world.now course
         → Counted setup course result }
-    ensures same { world.new ≡ world.old }
 {
     let (lost, resent) = count_all(world);
     Counts {

@@ -5,6 +5,7 @@
 mod counts;
 mod made;
 mod made_run;
+mod marks;
 mod mover;
 mod running;
 mod summary;

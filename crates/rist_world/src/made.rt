@@ -153,6 +153,7 @@ fn held_in(world: &World) -> Held
 impl Made {
     ghost use Rattle.std.specs.Prelude.{◌≡◌, ◌≤◌, ◌<◌, ◌+◌, [], IfOk};
     ghost use Rattle.rist_world.specs.World.{IsWorldAfter};
+    ghost use Rattle.made_script.specs.declared.draws.TheConstants.{MAX_LINKS, MAX_COUNT};
     ghost use Rattle.made_script.specs.declared.draws.Script.{Script as ScriptValue};
     ghost use Rattle.made_script.specs.Draws.{IsDrawn, draw};
     ghost use Rattle.rist_world.specs.Mover.{HasGivenNone};
@@ -166,7 +167,7 @@ impl Made {
         links: u8,
         loss: u16,
     ) -> Result<Made, NoMemory>
-        requires { (links ≤ 4) × (count ≤ 5000) }
+        requires { (links ≤ MAX_LINKS) × (count ≤ MAX_COUNT) }
         ensures script { IfOk result (λ made. made.draws.script
             ≡ record { number = number; count = count; links = links; loss = loss }) }
         ensures none { IfOk result (λ made. HasGivenNone (⟦<Made as Mover>⟧.given made)) }

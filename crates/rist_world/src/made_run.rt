@@ -1,5 +1,6 @@
 //! The run of a made script.
 ghost use Rattle.std.specs.Prelude.{◌≡◌, ◌≤◌, ◌+◌, IfOk};
+ghost use Rattle.made_script.specs.declared.draws.TheConstants.{MAX_LINKS, MAX_COUNT};
 ghost use Rattle.made_script.specs.Words.{words_left};
 ghost use Rattle.rist_world.specs.Made.{GivesSealer, IsMadeRun, made_session, made_sender, made_receiver};
 
@@ -34,7 +35,7 @@ fn made_session() -> Session
 
 /// Its sender, over so many links.
 fn made_sender(links: u8) -> SenderSettings
-    requires links { (1 ≤ links) × (links ≤ 4) }
+    requires links { (1 ≤ links) × (links ≤ MAX_LINKS) }
     ensures value { result ≡ made_sender links }
 {
     SenderSettings {
@@ -87,8 +88,8 @@ pub fn drill_made(
     links: u8,
     loss: u16,
 ) -> Result<Report, NoMemory>
-    requires links { (1 ≤ links) × (links ≤ 4) }
-    requires count { count ≤ 5000 }
+    requires links { (1 ≤ links) × (links ≤ MAX_LINKS) }
+    requires count { count ≤ MAX_COUNT }
     ensures run { IfOk result (λ report. IsMadeRun
         (record { number = number; count = count; links = links; loss = loss }) report) }
 {

@@ -100,7 +100,7 @@ pub fn drill<M: Mover>(
 {
     let mut world = World::with(alloc, session, near, far, near_sealer, far_sealer, links)?;
     let moves = run(alloc, &mut world, mover)?;
-    let counts = counts_of(&mut world);
+    let counts = counts_of(&world);
     Ok(Report {
         moves,
         sent: counts.sent,

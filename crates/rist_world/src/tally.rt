@@ -2,13 +2,12 @@
 ghost use Rattle.std.specs.Prelude.{◌≡◌, ◌+◌, length};
 ghost use Rattle.request_rules.specs.Words.{numbers_in};
 ghost use Rattle.rist_ends.specs.Counts.{capped};
-ghost use Rattle.world_rules.specs.Counts.{media_read, sent_by};
+ghost use Rattle.world_rules.specs.Counts.{sent_by};
 ghost use Rattle.rist_world.specs.Tally.{raised_if};
 
 use outside_io::NoMemory;
 use request_rules::{AskWord, NackKind};
 use rist_sender::SendBad;
-use rist_wire::{Item, WireBad};
 use std::alloc::Global;
 use std::marker::Model;
 
@@ -81,18 +80,6 @@ impl Model for Tally {
       asked = t.asked;
       came = t.came.items;
     } };
-}
-
-/// Of media, whether it says that it is a retransmission; nothing of what is no media.
-pub(crate) fn media_in(item: &Result<Item<'_>, WireBad>) -> Option<bool>
-    ensures value { result ≡ media_read item.now }
-{
-    match item {
-        Ok(Item::Media(media)) => Some(media.again),
-        Ok(Item::Control(_)) => None,
-        Ok(Item::Keepalive(_)) => None,
-        Err(_) => None,
-    }
 }
 
 /// One more, where that is counted.

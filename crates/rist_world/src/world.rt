@@ -6,7 +6,8 @@ ghost use Rattle.rist_reporter.specs.OneMore.{outs_of};
 ghost use Rattle.world_rules.specs.World.{datagram_made};
 ghost use Rattle.rist_world.specs.World.{datagrams_on, none};
 
-use crate::tally::{Tally, media_in};
+use crate::marks::{Marks, mark_all, media_in};
+use crate::tally::Tally;
 use crate::wire::Wire;
 use crate::written::Written;
 use outside_io::{Channel, NoMemory};
@@ -16,6 +17,7 @@ use reorder_buffer::MAX_PAYLOAD;
 use rist_ends::{Outcome, Outs, Receiver, Settings as ReceiverSettings, Told, What, what_of};
 use rist_sender::{Sender, Settings as SenderSettings};
 use rist_wire::{Item, Opener, Session};
+use rtcp_compound::Compound;
 use std::alloc::Global;
 use std::marker::Model;
 use world_rules::Move;
@@ -32,6 +34,7 @@ pub struct World {
     written: Written,
     forward: Vec<Wire>,
     backward: Vec<Wire>,
+    media: Vec<Marks>,
     flows: Vec<u32>,
     tally: Tally,
 }
@@ -51,6 +54,7 @@ impl Model for World {
       written = w.written;
       forward = w.forward.items;
       backward = w.backward.items;
+      media = w.media.items;
       flows = w.flows.items;
       tally = w.tally;
     } };
@@ -73,6 +77,20 @@ fn wires(alloc: Global, count: usize) -> Result<Vec<Wire>, NoMemory>
     Ok(wires)
 }
 
+// The marks of so many links on which nothing was put.
+fn no_marks(alloc: Global, count: usize) -> Result<Vec<Marks>, NoMemory>
+    ensures value { IfOk result (λ media. media.items ≡ replicate count []) }
+{
+    let mut media = Vec::with_capacity(alloc, count)?;
+    for made in 0..count {
+        match media.push(Marks::with(alloc)) {
+            Ok(()) => {}
+            Err(_) => return Err(NoMemory),
+        }
+    }
+    Ok(media)
+}
+
 impl World {
     ghost use Rattle.std.specs.Prelude.{◌≡◌, ◌≤◌, ◌<◌, ◌%◌, ◌+◌, ◌∷◌, [], length, nat_lt, is_some, IfOk};
     ghost use Rattle.receiver_rules.specs.Steps.{tick_of};
@@ -83,9 +101,10 @@ impl World {
     ghost use Rattle.sender_rules.specs.Bonding.{link_count};
     ghost use Rattle.rist_wire.specs.Session.{IsSession};
     ghost use Rattle.rist_ends.specs.Settings.{IsInRange};
-    ghost use Rattle.world_rules.specs.World.{Course, Makes, beginning, links_of, Works, SendsIn, TicksIn, FeedsIf, CarriesIf, ReceivesIf};
+    ghost use Rattle.world_rules.specs.World.{Setup, Course, Makes, beginning, links_of, Works, SendsIn, TicksIn, FeedsIn, FeedsIf, CarriesIf, ReceivesIf};
     ghost use Rattle.world_rules.specs.World.{compound_carried, backward_at, forward_at, is_new, renewed_in};
     ghost use Rattle.rist_world.specs.World.{IsWorldAfter, GoesOn, setup_of};
+    ghost use Rattle.world_rules.specs.Counts.{media_if};
     ghost use Rattle.rist_world.specs.Counted.{media_at};
 
     /// Both ends in a session, before any move. A sealer for each is handed in exactly where the session has a
@@ -120,6 +139,7 @@ impl World {
             written: Written::with(alloc),
             forward: wires(alloc, usize::from(links))?,
             backward: wires(alloc, usize::from(links))?,
+            media: no_marks(alloc, usize::from(links))?,
             flows,
             tally: Tally::with(alloc, far.nack, usize::from(links))?,
         })
@@ -163,9 +183,9 @@ impl World {
     }
 
     /// Whether the datagram that the sender put at a place of a link, from 0, is there and is media.
-    pub fn media(&mut self, link: u8, place: u64) -> bool
-        ensures value { result ≡ is_some (media_at self.old link place) }
-        ensures same { self.new ≡ self.old }
+    pub fn media(&self, link: u8, place: u64) -> bool
+        ensures value { (setup : Setup) (course : Course) → IsWorldAfter setup self.now course
+            → result ≡ is_some (media_if setup.session (forward_at setup course link place)) }
     {
         self.media_at(link, place).is_some()
     }
@@ -179,13 +199,11 @@ impl World {
 
     /// Of media that the sender put at a place of a link, whether it says that it is a retransmission; nothing of what
     /// is no media or isn't there.
-    pub(crate) fn media_at(&mut self, link: u8, place: u64) -> Option<bool>
-        ensures value { result ≡ media_at self.old link place }
-        ensures same { self.new ≡ self.old }
+    pub(crate) fn media_at(&self, link: u8, place: u64) -> Option<bool>
+        ensures value { result ≡ media_at self.now link place }
     {
-        let mut datagram = [0; MAX_DATAGRAM];
-        match datagram_at(&self.forward, link, place, &mut datagram) {
-            Some((channel, length)) => media_in(&self.far.take(channel, &mut datagram[..length])),
+        match self.media.get(usize::from(link)) {
+            Some(marks) => marks.at(place),
             None => None,
         }
     }
@@ -219,7 +237,8 @@ impl World {
     {
         let sent = self.sender.send(us, payload, &mut self.forward);
         self.tally.send(sent);
-        check_memory(&self.forward)
+        check_memory(&self.forward)?;
+        mark_all(&self.forward, &mut self.far, &mut self.media)
     }
 
     /// The sender's clock ticks.
@@ -228,7 +247,8 @@ impl World {
             (λ setup from to. Works (TicksIn setup us) from to)) }
     {
         let _ = self.sender.tick(us, &mut self.forward);
-        check_memory(&self.forward)
+        check_memory(&self.forward)?;
+        mark_all(&self.forward, &mut self.far, &mut self.media)
     }
 
     /// The datagram that the receiver put at a place of a link, from 0, comes to the sender, if it is there.
@@ -243,8 +263,18 @@ impl World {
         let Ok(Item::Control(compound)) = self.near.take(channel, &mut datagram[..length]) else {
             return Ok(());
         };
-        let _ = self.sender.feedback(us, link, &compound, &mut self.forward);
-        check_memory(&self.forward)
+        self.feed(us, link, &compound)
+    }
+
+    // A compound comes to the sender.
+    fn feed(&mut self, us: u64, link: u8, compound: &Compound<'_>) -> Result<(), NoMemory>
+        requires among { link < length self.old.forward }
+        ensures value { IfOk result (λ done. GoesOn self.old self.new
+            (λ setup from to. Works (FeedsIn setup us link compound.now) from to)) }
+    {
+        let _ = self.sender.feedback(us, link, compound, &mut self.forward);
+        check_memory(&self.forward)?;
+        mark_all(&self.forward, &mut self.far, &mut self.media)
     }
 
     /// Another flow begins, where its SSRC is even and none of the earlier ones.

@@ -238,7 +238,8 @@ short_flows : (width : Width) (low count : ℕ) (flows : List SentFlow) → coun
 short_flows width low count [] few a = tt
 short_flows width low count (f ∷ fs) few a = (record { few = omega (arith, few, a.0.few); steady = a.0.steady }, short_flows width low count fs few a.1)
 
-none_short : (left : Option ℕ) → is_short left 0 ≡ false
+-- no pairs are always there
+pub none_short : (left : Option ℕ) → is_short left 0 ≡ false
 none_short None = refl
 none_short (Some n) = le-ltb n 0 (omega arith)
 

@@ -6,7 +6,6 @@ use Rattle.rist_world.proofs.counts.count_all.Given as goal
 
 abbrev pub invariant-loop-link : goal.invariant-loop-link
 invariant-loop-link l = record {
-  lost : l.lost ≡ capped (sum_by (count_on l.fn.world (lost_at l.fn.world)) (range_with_len 0 l.link));
-  resent : l.resent ≡ capped (sum_by (count_on l.fn.world (resent_at l.fn.world)) (range_with_len 0 l.link));
-  same : l.world ≡ l.fn.world;
+  lost : l.lost ≡ capped (sum_by (count_on l.world (lost_at l.world)) (range_with_len 0 l.link));
+  resent : l.resent ≡ capped (sum_by (count_on l.world (resent_at l.world)) (range_with_len 0 l.link));
 }

@@ -6,7 +6,6 @@ use Rattle.rist_world.proofs.counts.count_on.Given as goal
 
 abbrev pub invariant-loop-place : goal.invariant-loop-place
 invariant-loop-place l = record {
-  lost : l.lost ≡ capped (count_by (lost_at l.fn.world l.link) (range_with_len 0 l.place));
-  resent : l.resent ≡ capped (count_by (resent_at l.fn.world l.link) (range_with_len 0 l.place));
-  same : l.world ≡ l.fn.world;
+  lost : l.lost ≡ capped (count_by (lost_at l.world l.link) (range_with_len 0 l.place));
+  resent : l.resent ≡ capped (count_by (resent_at l.world l.link) (range_with_len 0 l.place));
 }

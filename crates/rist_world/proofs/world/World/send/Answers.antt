@@ -1,13 +1,14 @@
 use Rattle.std.proofs.Common.{rules, subst, sym}
 use Rattle.std.proofs.lemmas.List.{places}
 use Rattle.rist_world.specs.World.{IsWorldAfter}
-use Rattle.rist_world.proofs.SenderLemmas.{ok_any, send_goes}
+use Rattle.rist_world.proofs.MarkLemmas.{lent_marks}
+use Rattle.rist_world.proofs.SenderLemmas.{ok_then, send_goes}
 use Rattle.rist_world.proofs.world.World.send.Goals as goal
 
 pub returns : goal.returns
 returns c = record {
-  value = ok_any c.check_memory.result
-      (λ setup from is.
+  value = ok_then c.mark_all.result c.mark_all.ensures.value
+      (λ marks setup from is.
       let now = subst (λ w. IsWorldAfter setup w from) (sym c.self.view_is) is in
-      send_goes setup _ c.send-sent.new.self _ _ _ c.send.new.self from c.args.us c.args.payload.now c.send-sent.result c.send.ensures.value now c.send-sent.ensures.set c.deref_mut.ensures.value (search (rules, places)) c.send-sent.auto.links (c.send-sent.ensures.work from.work now.sender));
+      send_goes setup _ _ c.send-sent.new.self _ _ _ _ _ c.send.new.self from c.args.us c.args.payload.now c.send-sent.result c.send.ensures.value now c.send-sent.ensures.set c.deref_mut.ensures.value (search (rules, places)) c.mark_all.ensures.same (search (rules, places)) c.deref-2.ensures.value (lent_marks _ _ _ _ _ _ _ (search rules) c.deref_mut-2.ensures.value (search (rules, places)) marks) c.send-sent.auto.links (c.send-sent.ensures.work from.work now.sender));
 }

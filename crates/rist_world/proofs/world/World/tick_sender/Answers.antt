@@ -1,13 +1,14 @@
 use Rattle.std.proofs.Common.{rules, subst, sym}
 use Rattle.std.proofs.lemmas.List.{places}
 use Rattle.rist_world.specs.World.{IsWorldAfter}
-use Rattle.rist_world.proofs.SenderLemmas.{ok_any, tick_goes}
+use Rattle.rist_world.proofs.MarkLemmas.{lent_marks}
+use Rattle.rist_world.proofs.SenderLemmas.{ok_then, tick_goes}
 use Rattle.rist_world.proofs.world.World.tick_sender.Goals as goal
 
 pub returns : goal.returns
 returns c = record {
-  value = ok_any c.check_memory.result
-      (λ setup from is.
+  value = ok_then c.mark_all.result c.mark_all.ensures.value
+      (λ marks setup from is.
       let now = subst (λ w. IsWorldAfter setup w from) (sym c.self.view_is) is in
-      tick_goes setup _ c.tick.new.self _ _ _ from c.args.us c.tick.result now c.tick.ensures.set c.deref_mut.ensures.value (search (rules, places)) c.tick.auto.links (c.tick.ensures.work from.work now.sender));
+      tick_goes setup _ _ c.tick.new.self _ _ _ _ _ from c.args.us c.tick.result now c.tick.ensures.set c.deref_mut.ensures.value (search (rules, places)) c.mark_all.ensures.same (search (rules, places)) c.deref-2.ensures.value (lent_marks _ _ _ _ _ _ _ (search rules) c.deref_mut-2.ensures.value (search (rules, places)) marks) c.tick.auto.links (c.tick.ensures.work from.work now.sender));
 }
