@@ -1,2 +1,3 @@
 mod LevelLemmas
 mod SearchLemmas
+mod NearLemmas

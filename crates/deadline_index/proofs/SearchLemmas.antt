@@ -18,23 +18,27 @@ none_of_groups at len xs low high tick c none k inside above below =
 
 -- ---- an answer over the whole list, as one over the places at its front
 
--- a place's tick
-at_front : (places k : ℕ) (xs : List ℕ) → k < places → slice_index (take places xs) k ≡ slice_index xs (0 + k)
-at_front places k xs low = get_or-take places xs k 0 low ∙ ap (slice_index xs) (omega arith)
+-- an entry of a level that stands at the front
+pub at_start : (xs : List ℕ) (k : ℕ) → slice_index xs (0 + k) ≡ slice_index xs k
+at_start xs k = ap (slice_index xs) (omega arith)
 
-pub first_at_front : (places start tick place : ℕ) (xs : List ℕ) → places ≤ length xs → IsFirstIn xs 0 start places tick place → IsFirstBy (take places xs) start tick place
+-- a place's tick
+at_front : (places k : ℕ) (xs : List ℕ) → k < places → slice_index (take places xs) (0 + k) ≡ slice_index xs (0 + k)
+at_front places k xs low = at_start (take places xs) k ∙ get_or-take places xs k 0 low ∙ sym (at_start xs k)
+
+pub first_at_front : (places start tick place : ℕ) (xs : List ℕ) → places ≤ length xs → IsFirstIn xs 0 start places tick place → IsFirstIn (take places xs) 0 start (length (take places xs)) tick place
 first_at_front places start tick place xs room f =
     let below = f.below in
     let due = f.due in
     record {
-      from = f.low;
-      there = omega (arith, length-take places xs);
+      low = f.low;
+      below = omega (arith, length-take places xs);
       due = omega (arith, at_front places place xs below);
       first = λ before low high. let late = f.first before low high in omega (arith, late, at_front places before xs (omega arith));
     }
 
-pub none_from_front : (places start tick : ℕ) (xs : List ℕ) → IsNoneIn xs 0 start places tick → IsNoneFrom (take places xs) start tick
-none_from_front places start tick xs none place low there =
+pub none_from_front : (places start tick : ℕ) (xs : List ℕ) → places ≤ length xs → IsNoneIn xs 0 start places tick → IsNoneIn (take places xs) 0 start (length (take places xs)) tick
+none_from_front places start tick xs room none place low there =
     let below : place < places = omega (arith, there, length-take places xs) in
     let late = none place low below in
     omega (arith, late, at_front places place xs below)

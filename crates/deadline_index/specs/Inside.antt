@@ -1,2 +1,3 @@
 -- What only the bodies need.
 pub mod Levels
+pub mod Near

@@ -1,4 +1,4 @@
-//! Levels of least ticks over the places, one behind another in one list: each entry is the least of eight in the level
+//! Levels of least ticks over entries, one behind another in one list: each entry is the least of eight in the level
 //! before it.
 ghost use Rattle.std.specs.Prelude.{◌≡◌, ◌+◌, ◌*◌, ◌/◌, ◌<◌, ◌≤◌, ℕ, min, length, slice_index, slice_set, IsTrue, IfSome, IfNone};
 ghost use Rattle.deadline_index.specs.Inside.Levels.{group_count, AreLevels, IsNoneIn, IsFirstIn, IsLeastIn, IsLeastBut};
@@ -6,17 +6,17 @@ ghost use Rattle.deadline_index.specs.Inside.Levels.{group_count, AreLevels, IsN
 use crate::index::NEVER;
 
 /// How many entries a group has.
-const GROUP: usize = 8;
+pub const GROUP: usize = 8;
 
 /// How many groups a level has room for above so many entries.
-fn group_count(len: usize) -> usize
+pub fn group_count(len: usize) -> usize
     ensures { result ≡ group_count len }
 {
     len / GROUP + 1
 }
 
 /// Where the group of an entry ends, or the level.
-fn group_end(entry: usize, len: usize) -> usize
+pub fn group_end(entry: usize, len: usize) -> usize
     requires { entry < len }
     ensures { result ≡ min (8 * (entry / 8) + 8) len }
 {
@@ -29,7 +29,7 @@ fn group_end(entry: usize, len: usize) -> usize
 }
 
 /// The first entry between two that is at most the tick.
-fn first_in(all: &[u64], at: usize, start: usize, end: usize, tick: u64) -> Option<usize>
+pub fn first_in(all: &[u64], at: usize, start: usize, end: usize, tick: u64) -> Option<usize>
     requires within { at + end ≤ length all.now }
     ensures some { IfSome result (IsFirstIn all.now at start end tick) }
     ensures none { IfNone result (IsNoneIn all.now at start end tick) }
@@ -96,15 +96,15 @@ pub fn first_by(
     None
 }
 
-/// Whether no entry of a level is at most the tick, where the highest of the levels above it says so.
-pub fn is_none_by(all: &[u64], levels: usize, at: usize, len: usize, tick: u64) -> bool
+/// The least of all entries of a level, by the highest of the levels above it.
+pub fn least_of(all: &[u64], levels: usize, at: usize, len: usize) -> u64
     requires { AreLevels levels at len all.now }
-    ensures { IsTrue result → IsNoneIn all.now at 0 len tick }
+    ensures { IsLeastIn all.now at 0 len result }
 {
     if levels == 0 {
-        first_in(all, at, 0, len, tick).is_none()
+        least_in(all, at, 0, len)
     } else {
-        is_none_by(all, levels - 1, at + len, group_count(len), tick)
+        least_of(all, levels - 1, at + len, group_count(len))
     }
 }
 
@@ -141,7 +141,7 @@ fn is_least_of_eight(all: &[u64], from: usize, tick: u64) -> bool
 
 /// The least of an entry's group. All groups but a level's last are whole. In one of these the entry that was the least
 /// mostly still is.
-fn least_of_group(all: &[u64], at: usize, len: usize, entry: usize) -> u64
+pub fn least_of_group(all: &[u64], at: usize, len: usize, entry: usize) -> u64
     requires entry { entry < len }
     requires within { at + len ≤ length all.now }
     ensures { IsLeastIn all.now at (8 * (entry / 8)) (min (8 * (entry / 8) + 8) len) result }

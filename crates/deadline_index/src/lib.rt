@@ -2,6 +2,7 @@
 //! A contract sees the list of ticks. Only the first call takes memory.
 #![tactic(auto)]
 
+mod groups;
 pub mod index;
 mod levels;
 

@@ -7,8 +7,6 @@ mod phase;
 mod places;
 mod release;
 mod ring;
-#[cfg(test)]
-mod tests;
 
 pub use buffer::Buffer;
 pub use outside_io::WriteFault;

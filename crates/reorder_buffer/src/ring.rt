@@ -1,7 +1,7 @@
 //! The packets that wait, in a ring of places over one pool of blocks: a packet stands at the place that its number is modulo
 //! the number of places. Only the first call takes memory.
 ghost use Rattle.std.specs.Prelude.{◌≡◌, ◌==◌, ◌<◌, ◌≤◌, ◌+◌, ◌%◌, ◌^◌, ℕ, [], length, nat_le, int_lt, pos, take};
-ghost use Rattle.std.specs.Prelude.{true, false, unwrap_or, IsTrue, IfOk};
+ghost use Rattle.std.specs.Prelude.{true, false, None, replicate, unwrap_or, IsTrue, IfOk};
 ghost use Rattle.std.specs.List.{list_any};
 ghost use Rattle.std.specs.Option.{ForSome, option_map};
 ghost use Rattle.receiver_rules.specs.declared.bounds.TheConstants.{MAX_SPAN};
@@ -73,8 +73,7 @@ impl Ring {
         ensures capacity { IfOk result (λ r. r.capacity ≡ capacity) }
         ensures packets { IfOk result (λ r. r.packets ≡ []) }
     {
-        let mut places = Vec::with_capacity(alloc, capacity)?;
-        places.resize(capacity, None)?;
+        let places = empty_places(alloc, capacity)?;
         let mut pool = Vec::with_capacity(alloc, capacity)?;
         pool.resize(capacity, [0; MAX_PAYLOAD])?;
         let index = DeadlineIndex::with_places(alloc, capacity)?;
@@ -238,6 +237,15 @@ impl Ring {
     {
         one.abs_diff(other) >= self.places.len() as u64
     }
+}
+
+/// So many places where no packet stands.
+fn empty_places(alloc: Global, capacity: usize) -> Result<Vec<Option<Held>>, AllocError>
+    ensures { IfOk result (λ places. places.items ≡ replicate capacity None) }
+{
+    let mut places = Vec::with_capacity(alloc, capacity)?;
+    places.resize(capacity, None)?;
+    Ok(places)
 }
 
 /// The ends with one more number.

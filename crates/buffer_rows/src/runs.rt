@@ -5,10 +5,10 @@ ghost use Rattle.std.specs.List.{All};
 ghost use Rattle.receiver_plain.specs.Told.{IsFit};
 ghost use Rattle.reorder_buffer.specs.StateAfter.{IsStateAfter};
 
-use crate::{Arrival, Buffer, MAX_PAYLOAD, Phase, Verdict, WriteFault};
 use outside_io::Store8;
 use receiver_plain::{Event, Step, released, verdicts};
 use receiver_rules::Limits;
+use reorder_buffer::{Arrival, Buffer, MAX_PAYLOAD, Phase, Verdict, WriteFault};
 use seq_unwrap::Width;
 use std::alloc::{AllocError, Global};
 use std::test::Fail;

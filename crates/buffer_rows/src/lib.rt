@@ -1,0 +1,5 @@
+//! Worked runs on the reorder buffer. There are tests alone.
+#![tactic(auto)]
+
+#[cfg(test)]
+mod runs;
