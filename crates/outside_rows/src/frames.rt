@@ -1,6 +1,7 @@
 use outside_io::{Bytes, Channel, Pieces, Profile, Source};
 use pcap_file::{PcapBad, PcapKind, PcapReader, datagram_in};
-use std::alloc::Global;
+use std::alloc::{AllocError, Global};
+use std::process::Abort;
 use std::test::Fail;
 
 // A little-endian file of raw IP with one packet: 41 octets from 10.0.0.1 to 10.0.0.2, both ports 1,968.
@@ -31,36 +32,51 @@ fn read_all<S: Source + Drop>(
     }
 }
 
+/// What is read of the source.
+fn assert_frames<S: Source + Drop>(
+    rt: &impl Abort,
+    source: S,
+    want: (u64, usize, u8, Option<PcapBad>),
+) {
+    let mut buf = [0; 4096];
+    assert!(rt; read_all(source, &mut buf) == want);
+}
+
+/// The worked packet is the source's one frame.
+fn assert_worked<S: Source + Drop>(rt: &impl Abort, source: S) {
+    let mut buf = [0; 4096];
+    assert!(rt; read_all(source, &mut buf) == (0, 41, 1, None));
+    assert!(rt; buf.get(..41) == WORKED.get(40..));
+}
+
 #[test]
 fn a_file_gives_its_frame_however_it_is_cut(rt: HostRuntime) -> Result<(), Fail> {
-    let alloc = rt.alloc();
-    let mut buf = [0; 4096];
     for cut in 1..81 {
-        let source = Pieces::with(alloc, &WORKED, &[cut], &[])?;
-        assert!(rt;
-            read_all(source, &mut buf) == (0, 41, 1, None),
-            "cut at {cut}"
-        );
-        assert!(rt; buf.get(..41) == WORKED.get(40..));
+        let source = Pieces::with(rt.alloc(), &WORKED, &[cut], &[])?;
+        assert_worked(&rt, source);
     }
     // A read fails behind the header.
-    let source = Pieces::with(alloc, &WORKED, &[30], &[1])?;
-    assert!(rt; read_all(source, &mut buf) == (0, 0, 0, Some(PcapBad::ReadFault)));
+    let source = Pieces::with(rt.alloc(), &WORKED, &[30], &[1])?;
+    assert_frames(&rt, source, (0, 0, 0, Some(PcapBad::ReadFault)));
     Ok(())
+}
+
+/// What follows on so many octets of the worked file.
+fn after(length: usize) -> Option<PcapBad> {
+    match length {
+        0..4 => Some(PcapBad::Bad(PcapKind::Magic, 0)),
+        4..24 => Some(PcapBad::Bad(PcapKind::Truncated, 0)),
+        24 => None,
+        _ => Some(PcapBad::Bad(PcapKind::Truncated, 24)),
+    }
 }
 
 #[test]
 fn a_file_that_ends_early_says_where(rt: HostRuntime) -> Result<(), Fail> {
-    let mut buf = [0; 4096];
-    for len in 0..81 {
-        let want = match len {
-            0..4 => Some(PcapBad::Bad(PcapKind::Magic, 0)),
-            4..24 => Some(PcapBad::Bad(PcapKind::Truncated, 0)),
-            24 => None,
-            _ => Some(PcapBad::Bad(PcapKind::Truncated, 24)),
-        };
-        let source = Bytes::with(rt.alloc(), WORKED.get(..len).ok_or("len")?, &[])?;
-        assert!(rt; read_all(source, &mut buf) == (0, 0, 0, want));
+    for length in 0..81 {
+        let front = WORKED.get(..length).ok_or("length")?;
+        let source = Bytes::with(rt.alloc(), front, &[])?;
+        assert_frames(&rt, source, (0, 0, 0, after(length)));
     }
     Ok(())
 }
@@ -131,40 +147,40 @@ static FILES: [(&[u8], u64, u8, Option<PcapBad>); 10] = [
 
 #[test]
 fn both_byte_orders_and_fractions_are_read(rt: HostRuntime) -> Result<(), Fail> {
-    let mut buf = [0; 4096];
     for (octets, at_us, count, bad) in &FILES {
         let source = Bytes::with(rt.alloc(), octets, &[])?;
-        assert!(rt; read_all(source, &mut buf) == (*at_us, 0, *count, *bad));
+        assert_frames(&rt, source, (*at_us, 0, *count, *bad));
     }
-    assert!(rt;
-        format!(in rt.alloc(); "{}", PcapBad::Bad(PcapKind::LinkType, 0))?.as_str()
-            == "link type at 0"
-    );
     Ok(())
 }
 
 #[test]
-fn a_long_packet_gives_its_front(rt: HostRuntime) -> Result<(), Fail> {
+fn a_refusal_is_printed_with_its_offset(rt: HostRuntime) -> Result<(), Fail> {
+    let shown = format!(in rt.alloc(); "{}", PcapBad::Bad(PcapKind::LinkType, 0))?;
+    assert!(rt; shown.as_str() == "link type at 0");
+    Ok(())
+}
+
+/// A file of one packet of 262,144 octets: 4,096 times the number 1, then 2 and so on.
+fn long_file(alloc: Global) -> Result<Vec<u8>, Fail> {
     let mut octets = Vec::from_slice(
-        rt.alloc(),
+        alloc,
         b"\xa1\xb2\xc3\xd4\0\x02\0\x04\0\0\0\0\0\0\0\0\0\0\0\0\0\0\0\x01\0\0\0\0\0\0\0\0\0\x04\0\0\0\x04\0\0",
     )?;
     for part in 1..65 {
         octets.extend_from_slice(&[part; 4096])?;
     }
+    Ok(octets)
+}
+
+#[test]
+fn a_long_packet_gives_its_front(rt: HostRuntime) -> Result<(), Fail> {
+    let octets = long_file(rt.alloc())?;
     let mut buf = [0; 4096];
     let source = Bytes::with(rt.alloc(), octets.as_slice(), &[])?;
     assert!(rt; read_all(source, &mut buf) == (0, 4096, 1, None));
     assert!(rt; (buf[0], buf[4095]) == (1, 1));
     Ok(())
-}
-
-fn joined(alloc: Global, parts: &[&[u8]]) -> Result<Vec<u8>, Fail> {
-    let mut octets = Vec::new(alloc);
-    for part in parts {
-        octets.extend_from_slice(part)?;
-    }
-    Ok(octets)
 }
 
 // What stands before the worked packet, the link type, the profile, the port, and the channel of what is found.
@@ -199,22 +215,46 @@ static FRAMES: [(&[u8], u16, Profile, u16, Option<Channel>); 10] = [
     (b"", 1, Profile::Main, 1968, None),
 ];
 
+/// The frame's datagram to the port, and where there is one, that it is the worked packet's.
+fn assert_datagram(
+    rt: &impl Abort,
+    link_type: u16,
+    frame: &[u8],
+    profile: Profile,
+    port: u16,
+    want: Option<Channel>,
+) {
+    match datagram_in(link_type, frame, profile, port) {
+        Some((channel, payload)) => {
+            assert!(rt; want == Some(channel));
+            assert!(rt; payload == &WORKED[68..]);
+        }
+        None => assert!(rt; want.is_none()),
+    }
+}
+
+fn joined(alloc: Global, front: &[u8], rest: &[u8]) -> Result<Vec<u8>, AllocError> {
+    let mut octets = Vec::from_slice(alloc, front)?;
+    octets.extend_from_slice(rest)?;
+    Ok(octets)
+}
+
 #[test]
 fn a_frame_carries_its_datagram_to_its_port(rt: HostRuntime) -> Result<(), Fail> {
     for (before, link_type, profile, port, channel) in &FRAMES {
-        let octets = joined(rt.alloc(), &[before, &WORKED[40..]])?;
-        let found = datagram_in(*link_type, octets.as_slice(), *profile, *port);
-        match found {
-            Some((found, payload)) => assert!(rt;
-                Some(found) == *channel && payload == &WORKED[68..]
-            ),
-            None => assert!(rt; channel.is_none()),
-        }
+        let frame = joined(rt.alloc(), before, &WORKED[40..])?;
+        assert_datagram(&rt, *link_type, frame.as_slice(), *profile, *port, *channel);
     }
+    Ok(())
+}
+
+#[test]
+fn a_frame_that_is_cut_or_of_another_protocol_carries_none(rt: HostRuntime) -> Result<(), Fail> {
     // An Ethernet header that is cut, an IPv4 header that is, and a packet that isn't UDP but TCP.
-    assert!(rt; datagram_in(1, b"aaaaaabbbbbb\x08", Profile::Main, 1968).is_none());
-    assert!(rt; datagram_in(101, b"E", Profile::Main, 1968).is_none());
-    let octets = joined(rt.alloc(), &[&WORKED[40..49], b"\x06", &WORKED[50..]])?;
-    assert!(rt; datagram_in(101, octets.as_slice(), Profile::Main, 1968).is_none());
+    assert_datagram(&rt, 1, b"aaaaaabbbbbb\x08", Profile::Main, 1968, None);
+    assert_datagram(&rt, 101, b"E", Profile::Main, 1968, None);
+    let front = b"\x45\0\0\x29\0\0\x40\0\x40\x06";
+    let frame = joined(rt.alloc(), front, &WORKED[50..])?;
+    assert_datagram(&rt, 101, frame.as_slice(), Profile::Main, 1968, None);
     Ok(())
 }

@@ -4,6 +4,8 @@ use capture_walk::{PortReader, VisitBad, Visitor, WalkBad, walk};
 use outside_io::{Bytes, Failed, Pieces, Profile, Sink, Source, Store8};
 use pcap_file::PcapKind;
 use std::alloc::Global;
+use std::fmt::Display;
+use std::process::Abort;
 use std::test::Fail;
 
 /// A capture of the records `A`, `BC` and an empty one, on links 0, 1 and 2.
@@ -45,18 +47,19 @@ impl Visitor for Copier {
     }
 }
 
-/// Whether a walk over the source ends so, and leaves these octets in the sink.
+/// A walk over the source ends so, and leaves these octets in the sink.
 #[tactic(auto, using(capture_walk::proofs::GoingLemmas::new_has_read))]
-fn leaves<S: Source + Drop>(
+fn assert_left<S: Source + Drop>(
+    rt: &impl Abort,
     source: S,
-    sink: Store8,
+    mut sink: Store8,
     want: Result<(), WalkBad>,
     written: &[u8],
-) -> bool {
+) {
     let mut reader = Reader::over(source);
-    let mut sink = sink;
     let result = walk(&mut reader, &mut Copier, &mut sink);
-    result == want && sink.octets() == written
+    assert!(rt; result == want);
+    assert!(rt; sink.octets() == written);
 }
 
 /// A pcap file of raw IP packets to the UDP ports 1968, 1969 and 1970, each with one octet of data: `A`, `B` and `C`.
@@ -69,37 +72,81 @@ const PACKETS: &[u8] = b"\xA1\xB2\xC3\xD4\0\x02\0\x04\0\0\0\0\0\0\0\0\0\0\0\0\0\
     E\0\0\x1D\0\0\0\0\x40\x11\0\0\x0A\0\0\x01\x0A\0\0\x02\x07\xB0\x07\xB2\0\x09\0\0C";
 
 /// The same of a pcap file's datagrams to a UDP port.
-fn leaves_of_port<S: Source + Drop>(
+fn assert_left_of_port<S: Source + Drop>(
+    rt: &impl Abort,
     source: S,
     profile: Profile,
     port: u16,
-    sink: Store8,
+    mut sink: Store8,
     want: Result<(), WalkBad>,
     written: &[u8],
-) -> bool {
+) {
     let mut reader = PortReader::over(source, profile, port);
-    let mut sink = sink;
     let result = walk(&mut reader, &mut Copier, &mut sink);
-    result == want && sink.octets() == written
+    assert!(rt; result == want);
+    assert!(rt; sink.octets() == written);
+}
+
+/// However the packets are cut, these octets are left of them.
+fn assert_port(
+    rt: &impl Abort,
+    alloc: Global,
+    profile: Profile,
+    port: u16,
+    written: &[u8],
+) -> Result<(), Fail> {
+    for cut in 1..PACKETS.len() {
+        let source = Pieces::with(alloc, PACKETS, &[cut], &[])?;
+        let sink = Store8::with(alloc, 8, &[])?;
+        assert_left_of_port(rt, source, profile, port, sink, Ok(()), written);
+    }
+    Ok(())
 }
 
 #[test]
 fn the_datagrams_to_a_port_are_a_pcap_files_records(rt: HostRuntime) -> Result<(), Fail> {
-    let alloc = rt.alloc();
-    let cases: [(Profile, u16, &[u8]); 5] = [
-        (Profile::Simple, 1968, b"AB."),
-        (Profile::Simple, 1970, b"C."),
-        (Profile::Main, 1968, b"A."),
-        (Profile::Main, 1969, b"B."),
-        (Profile::Main, 1971, b"."),
-    ];
-    for (profile, port, written) in cases {
-        for cut in 1..PACKETS.len() {
-            let source = Pieces::with(alloc, PACKETS, &[cut], &[])?;
-            let sink = Store8::with(alloc, 8, &[])?;
-            assert!(rt; leaves_of_port(source, profile, port, sink, Ok(()), written));
-        }
-    }
+    assert_port(&rt, rt.alloc(), Profile::Simple, 1968, b"AB.")?;
+    assert_port(&rt, rt.alloc(), Profile::Simple, 1970, b"C.")?;
+    assert_port(&rt, rt.alloc(), Profile::Main, 1968, b"A.")?;
+    assert_port(&rt, rt.alloc(), Profile::Main, 1969, b"B.")?;
+    assert_port(&rt, rt.alloc(), Profile::Main, 1971, b".")?;
+    Ok(())
+}
+
+/// Of so many octets of the packets, and how the walk over them ends and what it leaves.
+static FRONTS: [(usize, usize, Result<(), WalkBad>, &[u8]); 8] = [
+    (0, 4, Err(WalkBad::BadPcap(PcapKind::Magic, 0)), b"."),
+    (4, 24, Err(WalkBad::BadPcap(PcapKind::Truncated, 0)), b"."),
+    (24, 25, Ok(()), b"."),
+    (25, 69, Err(WalkBad::BadPcap(PcapKind::Truncated, 24)), b"."),
+    (69, 70, Ok(()), b"A."),
+    (
+        70,
+        114,
+        Err(WalkBad::BadPcap(PcapKind::Truncated, 69)),
+        b"A.",
+    ),
+    (114, 115, Ok(()), b"AB."),
+    (
+        115,
+        159,
+        Err(WalkBad::BadPcap(PcapKind::Truncated, 114)),
+        b"AB.",
+    ),
+];
+
+/// The front of the packets, of so many octets.
+fn assert_front(
+    rt: &impl Abort,
+    alloc: Global,
+    length: usize,
+    want: Result<(), WalkBad>,
+    written: &[u8],
+) -> Result<(), Fail> {
+    let front = PACKETS.get(..length).ok_or("length")?;
+    let source = Bytes::with(alloc, front, &[])?;
+    let sink = Store8::with(alloc, 8, &[])?;
+    assert_left_of_port(rt, source, Profile::Simple, 1968, sink, want, written);
     Ok(())
 }
 
@@ -107,27 +154,21 @@ fn the_datagrams_to_a_port_are_a_pcap_files_records(rt: HostRuntime) -> Result<(
 fn a_pcap_file_that_breaks_off_is_ended_after_its_whole_frames(
     rt: HostRuntime,
 ) -> Result<(), Fail> {
-    let alloc = rt.alloc();
-    for len in 0..PACKETS.len() {
-        let (want, written): (Result<(), WalkBad>, &[u8]) = match len {
-            0..4 => (Err(WalkBad::BadPcap(PcapKind::Magic, 0)), b"."),
-            4..24 => (Err(WalkBad::BadPcap(PcapKind::Truncated, 0)), b"."),
-            24 => (Ok(()), b"."),
-            25..69 => (Err(WalkBad::BadPcap(PcapKind::Truncated, 24)), b"."),
-            69 => (Ok(()), b"A."),
-            70..114 => (Err(WalkBad::BadPcap(PcapKind::Truncated, 69)), b"A."),
-            114 => (Ok(()), b"AB."),
-            _ => (Err(WalkBad::BadPcap(PcapKind::Truncated, 114)), b"AB."),
-        };
-        let source = Bytes::with(alloc, &PACKETS[..len], &[])?;
-        let sink = Store8::with(alloc, 8, &[])?;
-        assert!(rt; leaves_of_port(source, Profile::Simple, 1968, sink, want, written));
+    for (first, end, want, written) in &FRONTS {
+        for length in *first..*end {
+            assert_front(&rt, rt.alloc(), length, *want, written)?;
+        }
     }
-    // A read fails behind the first record.
-    let source = Pieces::with(alloc, PACKETS, &[69], &[1])?;
-    let sink = Store8::with(alloc, 8, &[])?;
+    Ok(())
+}
+
+#[test]
+fn a_failed_read_of_a_pcap_file_is_answered_after_the_end(rt: HostRuntime) -> Result<(), Fail> {
+    // It fails behind the first record.
+    let source = Pieces::with(rt.alloc(), PACKETS, &[69], &[1])?;
+    let sink = Store8::with(rt.alloc(), 8, &[])?;
     let fault = Err(WalkBad::ReadFault);
-    assert!(rt; leaves_of_port(source, Profile::Simple, 1968, sink, fault, b"A."));
+    assert_left_of_port(&rt, source, Profile::Simple, 1968, sink, fault, b"A.");
     Ok(())
 }
 
@@ -137,98 +178,111 @@ fn each_record_comes_once_and_then_the_end(rt: HostRuntime) -> Result<(), Fail> 
     for cut in 1..WHOLE.len() {
         let source = Pieces::with(alloc, WHOLE, &[cut], &[])?;
         let sink = Store8::with(alloc, 8, &[])?;
-        assert!(rt; leaves(source, sink, Ok(()), b"ABC."), "cut at {cut}");
+        assert_left(&rt, source, sink, Ok(()), b"ABC.");
     }
+    Ok(())
+}
+
+/// Captures that break off, how the walk over each ends and what it leaves.
+static BROKEN_OFF: [(&[u8], Result<(), WalkBad>, &[u8]); 5] = [
+    (b"RISTCAP1", Ok(()), b"."),
+    (b"", Err(WalkBad::BadCapture(CapKind::Magic, 0)), b"."),
+    (
+        b"RISTCAP2",
+        Err(WalkBad::BadCapture(CapKind::Magic, 0)),
+        b".",
+    ),
+    (
+        b"RISTCAP1\0\0\0\x01\0\0\0\0\0\0\0\0A\x10\0\0\0\0\0\0\0\0\0\0\0",
+        Err(WalkBad::BadCapture(CapKind::Link, 21)),
+        b"A.",
+    ),
+    (
+        b"RISTCAP1\0\0\x08\x01\0\0\0\0\0\0\0\0",
+        Err(WalkBad::BadCapture(CapKind::Long, 8)),
+        b".",
+    ),
+];
+
+/// A capture in the sink's way.
+fn assert_capture(
+    rt: &impl Abort,
+    alloc: Global,
+    octets: &[u8],
+    sink: Store8,
+    want: Result<(), WalkBad>,
+    written: &[u8],
+) -> Result<(), Fail> {
+    let source = Bytes::with(alloc, octets, &[])?;
+    assert_left(rt, source, sink, want, written);
     Ok(())
 }
 
 #[test]
 fn a_capture_that_breaks_off_is_ended_after_its_whole_records(rt: HostRuntime) -> Result<(), Fail> {
-    let alloc = rt.alloc();
-    let cases: [(&[u8], Result<(), WalkBad>, &[u8]); 6] = [
-        (b"RISTCAP1", Ok(()), b"."),
-        (b"", Err(WalkBad::BadCapture(CapKind::Magic, 0)), b"."),
-        (
-            b"RISTCAP2",
-            Err(WalkBad::BadCapture(CapKind::Magic, 0)),
-            b".",
-        ),
-        (
-            &WHOLE[..34],
-            Err(WalkBad::BadCapture(CapKind::Truncated, 21)),
-            b"A.",
-        ),
-        (
-            b"RISTCAP1\0\0\0\x01\0\0\0\0\0\0\0\0A\x10\0\0\0\0\0\0\0\0\0\0\0",
-            Err(WalkBad::BadCapture(CapKind::Link, 21)),
-            b"A.",
-        ),
-        (
-            b"RISTCAP1\0\0\x08\x01\0\0\0\0\0\0\0\0",
-            Err(WalkBad::BadCapture(CapKind::Long, 8)),
-            b".",
-        ),
-    ];
-    for (octets, want, written) in cases {
-        let source = Bytes::with(alloc, octets, &[])?;
-        assert!(rt; leaves(source, Store8::with(alloc, 8, &[])?, want, written));
+    for (octets, want, written) in &BROKEN_OFF {
+        let sink = Store8::with(rt.alloc(), 8, &[])?;
+        assert_capture(&rt, rt.alloc(), octets, sink, *want, written)?;
     }
-    Ok(())
+    let cut = Err(WalkBad::BadCapture(CapKind::Truncated, 21));
+    let sink = Store8::with(rt.alloc(), 8, &[])?;
+    assert_capture(&rt, rt.alloc(), &WHOLE[..34], sink, cut, b"A.")
 }
 
 #[test]
 fn a_failed_read_is_answered_after_the_end(rt: HostRuntime) -> Result<(), Fail> {
-    let alloc = rt.alloc();
-    let source = Pieces::with(alloc, WHOLE, &[21], &[1])?;
-    let sink = Store8::with(alloc, 8, &[])?;
-    assert!(rt; leaves(source, sink, Err(WalkBad::ReadFault), b"A."));
+    let source = Pieces::with(rt.alloc(), WHOLE, &[21], &[1])?;
+    let sink = Store8::with(rt.alloc(), 8, &[])?;
+    assert_left(&rt, source, sink, Err(WalkBad::ReadFault), b"A.");
     Ok(())
+}
+
+/// A sink with so much room whose listed call fails: the walk over the capture ends, and leaves these octets.
+fn assert_write_fault(
+    rt: &impl Abort,
+    alloc: Global,
+    octets: &[u8],
+    room: usize,
+    failing: &[u64],
+    written: &[u8],
+) -> Result<(), Fail> {
+    let sink = Store8::with(alloc, room, failing)?;
+    assert_capture(rt, alloc, octets, sink, Err(WalkBad::WriteFault), written)
 }
 
 #[test]
 fn a_failed_write_ends_a_walk_at_once(rt: HostRuntime) -> Result<(), Fail> {
-    let alloc = rt.alloc();
-    let fault = Err(WalkBad::WriteFault);
     // The first record, the second, and the end.
-    let cases: [(u64, &[u8]); 3] = [(0, b""), (1, b"A"), (3, b"ABC")];
-    for (call, written) in cases {
-        let source = Bytes::with(alloc, WHOLE, &[])?;
-        assert!(rt; leaves(source, Store8::with(alloc, 8, &[call])?, fault, written));
-    }
+    assert_write_fault(&rt, rt.alloc(), WHOLE, 8, &[0], b"")?;
+    assert_write_fault(&rt, rt.alloc(), WHOLE, 8, &[1], b"A")?;
+    assert_write_fault(&rt, rt.alloc(), WHOLE, 8, &[3], b"ABC")?;
     // A write that fails at the end is answered before what ended the capture.
-    let source = Bytes::with(alloc, &WHOLE[..34], &[])?;
-    assert!(rt; leaves(source, Store8::with(alloc, 8, &[1])?, fault, b"A"));
+    assert_write_fault(&rt, rt.alloc(), &WHOLE[..34], 8, &[1], b"A")?;
     // The second record has room for one of its octets.
-    let source = Bytes::with(alloc, WHOLE, &[])?;
-    assert!(rt; leaves(source, Store8::with(alloc, 2, &[])?, fault, b"AB"));
+    assert_write_fault(&rt, rt.alloc(), WHOLE, 2, &[], b"AB")
+}
+
+fn assert_text<T: Display>(
+    rt: &impl Abort,
+    alloc: Global,
+    shown: &T,
+    text: &str,
+) -> Result<(), Fail> {
+    let written = format!(in alloc; "{shown}")?;
+    assert!(rt; written.as_str() == text);
     Ok(())
 }
 
 #[test]
 fn each_end_has_its_text(rt: HostRuntime) -> Result<(), Fail> {
-    for (bad, text) in [
-        (WalkBad::Memory, "out of memory"),
-        (WalkBad::ReadFault, "read failed"),
-        (WalkBad::WriteFault, "write failed"),
-        (
-            WalkBad::BadCapture(CapKind::Truncated, 33),
-            "bad capture: truncated at 33",
-        ),
-        (
-            WalkBad::BadPcap(PcapKind::LinkType, 0),
-            "bad pcap: link type at 0",
-        ),
-        (WalkBad::TooLong, "input too long"),
-    ] {
-        let written = format!(in rt.alloc(); "{bad}")?;
-        assert!(rt; written.as_str() == text);
-    }
-    for (bad, text) in [
-        (VisitBad::Memory, "out of memory"),
-        (VisitBad::WriteFault, "write failed"),
-    ] {
-        let written = format!(in rt.alloc(); "{bad}")?;
-        assert!(rt; written.as_str() == text);
-    }
-    Ok(())
+    assert_text(&rt, rt.alloc(), &WalkBad::Memory, "out of memory")?;
+    assert_text(&rt, rt.alloc(), &WalkBad::ReadFault, "read failed")?;
+    assert_text(&rt, rt.alloc(), &WalkBad::WriteFault, "write failed")?;
+    let cut = WalkBad::BadCapture(CapKind::Truncated, 33);
+    assert_text(&rt, rt.alloc(), &cut, "bad capture: truncated at 33")?;
+    let raw = WalkBad::BadPcap(PcapKind::LinkType, 0);
+    assert_text(&rt, rt.alloc(), &raw, "bad pcap: link type at 0")?;
+    assert_text(&rt, rt.alloc(), &WalkBad::TooLong, "input too long")?;
+    assert_text(&rt, rt.alloc(), &VisitBad::Memory, "out of memory")?;
+    assert_text(&rt, rt.alloc(), &VisitBad::WriteFault, "write failed")
 }
