@@ -4,9 +4,10 @@ ghost use Rattle.request_plain.specs.Told.{IsFit, IsSmallPolicy};
 
 use receiver_rules::{Arrival, Limits};
 use request_plain::{Input, Step, asked};
-use request_rules::{AskWord, NackKind, Policy};
+use request_rules::{AskWord, Asked, NackKind, Policy};
 use seq_unwrap::Width;
-use std::test::Fail;
+use std::alloc::{AllocError, Global};
+use std::process::Abort;
 
 /// A delay of one second, and a span of 8.
 const LIMITS: Limits = Limits {
@@ -59,27 +60,53 @@ fn clock(tick: u64) -> Step<'static>
     }
 }
 
-#[test]
-fn a_gap_is_asked_for_after_the_tolerance_and_again_after_the_interval(
-    rt: HostRuntime,
-) -> Result<(), Fail> {
+/// The words that are asked for at a tick after the first so many steps of the run.
+fn asked_after(alloc: Global, kind: NackKind, count: usize, tick: u64) -> Result<Asked, AllocError>
+    requires count { count ≤ 4 }
+    requires tick { tick < 2 ^ 61 }
+{
     let steps = [
         packet(0, 10, 0),
         packet(100, 15, 4_500),
         clock(2_349),
         clock(2_350),
     ];
+    asked(alloc, &LIMITS, &policy(kind), &steps[..count], tick)
+}
+
+fn assert_nothing(rt: &impl Abort, alloc: Global, kind: NackKind, count: usize, tick: u64)
+    requires count { count ≤ 4 }
+    requires tick { tick < 2 ^ 61 }
+{
+    let told = asked_after(alloc, kind, count, tick);
+    assert!(rt; matches!(told, Ok(asked) if asked.is_empty()));
+}
+
+fn assert_asked(
+    rt: &impl Abort,
+    alloc: Global,
+    kind: NackKind,
+    count: usize,
+    tick: u64,
+    second: u16,
+)
+    requires count { count ≤ 4 }
+    requires tick { tick < 2 ^ 61 }
+{
+    let first = (1 << 40) + 11;
+    let told = asked_after(alloc, kind, count, tick);
+    assert!(rt;
+        matches!(told, Ok(asked) if asked.words() == [AskWord { first, second }].as_slice())
+    );
+}
+
+#[test]
+fn a_gap_is_asked_for_after_the_tolerance_and_again_after_the_interval(rt: HostRuntime) {
+    let alloc = rt.alloc();
     for (kind, second) in [(NackKind::Range, 3), (NackKind::Mask, 7)] {
-        let first = (1 << 40) + 11;
-        let want = [AskWord { first, second }];
-        let policy = policy(kind);
-        let early = asked(rt.alloc(), &LIMITS, &policy, &steps[..3], 2_349)?;
-        let once = asked(rt.alloc(), &LIMITS, &policy, &steps[..3], 2_350)?;
-        let soon = asked(rt.alloc(), &LIMITS, &policy, &steps, 6_849)?;
-        let again = asked(rt.alloc(), &LIMITS, &policy, &steps, 6_850)?;
-        assert!(rt; early.is_empty() && soon.is_empty());
-        assert!(rt; once.words() == want.as_slice());
-        assert!(rt; again.words() == want.as_slice());
+        assert_nothing(&rt, alloc, kind, 3, 2_349);
+        assert_asked(&rt, alloc, kind, 3, 2_350, second);
+        assert_nothing(&rt, alloc, kind, 4, 6_849);
+        assert_asked(&rt, alloc, kind, 4, 6_850, second);
     }
-    Ok(())
 }

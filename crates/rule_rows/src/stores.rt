@@ -6,6 +6,7 @@ ghost use Rattle.retransmit_store.specs.State.{packets_in};
 use retransmit_store::{Sent, Store};
 use seq_unwrap::Width;
 use std::alloc::{AllocError, Global};
+use std::process::Abort;
 use std::test::Fail;
 
 /// A packet whose payload is its number, in eight octets.
@@ -38,40 +39,68 @@ fn copies(store: &Store, number: u64) -> bool
     }
 }
 
+fn assert_narrow(rt: &impl Abort, store: &Store, word: u16, want: Option<u64>) {
+    assert!(rt; store.find(Width::W16, u32::from(word)) == want);
+}
+
+fn assert_wide(rt: &impl Abort, store: &Store, word: u32, want: Option<u64>) {
+    assert!(rt; store.find(Width::W32, word) == want);
+}
+
+fn assert_stored(rt: &impl Abort, store: &Store, number: u64, want: bool) {
+    assert!(rt; copies(store, number) == want);
+}
+
+fn assert_marked(rt: &impl Abort, store: &Store, number: u64, want: Option<u64>) {
+    assert!(rt; store.marked(number) == want);
+}
+
 #[test]
 fn words_find_the_last_packets_across_a_cycle(rt: HostRuntime) -> Result<(), Fail> {
     // 65,530 to 65,541 were sent, and eight are stored.
     let store = filled(rt.alloc(), 8, 65_530, 12)?;
-    assert!(rt; store.find(Width::W16, 65_533) == None);
-    assert!(rt; store.find(Width::W16, 65_534) == Some(65_534));
-    assert!(rt; store.find(Width::W16, 65_535) == Some(65_535));
-    assert!(rt; store.find(Width::W16, 0) == Some(65_536));
-    assert!(rt; store.find(Width::W16, 5) == Some(65_541));
-    assert!(rt; store.find(Width::W16, 6) == None);
-    assert!(rt; store.find(Width::W32, 0) == None);
-    assert!(rt; store.find(Width::W32, 65_533) == None);
-    assert!(rt; store.find(Width::W32, 65_536) == Some(65_536));
-    // 2^32 - 6 to 2^32 + 5 likewise.
-    let wide = filled(rt.alloc(), 8, 4_294_967_290, 12)?;
-    assert!(rt; wide.find(Width::W32, 4_294_967_293) == None);
-    assert!(rt; wide.find(Width::W32, 4_294_967_294) == Some(4_294_967_294));
-    assert!(rt; wide.find(Width::W32, 0) == Some(4_294_967_296));
-    assert!(rt; wide.find(Width::W32, 5) == Some(4_294_967_301));
-    assert!(rt; wide.find(Width::W32, 6) == None);
-    assert!(rt; wide.find(Width::W16, 65_534) == Some(4_294_967_294));
-    assert!(rt; wide.find(Width::W16, 5) == Some(4_294_967_301));
+    assert_narrow(&rt, &store, 65_533, None);
+    assert_narrow(&rt, &store, 65_534, Some(65_534));
+    assert_narrow(&rt, &store, 65_535, Some(65_535));
+    assert_narrow(&rt, &store, 0, Some(65_536));
+    assert_narrow(&rt, &store, 5, Some(65_541));
+    assert_narrow(&rt, &store, 6, None);
+    assert_wide(&rt, &store, 0, None);
+    assert_wide(&rt, &store, 65_533, None);
+    assert_wide(&rt, &store, 65_536, Some(65_536));
+    Ok(())
+}
+
+#[test]
+fn words_find_the_last_packets_across_a_wide_cycle(rt: HostRuntime) -> Result<(), Fail> {
+    // 2^32 - 6 to 2^32 + 5 were sent, and eight are stored.
+    let store = filled(rt.alloc(), 8, 4_294_967_290, 12)?;
+    assert_wide(&rt, &store, 4_294_967_293, None);
+    assert_wide(&rt, &store, 4_294_967_294, Some(4_294_967_294));
+    assert_wide(&rt, &store, 0, Some(4_294_967_296));
+    assert_wide(&rt, &store, 5, Some(4_294_967_301));
+    assert_wide(&rt, &store, 6, None);
+    assert_narrow(&rt, &store, 65_534, Some(4_294_967_294));
+    assert_narrow(&rt, &store, 5, Some(4_294_967_301));
+    Ok(())
+}
+
+#[test]
+fn an_empty_store_finds_nothing(rt: HostRuntime) -> Result<(), Fail> {
+    let store = filled(rt.alloc(), 1, 0, 0)?;
+    assert_narrow(&rt, &store, 0, None);
+    assert_stored(&rt, &store, 0, false);
     Ok(())
 }
 
 #[test]
 fn a_store_of_one_keeps_the_newest(rt: HostRuntime) -> Result<(), Fail> {
-    let empty = filled(rt.alloc(), 1, 0, 0)?;
-    assert!(rt; empty.find(Width::W16, 0) == None);
-    assert!(rt; !copies(&empty, 0));
     let store = filled(rt.alloc(), 1, 10, 3)?;
-    assert!(rt; store.find(Width::W16, 11) == None);
-    assert!(rt; store.find(Width::W16, 12) == Some(12));
-    assert!(rt; !copies(&store, 11) && copies(&store, 12) && !copies(&store, 13));
+    assert_narrow(&rt, &store, 11, None);
+    assert_narrow(&rt, &store, 12, Some(12));
+    assert_stored(&rt, &store, 11, false);
+    assert_stored(&rt, &store, 12, true);
+    assert_stored(&rt, &store, 13, false);
     Ok(())
 }
 
@@ -79,26 +108,32 @@ fn a_store_of_one_keeps_the_newest(rt: HostRuntime) -> Result<(), Fail> {
 fn a_store_of_a_whole_cycle_finds_every_word_once(rt: HostRuntime) -> Result<(), Fail> {
     // 0 to 65,536 were sent: 0 has just left, and its word is 65,536's.
     let store = filled(rt.alloc(), 65_536, 0, 65_537)?;
-    assert!(rt; store.find(Width::W16, 0) == Some(65_536));
-    assert!(rt; store.find(Width::W32, 0) == None);
-    assert!(rt; store.find(Width::W16, 1) == Some(1));
-    assert!(rt; store.find(Width::W16, 65_535) == Some(65_535));
-    assert!(rt; !copies(&store, 0) && copies(&store, 1) && copies(&store, 65_536));
+    assert_narrow(&rt, &store, 0, Some(65_536));
+    assert_wide(&rt, &store, 0, None);
+    assert_narrow(&rt, &store, 1, Some(1));
+    assert_narrow(&rt, &store, 65_535, Some(65_535));
+    assert_stored(&rt, &store, 0, false);
+    assert_stored(&rt, &store, 1, true);
+    assert_stored(&rt, &store, 65_536, true);
     Ok(())
+}
+
+/// Marks the packet with a number, if it is stored.
+fn mark(store: &mut Store, number: u64, at: u64) {
+    if copies(store, number) {
+        store.mark(number, at);
+    }
 }
 
 #[test]
 fn a_mark_is_kept_with_its_packet_alone(rt: HostRuntime) -> Result<(), Fail> {
     let mut store = filled(rt.alloc(), 2, 100, 2)?;
-    assert!(rt; store.marked(100) == None);
-    for at in [450, 1_800] {
-        if copies(&store, 100) {
-            store.mark(100, at);
-        }
-    }
-    assert!(rt; store.marked(100) == Some(1_800));
-    assert!(rt; store.marked(101) == None);
-    assert!(rt; store.marked(102) == None);
+    assert_marked(&rt, &store, 100, None);
+    mark(&mut store, 100, 450);
+    mark(&mut store, 100, 1_800);
+    assert_marked(&rt, &store, 100, Some(1_800));
+    assert_marked(&rt, &store, 101, None);
+    assert_marked(&rt, &store, 102, None);
     Ok(())
 }
 
@@ -106,9 +141,10 @@ fn a_mark_is_kept_with_its_packet_alone(rt: HostRuntime) -> Result<(), Fail> {
 fn an_emptied_store_takes_any_number_next(rt: HostRuntime) -> Result<(), Fail> {
     let mut store = filled(rt.alloc(), 4, 100, 3)?;
     store.empty();
-    assert!(rt; store.find(Width::W16, 102) == None);
+    assert_narrow(&rt, &store, 102, None);
     store.put(packet(7));
-    assert!(rt; copies(&store, 7) && !copies(&store, 102));
-    assert!(rt; store.find(Width::W16, 7) == Some(7));
+    assert_stored(&rt, &store, 7, true);
+    assert_stored(&rt, &store, 102, false);
+    assert_narrow(&rt, &store, 7, Some(7));
     Ok(())
 }
