@@ -1,30 +1,32 @@
 use keepalive_msg::{KeepBad, Keepalive, read, write};
 use std::test::Fail;
 
+/// Octets and what is read of them.
+static READ: [(&[u8], Result<Keepalive, KeepBad>); 4] = [
+    (
+        b"\x02\x00\x10\x20\x30\x40\x00\x00",
+        Ok(Keepalive {
+            mac: [2, 0, 16, 32, 48, 64],
+            capabilities: 0,
+            text: 0,
+        }),
+    ),
+    (
+        b"\x02\x00\x10\x20\x30\x40\x80\x01text",
+        Ok(Keepalive {
+            mac: [2, 0, 16, 32, 48, 64],
+            capabilities: 32769,
+            text: 4,
+        }),
+    ),
+    (b"\x02\x00\x10\x20\x30\x40\x00", Err(KeepBad::Short)),
+    (b"\x02\x00\x10", Err(KeepBad::Short)),
+];
+
 #[test]
 fn a_message_is_read_field_by_field(rt: HostRuntime) {
-    let rows: [(&[u8], Result<Keepalive, KeepBad>); 4] = [
-        (
-            b"\x02\x00\x10\x20\x30\x40\x00\x00",
-            Ok(Keepalive {
-                mac: [2, 0, 16, 32, 48, 64],
-                capabilities: 0,
-                text: 0,
-            }),
-        ),
-        (
-            b"\x02\x00\x10\x20\x30\x40\x80\x01text",
-            Ok(Keepalive {
-                mac: [2, 0, 16, 32, 48, 64],
-                capabilities: 32769,
-                text: 4,
-            }),
-        ),
-        (b"\x02\x00\x10\x20\x30\x40\x00", Err(KeepBad::Short)),
-        (b"\x02\x00\x10", Err(KeepBad::Short)),
-    ];
-    for (octets, answer) in rows {
-        assert!(rt; read(octets) == answer);
+    for (octets, answer) in &READ {
+        assert!(rt; read(octets) == *answer);
     }
 }
 

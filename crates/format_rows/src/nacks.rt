@@ -1,57 +1,71 @@
 use rist_nack::{Ask, asks, put_mask, put_range, put_seqext};
 use rtcp_compound::{Compound, CompoundOut, Full};
 use seq_unwrap::Width;
+use std::process::Abort;
 use std::test::Fail;
 
 const FLOW: u32 = 0x1020_3040;
 
-fn ask(width: Width, first: u32, more: u16) -> Option<Ask> {
-    Some(Ask {
+fn ask(width: Width, first: u32, more: u16) -> Ask {
+    Ask {
         flow: FLOW,
         width,
         first,
         more,
-    })
+    }
 }
 
-#[test]
-fn a_range_word_asks_across_the_end_of_the_numbers(rt: HostRuntime) -> Result<(), Fail> {
-    // 65,535 and one more, once without and once under an extension
-    let plain = [
-        0x80, 0xC9, 0, 1, 0, 0, 0, 7, 0x81, 0xCA, 0, 3, 0, 0, 0, 7, 1, 4, 0x72, 0x69, 0x73, 0x74,
-        0, 0, 0x80, 0xCC, 0, 3, 0x10, 0x20, 0x30, 0x40, 0x52, 0x49, 0x53, 0x54, 0xFF, 0xFF, 0, 1,
-    ];
-    let compound = Compound::read(&plain).ok().ok_or("a compound")?;
-    let mut found = asks(&compound, Some(FLOW));
-    assert!(rt; [found.next(), found.next()] == [ask(Width::W16, 65_535, 1), None]);
-    let wide = [
-        0x80, 0xC9, 0, 1, 0, 0, 0, 7, 0x81, 0xCC, 0, 3, 0x10, 0x20, 0x30, 0x40, 0x52, 0x49, 0x53,
-        0x54, 0, 1, 0, 0, 0x80, 0xCC, 0, 3, 0x10, 0x20, 0x30, 0x41, 0x52, 0x49, 0x53, 0x54, 0xFF,
-        0xFF, 0, 1,
-    ];
-    let compound = Compound::read(&wide).ok().ok_or("a compound")?;
-    let mut found = asks(&compound, Some(0x1020_3041));
-    assert!(rt; [found.next(), found.next()] == [ask(Width::W32, 131_071, 1), None]);
+// The compound asks for these of the flow, or of all flows, one after another, and for nothing else.
+fn assert_asks(
+    rt: &impl Abort,
+    octets: &[u8],
+    flow: Option<u32>,
+    want: &[Ask],
+) -> Result<(), Fail> {
+    let compound = Compound::read(octets).ok().ok_or("a compound")?;
+    let mut found = asks(&compound, flow);
+    for ask in want {
+        assert!(rt; found.next() == Some(*ask));
+    }
+    assert!(rt; found.next() == None);
     Ok(())
 }
 
+// 65,535 and one more, without an extension and under one.
+static PLAIN: [u8; 40] = [
+    0x80, 0xC9, 0, 1, 0, 0, 0, 7, 0x81, 0xCA, 0, 3, 0, 0, 0, 7, 1, 4, 0x72, 0x69, 0x73, 0x74, 0, 0,
+    0x80, 0xCC, 0, 3, 0x10, 0x20, 0x30, 0x40, 0x52, 0x49, 0x53, 0x54, 0xFF, 0xFF, 0, 1,
+];
+
+static WIDE: [u8; 40] = [
+    0x80, 0xC9, 0, 1, 0, 0, 0, 7, 0x81, 0xCC, 0, 3, 0x10, 0x20, 0x30, 0x40, 0x52, 0x49, 0x53, 0x54,
+    0, 1, 0, 0, 0x80, 0xCC, 0, 3, 0x10, 0x20, 0x30, 0x41, 0x52, 0x49, 0x53, 0x54, 0xFF, 0xFF, 0, 1,
+];
+
+#[test]
+fn a_range_word_asks_across_the_end_of_the_numbers(rt: HostRuntime) -> Result<(), Fail> {
+    assert_asks(&rt, &PLAIN, Some(FLOW), &[ask(Width::W16, 65_535, 1)])?;
+    assert_asks(
+        &rt,
+        &WIDE,
+        Some(0x1020_3041),
+        &[ask(Width::W32, 131_071, 1)],
+    )
+}
+
+static MASKED: [u8; 24] = [
+    0x80, 0xC9, 0, 1, 0, 0, 0, 7, 0x81, 0xCD, 0, 3, 0, 0, 0, 7, 0x10, 0x20, 0x30, 0x40, 0, 0x64,
+    0x80, 0x01,
+];
+
 #[test]
 fn a_mask_word_asks_for_its_set_bits_from_the_least(rt: HostRuntime) -> Result<(), Fail> {
-    let masked = [
-        0x80, 0xC9, 0, 1, 0, 0, 0, 7, 0x81, 0xCD, 0, 3, 0, 0, 0, 7, 0x10, 0x20, 0x30, 0x40, 0,
-        0x64, 0x80, 0x01,
-    ];
-    let compound = Compound::read(&masked).ok().ok_or("a compound")?;
-    let mut found = asks(&compound, None);
-    let numbers = [found.next(), found.next(), found.next(), found.next()];
     let expected = [
         ask(Width::W16, 100, 0),
         ask(Width::W16, 101, 0),
         ask(Width::W16, 116, 0),
-        None,
     ];
-    assert!(rt; numbers == expected);
-    Ok(())
+    assert_asks(&rt, &MASKED, None, &expected)
 }
 
 #[test]
@@ -72,28 +86,21 @@ fn an_extension_holds_for_its_own_flow_until_the_next(rt: HostRuntime) -> Result
     put_range(&mut out, FLOW, &[(9, 0)])
         .ok()
         .ok_or("a request")?;
-    let compound = Compound::read(out.octets()).ok().ok_or("a compound")?;
-    let mut found = asks(&compound, None);
-    let first = found.next().ok_or("an ask of another flow")?;
-    assert!(rt; first.flow == 8 && first.first == 5);
-    let numbers = [
-        found.next(),
-        found.next(),
-        found.next(),
-        found.next(),
-        found.next(),
-    ];
     let expected = [
+        Ask {
+            flow: 8,
+            width: Width::W16,
+            first: 5,
+            more: 0,
+        },
         ask(Width::W32, 131_078, 0),
         ask(Width::W32, 131_079, 65_535),
         ask(Width::W32, 196_607, 0),
         ask(Width::W32, 196_608, 0),
         ask(Width::W32, 9, 0),
     ];
-    assert!(rt; numbers == expected && found.next().is_none());
-    let mut other = asks(&compound, Some(8));
-    assert!(rt; other.next().is_some() && other.next().is_none());
-    Ok(())
+    assert_asks(&rt, out.octets(), None, &expected)?;
+    assert_asks(&rt, out.octets(), Some(8), &expected[..1])
 }
 
 #[test]
@@ -117,10 +124,7 @@ fn other_subtypes_names_and_short_bodies_ask_nothing(rt: HostRuntime) -> Result<
     put_range(&mut out, FLOW, &[(1, 0)])
         .ok()
         .ok_or("a request")?;
-    let compound = Compound::read(out.octets()).ok().ok_or("a compound")?;
-    let mut found = asks(&compound, None);
-    assert!(rt; [found.next(), found.next()] == [ask(Width::W16, 1, 0), None]);
-    Ok(())
+    assert_asks(&rt, out.octets(), None, &[ask(Width::W16, 1, 0)])
 }
 
 #[test]

@@ -1,5 +1,6 @@
 use rist_rtt::{Echo, Rtt, Sample, echoes, put_answer, put_request};
 use rtcp_compound::{Compound, CompoundOut, Full};
+use std::process::Abort;
 use std::test::Fail;
 
 const RR: [u8; 8] = [0x80, 0xC9, 0, 1, 0, 0, 0, 7];
@@ -89,20 +90,27 @@ fn echoes_are_read_and_shorter_bodies_skipped(rt: HostRuntime) -> Result<(), Fai
     Ok(())
 }
 
+// The moment of an answer, the stamp and the delay in it, what becomes of it, and the time after it.
+fn assert_sample(
+    rt: &impl Abort,
+    rtt: &mut Rtt,
+    moment: (u64, u64, u32),
+    told: Sample,
+    after: u64,
+) {
+    let (now, stamp, delay) = moment;
+    assert!(rt; rtt.sample(now, &echo_of(true, stamp, delay)) == told);
+    assert!(rt; rtt.value() == Some(after));
+}
+
 #[test]
 fn samples_are_smoothed_and_stale_ones_left(rt: HostRuntime) {
     let mut rtt = Rtt::new();
-    // The moment of an answer, the stamp and the delay in it, and the time after it.
-    let rows = [
-        (8_000, 0, 0, Sample::Taken, 8_000),
-        (16_500, 0, 500, Sample::Taken, 9_000),
-        (4, 5, 0, Sample::Stale, 9_000),
-        (10_000_001, 0, 0, Sample::Stale, 9_000),
-        (10_000_000, 0, 10_000_001, Sample::Taken, 7_875),
-    ];
     assert!(rt; rtt.value().is_none());
-    for (now, stamp, delay, told, after) in rows {
-        assert!(rt; rtt.sample(now, &echo_of(true, stamp, delay)) == told);
-        assert!(rt; rtt.value() == Some(after));
-    }
+    assert_sample(&rt, &mut rtt, (8_000, 0, 0), Sample::Taken, 8_000);
+    assert_sample(&rt, &mut rtt, (16_500, 0, 500), Sample::Taken, 9_000);
+    assert_sample(&rt, &mut rtt, (4, 5, 0), Sample::Stale, 9_000);
+    assert_sample(&rt, &mut rtt, (10_000_001, 0, 0), Sample::Stale, 9_000);
+    let late = (10_000_000, 0, 10_000_001);
+    assert_sample(&rt, &mut rtt, late, Sample::Taken, 7_875);
 }

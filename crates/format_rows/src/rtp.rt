@@ -1,4 +1,5 @@
 use rtp_packet::{Rtp, RtpBad, RtpHead, write};
+use std::process::Abort;
 use std::test::Fail;
 
 // Octets that are no packet, and the first test that fails.
@@ -69,25 +70,36 @@ fn a_payload_ends_at_1500_octets(rt: HostRuntime) {
     assert!(rt; Rtp::read(&octets[..12 + 1501]).err() == Some(RtpBad::Long));
 }
 
+// A packet's number, timestamp and SSRC, its extension and its payload.
+fn assert_packet(
+    rt: &impl Abort,
+    octets: &[u8],
+    words: (u16, u32, u32),
+    extension: Option<(u16, &[u8])>,
+    payload: &[u8],
+) -> Result<(), Fail> {
+    let read = Rtp::read(octets).ok().ok_or("a packet")?;
+    assert!(rt; (read.number(), read.stamp(), read.ssrc()) == words);
+    assert!(rt; read.extension() == extension);
+    assert!(rt; read.payload() == payload);
+    Ok(())
+}
+
 #[test]
 fn a_packet_is_read_field_by_field(rt: HostRuntime) -> Result<(), Fail> {
-    let plain = Rtp::read(b"\x80\x21\x00\x0a\x00\x00\x00\x00\x10\x20\x30\x40A")
-        .ok()
-        .ok_or("plain")?;
-    assert!(rt; (plain.number(), plain.stamp(), plain.ssrc()) == (10, 0, 0x10203040));
-    assert!(rt; plain.extension().is_none());
-    assert!(rt; plain.payload() == b"A".as_slice());
+    let plain = b"\x80\x21\x00\x0a\x00\x00\x00\x00\x10\x20\x30\x40A";
+    assert_packet(&rt, plain, (10, 0, 0x10203040), None, b"A")?;
     // A source, an extension of one word, three octets of padding, the marker and another payload type.
-    let full = Rtp::read(
-        b"\xb1\xe0\xff\xff\x00\x00\x03\x84\x10\x20\x30\x41abcdRI\x00\x01\xb8\x49\x00\x00BC\x07\x08\x03",
-    ).ok()
-        .ok_or("full")?;
-    assert!(rt; (full.number(), full.stamp(), full.ssrc()) == (65535, 900, 0x10203041));
-    let (profile, words) = full.extension().ok_or("extension")?;
-    assert!(rt; profile == 0x5249);
-    assert!(rt; words == b"\xb8\x49\x00\x00".as_slice());
-    assert!(rt; full.payload() == b"BC".as_slice());
-    Ok(())
+    let full =
+        b"\xb1\xe0\xff\xff\x00\x00\x03\x84\x10\x20\x30\x41abcdRI\x00\x01\xb8\x49\x00\x00BC\x07\x08\x03";
+    let words = b"\xb8\x49\x00\x00".as_slice();
+    assert_packet(
+        &rt,
+        full,
+        (65535, 900, 0x10203041),
+        Some((0x5249, words)),
+        b"BC",
+    )
 }
 
 #[test]
