@@ -487,7 +487,8 @@ fn null_packets_return_to_their_places(rt: HostRuntime) -> Result<(), Fail> {
     let mut block = block_with(
         b"\x90\x21\x00\x0a\x00\x00\x00\x00\x10\x20\x30\x41\x52\x49\x00\x01\xb8\x49\x00\x00",
     );
-    let Ok(Item::Media(media)) = opener.take(Channel::Media, &mut block[..772]) else {
+    let Ok(Item::Media(media)) = opener.take(Channel::Media, block.get_mut(..772).ok_or("772")?)
+    else {
         return Err(Fail::new("no media"));
     };
     assert!(rt; media.again && !media.is_whole());
@@ -507,7 +508,8 @@ fn packets_of_204_octets_and_wide_numbers_are_told(rt: HostRuntime) -> Result<()
     let mut block = block_with(
         b"\x90\x21\x00\x0a\x00\x00\x00\x00\x10\x20\x30\x40\x52\x49\x00\x01\xd0\xa0\x00\x02",
     );
-    let Ok(Item::Media(media)) = opener.take(Channel::Media, &mut block[..224]) else {
+    let Ok(Item::Media(media)) = opener.take(Channel::Media, block.get_mut(..224).ok_or("224")?)
+    else {
         return Err(Fail::new("no media"));
     };
     assert!(rt; media.width == Width::W32);
