@@ -7,7 +7,7 @@ use crate::levels::{first_by, least_of, set_entry};
 use std::alloc::{AllocError, Global};
 use std::marker::Model;
 
-/// A fixed number of ticks. A change of one and each search look at eight entries a level, and at nine of the highest.
+/// A fixed number of ticks. A change of one looks at eight entries a level at most, and a search at sixteen.
 #[derive(Drop)]
 pub struct Groups {
     count: usize,
@@ -79,7 +79,7 @@ impl Groups {
     }
 }
 
-/// How many levels stand above so many entries. The highest has nine entries at most, below 4,096 entries.
+/// How many levels stand above so many entries. The highest has two entries at most, below 4,096 entries.
 fn level_count(count: usize) -> usize
     ensures { result ≤ 4 }
 {

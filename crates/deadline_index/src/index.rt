@@ -13,7 +13,7 @@ pub const NEVER: u64 = u64::MAX;
 
 /// A fixed number of places, each with the tick at which it falls due. Eight neighbours are near, those around the place
 /// whose tick rose last: a change of one of them looks at these eight alone. Any other change, and each search, look at
-/// eight entries a level, and at nine of the highest, on four levels below 4,096 places and five below 32,768.
+/// sixteen entries a level at most, on six levels at most, for up to 32,000 places.
 #[derive(Drop)]
 pub struct DeadlineIndex {
     /// The tick of each place.
@@ -115,12 +115,12 @@ impl DeadlineIndex {
         ensures some { IfSome result (IsFirstGroup self.now start tick) }
         ensures none { IfNone result (IsNoGroup self.now start tick) }
     {
-        let closed = self.groups.first_by(start, tick);
+        let far = self.groups.first_by(start, tick);
         if self.near < start || tick < self.near_least {
-            return closed;
+            return far;
         }
-        match closed {
-            Some(group) if group < self.near => closed,
+        match far {
+            Some(group) if group < self.near => far,
             _ => Some(self.near),
         }
     }

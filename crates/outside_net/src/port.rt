@@ -29,7 +29,7 @@ pub struct Port {
 }
 
 impl Port {
-    ghost use Rattle.std.specs.Prelude.{◌≡◌, IfOk, IfSome, true, false};
+    ghost use Rattle.std.specs.Prelude.{◌≡◌, IfOk, IfSome, OnErr, true, false};
     ghost use Rattle.outside_net.specs.Links.{IsWithin, has_come_to_end};
     ghost use Rattle.outside_net.specs.Real.{is_known, is_sending, PeerAfter};
 
@@ -115,6 +115,7 @@ impl Port {
     /// Sends to the peer. A datagram that the peer's machine refuses, or for which the system has no room, is lost.
     pub fn send(&self, octets: &[u8]) -> Result<bool, Failed>
         ensures peer { IfOk result (λ went. went ≡ is_known self.now.peer) }
+        ensures known { OnErr result (is_known self.now.peer ≡ true) }
     {
         let to = match self.peer {
             Peer::Unknown => return Ok(false),

@@ -1,5 +1,5 @@
 //! UDP links. What they give and take is not told: the trusted edge of the system.
-ghost use Rattle.std.specs.Prelude.{◌≡◌, false, IfOk, IfSome};
+ghost use Rattle.std.specs.Prelude.{◌≡◌, true, false, IfOk, IfSome, OnErr};
 ghost use Rattle.outside_net.specs.Links.{IsWithin, has_come_to_end};
 ghost use Rattle.outside_net.specs.Real.{knows_at, knew_at, LooksOn};
 
@@ -217,6 +217,7 @@ fn look(port: &mut Option<Port>, channel: Channel, buf: &mut [u8; 2048]) -> Opti
 /// Sends on a socket, if there is one with a peer.
 fn send(port: &Option<Port>, octets: &[u8]) -> Result<bool, Failed>
     ensures peer { IfOk result (λ went. went ≡ knows_at port.now) }
+    ensures known { OnErr result (knows_at port.now ≡ true) }
 {
     match port {
         Some(port) => port.send(octets),

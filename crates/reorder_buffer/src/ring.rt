@@ -39,7 +39,7 @@ pub struct Ends {
 }
 
 /// Packets that wait, whose numbers lie less than the number of places apart. Putting one in, taking the first out and finding
-/// what is due look at eight entries for each octal digit of the number of places at most; all else looks at one.
+/// what is due take three searches of a `DeadlineIndex` at most; all else but `clear` looks at one place.
 #[derive(Drop)]
 pub struct Ring {
     places: Vec<Option<Held>>,

@@ -22,13 +22,13 @@ pub returns-then-self-start-clause-some : goal.returns-then-self-start-clause-so
 returns-then-self-start-clause-some c =
     some_as (λ group f.
     first_far c.args.self.now c.self.inside.groups c.self.inside.near c.self.inside.near_least c.self.inside.far_least c.args.start c.args.tick group (subst (λ ticks. IsNearAt ticks c.self.inside.groups c.self.inside.near c.self.inside.near_least c.self.inside.far_least) c.self.view_is c.self.invariant) f (none_near c group))
-    c.first_by-closed.result c.first_by-closed.ensures.some
+    c.first_by-far.result c.first_by-far.ensures.some
 
 pub returns-then-self-start-clause-none : goal.returns-then-self-start-clause-none
 returns-then-self-start-clause-none c =
     none_as (λ none.
     none_far c.args.self.now c.self.inside.groups c.self.inside.near c.self.inside.near_least c.self.inside.far_least c.args.start c.args.tick (subst (λ ticks. IsNearAt ticks c.self.inside.groups c.self.inside.near c.self.inside.near_least c.self.inside.far_least) c.self.view_is c.self.invariant) none (none_near c (length c.self.inside.groups)))
-    c.first_by-closed.result c.first_by-closed.ensures.none
+    c.first_by-far.result c.first_by-far.ensures.none
 
 pub returns-in-Some-clause-some : goal.returns-in-Some-clause-some
 returns-in-Some-clause-some c =
