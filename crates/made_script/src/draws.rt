@@ -126,7 +126,7 @@ fn push_due(dues: &mut Vec<Due>, due: Option<Due>) -> Result<(), NoMemory>
 impl Draws {
     ghost use Rattle.made_script.specs.declared.draws.TheConstants.{MAX_LINKS, MAX_COUNT};
     ghost use Rattle.made_script.specs.Draws.{IsDrawn, nothing_drawn, draw, is_pending};
-    ghost use Rattle.std.specs.Prelude.{◌≡◌, ◌≤◌, ◌<◌, ◌+◌, ◌++◌, IfOk};
+    ghost use Rattle.std.specs.Prelude.{◌≡◌, ◌≤◌, ◌<◌, ◌+◌, ◌++◌, IfOk, OnOk, OnErr};
 
     /// Before the first slot.
     pub fn with(alloc: Global, script: Script) -> Draws
@@ -182,6 +182,8 @@ impl Draws {
         requires slot { self.old.slot < self.old.script.count + 1100 }
         ensures drawn { IfOk result (λ done. DrawsMore self.old self.new (held - first)
             (λ words. dues_on self.old.script self.old.slot words way link first (held - first))) }
+        ensures script { self.new.script ≡ self.old.script }
+        ensures slot { self.new.slot ≡ self.old.slot }
     {
         for place in first..held {
             let word = next_word(&mut self.words);
@@ -197,6 +199,8 @@ impl Draws {
         ensures drawn { IfOk result (λ done. DrawsMore self.old self.new
             (new_below way self.old.held held.now self.old.script.links)
             (λ words. dues_of self.old.script self.old.slot words way self.old.held held.now self.old.script.links)) }
+        ensures script { self.new.script ≡ self.old.script }
+        ensures slot { self.new.slot ≡ self.old.slot }
     {
         for link in 0..self.script.links {
             let first = self.held.on(way, link);
@@ -206,13 +210,14 @@ impl Draws {
     }
 
     /// Behind a slot, after which the links hold so many datagrams: those that were put in it draw their words, and the
-    /// next slot begins.
+    /// next slot begins. For want of memory the slot stays on, and what is due by it isn't known any more.
     pub fn draw(&mut self, held: &Held) -> Result<(), NoMemory>
         requires slot { self.old.slot < self.old.script.count + 1100 }
         ensures drawn { IfOk result (λ done. (drawn : _) → IsDrawn self.old drawn
             → IsDrawn self.new (draw self.old.script self.old.slot held.now drawn)) }
-        ensures script { IfOk result (λ done. self.new.script ≡ self.old.script) }
-        ensures slot { IfOk result (λ done. self.new.slot ≡ self.old.slot + 1) }
+        ensures script { self.new.script ≡ self.old.script }
+        ensures slot { OnOk result (self.new.slot ≡ self.old.slot + 1) }
+        ensures stays { OnErr result (self.new.slot ≡ self.old.slot) }
     {
         self.draw_way(Way::Forward, held)?;
         self.draw_way(Way::Backward, held)?;
