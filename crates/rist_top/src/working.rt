@@ -1,6 +1,7 @@
 //! The work of each command over its source and its sink.
 ghost use Rattle.std.specs.Prelude.{◌≡◌, ◌≢◌, ◌⊎◌, [], false, IsTrue};
 ghost use Rattle.outside_io.specs.Causes.{HasReadCause, HasWriteCause, HasOpenCause};
+ghost use Rattle.capture_walk.specs.Leaves.{passage as passed};
 ghost use Rattle.rist_words.specs.Shown.{shown, shown_session, shown_replay, shown_show, shown_count, shown_pack};
 ghost use Rattle.rist_words.specs.Ranges.{IsInRange, IsInReplay, IsInShow, IsInCount, IsInPack};
 ghost use Rattle.rist_top.specs.Causes.{fault_of};
@@ -49,12 +50,8 @@ pub fn replay_line<S: Source, K: Sink>(
     requires range { IsInReplay (shown_replay line.now) }
     ensures line { IsOwn result.status }
     ensures work { Replays (shown_replay line.now)
-        (record {
-          had = S.remaining source;
-          left = S.remaining result.source;
-          held = K.contents sink;
-          holds = K.contents result.sink;
-        }) result.status }
+        (passed (S.remaining source) (S.remaining result.source) (K.contents sink) (K.contents result.sink))
+        result.status }
     ensures read { HasReadCause (fault_of result.status) (S.faults source) (S.faults result.source) }
     ensures write { HasWriteCause (fault_of result.status) (K.faults sink) (K.faults result.sink) }
 {
@@ -79,12 +76,8 @@ fn replay_records<R: Records, K: Sink>(
     requires running { R.spent reader ≡ false }
     ensures line { IsOwn result.status }
     ensures work { ReplaysAs (R.form reader) (shown_replay line.now)
-        (record {
-          had = R.remaining reader;
-          left = R.Input.remaining result.source;
-          held = K.contents sink;
-          holds = K.contents result.sink;
-        }) result.status }
+        (passed (R.remaining reader) (R.Input.remaining result.source) (K.contents sink) (K.contents result.sink))
+        result.status }
     ensures read { HasReadCause (fault_of result.status) (R.faults reader) (R.Input.faults result.source) }
     ensures write { HasWriteCause (fault_of result.status) (K.faults sink) (K.faults result.sink) }
 {
@@ -109,12 +102,8 @@ pub fn show_line<S: Source, K: Sink>(
     requires range { IsInShow (shown_show line.now) }
     ensures line { IsOwn result.status }
     ensures work { Shows (shown_show line.now)
-        (record {
-          had = S.remaining source;
-          left = S.remaining result.source;
-          held = K.contents sink;
-          holds = K.contents result.sink;
-        }) result.status }
+        (passed (S.remaining source) (S.remaining result.source) (K.contents sink) (K.contents result.sink))
+        result.status }
     ensures read { HasReadCause (fault_of result.status) (S.faults source) (S.faults result.source) }
     ensures write { HasWriteCause (fault_of result.status) (K.faults sink) (K.faults result.sink) }
 {
@@ -139,12 +128,8 @@ fn show_records<R: Records, K: Sink>(
     requires running { R.spent reader ≡ false }
     ensures line { IsOwn result.status }
     ensures work { ShowsAs (R.form reader) (shown_show line.now)
-        (record {
-          had = R.remaining reader;
-          left = R.Input.remaining result.source;
-          held = K.contents sink;
-          holds = K.contents result.sink;
-        }) result.status }
+        (passed (R.remaining reader) (R.Input.remaining result.source) (K.contents sink) (K.contents result.sink))
+        result.status }
     ensures read { HasReadCause (fault_of result.status) (R.faults reader) (R.Input.faults result.source) }
     ensures write { HasWriteCause (fault_of result.status) (K.faults sink) (K.faults result.sink) }
 {
@@ -168,12 +153,8 @@ pub fn count_line<S: Source, K: Sink>(
     requires range { IsInCount (shown_count line.now) }
     ensures line { IsOwn result.status }
     ensures work { Counts (shown_count line.now)
-        (record {
-          had = S.remaining source;
-          left = S.remaining result.source;
-          held = K.contents sink;
-          holds = K.contents result.sink;
-        }) result.status }
+        (passed (S.remaining source) (S.remaining result.source) (K.contents sink) (K.contents result.sink))
+        result.status }
     ensures read { HasReadCause (fault_of result.status) (S.faults source) (S.faults result.source) }
     ensures write { HasWriteCause (fault_of result.status) (K.faults sink) (K.faults result.sink) }
 {
@@ -198,12 +179,8 @@ fn count_records<R: Records, K: Sink>(
     requires running { R.spent reader ≡ false }
     ensures line { IsOwn result.status }
     ensures work { CountsAs (R.form reader) (shown_count line.now)
-        (record {
-          had = R.remaining reader;
-          left = R.Input.remaining result.source;
-          held = K.contents sink;
-          holds = K.contents result.sink;
-        }) result.status }
+        (passed (R.remaining reader) (R.Input.remaining result.source) (K.contents sink) (K.contents result.sink))
+        result.status }
     ensures read { HasReadCause (fault_of result.status) (R.faults reader) (R.Input.faults result.source) }
     ensures write { HasWriteCause (fault_of result.status) (K.faults sink) (K.faults result.sink) }
 {
@@ -228,12 +205,8 @@ pub fn pack_line<S: Source, K: Sink>(
     requires fresh { IsFreshFor (shown_pack line.now).session sealer }
     ensures line { IsOwn result.status }
     ensures work { PacksAs (shown_pack line.now) sealer
-        (record {
-          had = S.remaining source;
-          left = S.remaining result.source;
-          held = K.contents sink;
-          holds = K.contents result.sink;
-        }) result.status }
+        (passed (S.remaining source) (S.remaining result.source) (K.contents sink) (K.contents result.sink))
+        result.status }
     ensures read { HasReadCause (fault_of result.status) (S.faults source) (S.faults result.source) }
     ensures write { HasWriteCause (fault_of result.status) (K.faults sink) (K.faults result.sink) }
 {

@@ -16,23 +16,15 @@ use Rattle.rist_gateway.proofs.running.gate_on.Goals as goal
 pub forward-ending-requires-clause-some : goal.forward-ending-requires-clause-some
 forward-ending-requires-clause-some g c κs within =
     let links = c.args.links.now.items in
-    let clocks = c.pop.new.self.items in
     let h = c.hand_on.ensures.links c.args.inputs c.requires.links in
     let long = cut_counts c.args.inputs c.args.outputs links c.hand_on.new.links.items c.hand_on.new.onward.items c.requires.links h.0 h.1 in
-    let clock_long = one_less _ _ _ c.in-Some.ensures.items in
-    let hc = c.hand_on.ensures.clocks c.args.inputs c.requires.links in
-    let clocks_long = cut_counts c.args.inputs c.args.outputs clocks c.hand_on.new.clocks.items (drop c.args.inputs clocks) (omega (arith, clock_long, c.requires.clocks)) hc.0 refl in
     omega (arith, long.0, c.requires.some.0)
 
 pub forward-ending-requires-clause-few : goal.forward-ending-requires-clause-few
 forward-ending-requires-clause-few g c κs within =
     let links = c.args.links.now.items in
-    let clocks = c.pop.new.self.items in
     let h = c.hand_on.ensures.links c.args.inputs c.requires.links in
     let long = cut_counts c.args.inputs c.args.outputs links c.hand_on.new.links.items c.hand_on.new.onward.items c.requires.links h.0 h.1 in
-    let clock_long = one_less _ _ _ c.in-Some.ensures.items in
-    let hc = c.hand_on.ensures.clocks c.args.inputs c.requires.links in
-    let clocks_long = cut_counts c.args.inputs c.args.outputs clocks c.hand_on.new.clocks.items (drop c.args.inputs clocks) (omega (arith, clock_long, c.requires.clocks)) hc.0 refl in
     omega (arith, long.0, c.requires.few)
 
 pub forward-ending-requires-clause-clocks : goal.forward-ending-requires-clause-clocks
@@ -49,12 +41,8 @@ forward-ending-requires-clause-clocks g c κs within =
 pub forward-ending-requires-clause-made : goal.forward-ending-requires-clause-made
 forward-ending-requires-clause-made g c κs within =
     let links = c.args.links.now.items in
-    let clocks = c.pop.new.self.items in
     let h = c.hand_on.ensures.links c.args.inputs c.requires.links in
     let long = cut_counts c.args.inputs c.args.outputs links c.hand_on.new.links.items c.hand_on.new.onward.items c.requires.links h.0 h.1 in
-    let clock_long = one_less _ _ _ c.in-Some.ensures.items in
-    let hc = c.hand_on.ensures.clocks c.args.inputs c.requires.links in
-    let clocks_long = cut_counts c.args.inputs c.args.outputs clocks c.hand_on.new.clocks.items (drop c.args.inputs clocks) (omega (arith, clock_long, c.requires.clocks)) hc.0 refl in
     subst (λ (n : ℕ). IsMade g.T.Trace.list g.T.Trace.limit n c.args.made.receiving) (sym long.0) c.requires.made.receiving
 
 pub forward-ending-requires-clause-room : goal.forward-ending-requires-clause-room
@@ -75,12 +63,8 @@ forward-ending-requires-clause-room g c κs within =
 pub forward-ending-requires-clause-uncalled : goal.forward-ending-requires-clause-uncalled
 forward-ending-requires-clause-uncalled g c κs within =
     let links = c.args.links.now.items in
-    let clocks = c.pop.new.self.items in
     let h = c.hand_on.ensures.links c.args.inputs c.requires.links in
     let long = cut_counts c.args.inputs c.args.outputs links c.hand_on.new.links.items c.hand_on.new.onward.items c.requires.links h.0 h.1 in
-    let clock_long = one_less _ _ _ c.in-Some.ensures.items in
-    let hc = c.hand_on.ensures.clocks c.args.inputs c.requires.links in
-    let clocks_long = cut_counts c.args.inputs c.args.outputs clocks c.hand_on.new.clocks.items (drop c.args.inputs clocks) (omega (arith, clock_long, c.requires.clocks)) hc.0 refl in
     let shown_long = length-map c.hand_on.new.onward.items (shown (line_of g.L.Link.taken g.L.Link.knows g.L.Link.faults g.L.Link.reads g.L.Link.ends)) in
     record {
       sender = c.requires.made.sender;
@@ -93,35 +77,23 @@ forward-ending-requires-clause-uncalled g c κs within =
 pub give_links-requires : goal.give_links-requires
 give_links-requires g c =
     let links = c.args.links.now.items in
-    let clocks = c.pop.new.self.items in
     let h = c.hand_on.ensures.links c.args.inputs c.requires.links in
     let long = cut_counts c.args.inputs c.args.outputs links c.hand_on.new.links.items c.hand_on.new.onward.items c.requires.links h.0 h.1 in
-    let clock_long = one_less _ _ _ c.in-Some.ensures.items in
-    let hc = c.hand_on.ensures.clocks c.args.inputs c.requires.links in
-    let clocks_long = cut_counts c.args.inputs c.args.outputs clocks c.hand_on.new.clocks.items (drop c.args.inputs clocks) (omega (arith, clock_long, c.requires.clocks)) hc.0 refl in
     let f = c.forward-ending in
-    let s = f.ensures.looked (side_workers 0 (drop c.args.inputs clocks)) hc.1 in
     let p = f.ensures.work in
     let onward_long : length f.result.links.items ≡ c.args.outputs =
     sym (length-map f.result.links.items (shown (line_of g.L.Link.taken g.L.Link.knows g.L.Link.faults g.L.Link.reads g.L.Link.ends))) ∙ (ap length (sym p.links) ∙ (p.does.count ∙ (length-map c.hand_on.new.onward.items (shown (line_of g.L.Link.taken g.L.Link.knows g.L.Link.faults g.L.Link.reads g.L.Link.ends)) ∙ long.1))) in
-    let sides_long : length s.0 ≡ c.args.outputs = s.2.count ∙ (side_count 0 (drop c.args.inputs clocks) ∙ clocks_long.1) in
     let room : length c.args.links.now.items ≤ vec_capacity c.args.links.now = search rules in
     record { room = omega (arith, f.ensures.links, long.0, onward_long, f.ensures.room.0, c.hand_on.ensures.room.0, c.requires.links, room) }
 
 pub give_clocks-requires : goal.give_clocks-requires
 give_clocks-requires g c =
-    let links = c.args.links.now.items in
     let clocks = c.pop.new.self.items in
-    let h = c.hand_on.ensures.links c.args.inputs c.requires.links in
-    let long = cut_counts c.args.inputs c.args.outputs links c.hand_on.new.links.items c.hand_on.new.onward.items c.requires.links h.0 h.1 in
     let clock_long = one_less _ _ _ c.in-Some.ensures.items in
     let hc = c.hand_on.ensures.clocks c.args.inputs c.requires.links in
     let clocks_long = cut_counts c.args.inputs c.args.outputs clocks c.hand_on.new.clocks.items (drop c.args.inputs clocks) (omega (arith, clock_long, c.requires.clocks)) hc.0 refl in
     let f = c.forward-ending in
     let s = f.ensures.looked (side_workers 0 (drop c.args.inputs clocks)) hc.1 in
-    let p = f.ensures.work in
-    let onward_long : length f.result.links.items ≡ c.args.outputs =
-    sym (length-map f.result.links.items (shown (line_of g.L.Link.taken g.L.Link.knows g.L.Link.faults g.L.Link.reads g.L.Link.ends))) ∙ (ap length (sym p.links) ∙ (p.does.count ∙ (length-map c.hand_on.new.onward.items (shown (line_of g.L.Link.taken g.L.Link.knows g.L.Link.faults g.L.Link.reads g.L.Link.ends)) ∙ long.1))) in
     let sides_long : length s.0 ≡ c.args.outputs = s.2.count ∙ (side_count 0 (drop c.args.inputs clocks) ∙ clocks_long.1) in
     let room : length c.args.clocks.now.items ≤ vec_capacity c.args.clocks.now = search rules in
     record { room = omega (arith, ap length s.1, parts_count g.row.L.Denot g.row.C.Denot g.row.T.Denot s.0, sides_long, f.ensures.clocks, clocks_long.0, f.ensures.room.1, c.hand_on.ensures.room.1, c.pop.ensures.capacity, c.requires.clocks, room) }
@@ -129,35 +101,23 @@ give_clocks-requires g c =
 pub returns-clause-links : goal.returns-clause-links
 returns-clause-links g c =
     let links = c.args.links.now.items in
-    let clocks = c.pop.new.self.items in
     let h = c.hand_on.ensures.links c.args.inputs c.requires.links in
     let long = cut_counts c.args.inputs c.args.outputs links c.hand_on.new.links.items c.hand_on.new.onward.items c.requires.links h.0 h.1 in
-    let clock_long = one_less _ _ _ c.in-Some.ensures.items in
-    let hc = c.hand_on.ensures.clocks c.args.inputs c.requires.links in
-    let clocks_long = cut_counts c.args.inputs c.args.outputs clocks c.hand_on.new.clocks.items (drop c.args.inputs clocks) (omega (arith, clock_long, c.requires.clocks)) hc.0 refl in
     let f = c.forward-ending in
-    let s = f.ensures.looked (side_workers 0 (drop c.args.inputs clocks)) hc.1 in
     let p = f.ensures.work in
     let onward_long : length f.result.links.items ≡ c.args.outputs =
     sym (length-map f.result.links.items (shown (line_of g.L.Link.taken g.L.Link.knows g.L.Link.faults g.L.Link.reads g.L.Link.ends))) ∙ (ap length (sym p.links) ∙ (p.does.count ∙ (length-map c.hand_on.new.onward.items (shown (line_of g.L.Link.taken g.L.Link.knows g.L.Link.faults g.L.Link.reads g.L.Link.ends)) ∙ long.1))) in
-    let sides_long : length s.0 ≡ c.args.outputs = s.2.count ∙ (side_count 0 (drop c.args.inputs clocks) ∙ clocks_long.1) in
     let back = ap length c.give_links.ensures.value ∙ length-append f.new.links.items f.result.links.items in
     omega (arith, back, onward_long, f.ensures.links, long.0, c.requires.links)
 
 pub returns-clause-clocks : goal.returns-clause-clocks
 returns-clause-clocks g c =
-    let links = c.args.links.now.items in
     let clocks = c.pop.new.self.items in
-    let h = c.hand_on.ensures.links c.args.inputs c.requires.links in
-    let long = cut_counts c.args.inputs c.args.outputs links c.hand_on.new.links.items c.hand_on.new.onward.items c.requires.links h.0 h.1 in
     let clock_long = one_less _ _ _ c.in-Some.ensures.items in
     let hc = c.hand_on.ensures.clocks c.args.inputs c.requires.links in
     let clocks_long = cut_counts c.args.inputs c.args.outputs clocks c.hand_on.new.clocks.items (drop c.args.inputs clocks) (omega (arith, clock_long, c.requires.clocks)) hc.0 refl in
     let f = c.forward-ending in
     let s = f.ensures.looked (side_workers 0 (drop c.args.inputs clocks)) hc.1 in
-    let p = f.ensures.work in
-    let onward_long : length f.result.links.items ≡ c.args.outputs =
-    sym (length-map f.result.links.items (shown (line_of g.L.Link.taken g.L.Link.knows g.L.Link.faults g.L.Link.reads g.L.Link.ends))) ∙ (ap length (sym p.links) ∙ (p.does.count ∙ (length-map c.hand_on.new.onward.items (shown (line_of g.L.Link.taken g.L.Link.knows g.L.Link.faults g.L.Link.reads g.L.Link.ends)) ∙ long.1))) in
     let sides_long : length s.0 ≡ c.args.outputs = s.2.count ∙ (side_count 0 (drop c.args.inputs clocks) ∙ clocks_long.1) in
     let room : length c.args.clocks.now.items ≤ vec_capacity c.args.clocks.now = search rules in
     let given = c.give_clocks.ensures.value s.0 s.1 in
@@ -180,8 +140,6 @@ returns-clause-work g c =
     let f = c.forward-ending in
     let s = f.ensures.looked (side_workers 0 (drop c.args.inputs clocks)) hc.1 in
     let p = f.ensures.work in
-    let onward_long : length f.result.links.items ≡ c.args.outputs =
-    sym (length-map f.result.links.items (shown (line_of g.L.Link.taken g.L.Link.knows g.L.Link.faults g.L.Link.reads g.L.Link.ends))) ∙ (ap length (sym p.links) ∙ (p.does.count ∙ (length-map c.hand_on.new.onward.items (shown (line_of g.L.Link.taken g.L.Link.knows g.L.Link.faults g.L.Link.reads g.L.Link.ends)) ∙ long.1))) in
     let sides_long : length s.0 ≡ c.args.outputs = s.2.count ∙ (side_count 0 (drop c.args.inputs clocks) ∙ clocks_long.1) in
     let room : length c.args.clocks.now.items ≤ vec_capacity c.args.clocks.now = search rules in
     let given = c.give_clocks.ensures.value s.0 s.1 in
