@@ -1,13 +1,12 @@
 -- Links and clocks that are handed on, the last first, and given back.
-use Rattle.std.proofs.Common.{◌≡◌, ◌∙◌, ℕ, zero, suc, ◌+◌, List, [], ◌∷◌, ◌++◌, length, map, reverse, take, drop, None, refl, ap, sym, subst, arith}
-use Rattle.std.proofs.lemmas.List.{append-nil, append_assoc, length-append, length-drop, length-map, length-reverse, length-take-le, map-append, reverse-append}
+use Rattle.std.proofs.Common.{◌≡◌, ◌∙◌, ℕ, zero, suc, ◌+◌, List, [], ◌∷◌, ◌++◌, length, map, reverse, take, drop, None, refl, ap, sym, arith}
+use Rattle.std.proofs.lemmas.List.{append-nil, append_assoc, length-drop, length-map, length-reverse, length-take-le, reverse-append}
 use Rattle.rist_desk.proofs.ListLemmas.{reverse_more}
 use Rattle.rist_gateway.specs.declared.part.Part.{Part}
 use Rattle.rist_gateway.specs.declared.part.Part.TheVariants as parts
 use Rattle.rist_gateway.specs.declared.side_worker.SideWorker.{SideWorker}
 use Rattle.rist_gateway.specs.Parts.{sending_part, sending_parts, side_clock, side_workers}
 use Rattle.rist_gateway.proofs.GatherLemmas.{last_same, reverse_twice}
-use Rattle.rist_desk.specs.declared.worker.Worker.{Worker}
 
 -- ---- two parts of a list
 

@@ -1,5 +1,5 @@
 -- Parts of a call, one after another.
-use Rattle.std.proofs.Common.{◌≡◌, ◌∙◌, ℕ, zero, suc, ◌-◌, ◌<◌, ◌≤◌, List, [], ◌∷◌, length, get_or, set, map, take, drop, Option, None, option_map, Result, Ok, Err, refl, sym, ap, subst, arith}
+use Rattle.std.proofs.Common.{◌≡◌, ◌∙◌, ℕ, zero, suc, ◌<◌, ◌≤◌, List, [], ◌∷◌, length, get_or, set, map, take, drop, Option, None, option_map, Result, Ok, Err, refl, sym, ap, subst, arith}
 use Rattle.std.proofs.lemmas.List.{get_or-map}
 use Rattle.outside_net.specs.Streams.{later, IsFirst}
 use Rattle.outside_net.specs.Links.{Answer}
@@ -11,7 +11,7 @@ use Rattle.rist_sender.specs.declared.send_bad.SendBad.{SendBad}
 use Rattle.rist_send.specs.Served.{AreServed}
 use Rattle.rist_send.specs.Inside.Moves.{ReadsAt}
 use Rattle.rist_send.proofs.ServedLemmas.{all_none, all_then, all_given, all_read, reads_given, reads_at}
-use Rattle.rist_gateway.specs.Course.{Setup, Passed, Course, with_read, SendsPart, SendsParts, AreParts, SendsOn, AfterRead, ReadsOnce}
+use Rattle.rist_gateway.specs.Course.{Setup, Passed, Course, with_read, SendsPart, AreParts, SendsOn}
 use Rattle.rist_gateway.specs.Onward.{passed_of}
 use Rattle.rist_gateway.specs.Inside.Moves.{setup_with, IsFar, Goes, SendsBefore}
 

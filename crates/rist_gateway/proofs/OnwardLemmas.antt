@@ -1,5 +1,5 @@
 -- The sending end after one more call.
-use Rattle.std.proofs.Common.{◌≡◌, ◌⊎◌, inl, inr, ◌∙◌, ℕ, ◌<◌, ◌≤◌, nat_lt, List, [], ◌∷◌, ◌++◌, take, drop, length, get_or, map, Bool, true, false, Option, None, Some, Result, Ok, Err, refl, sym, ap, subst, arith}
+use Rattle.std.proofs.Common.{◌≡◌, ◌⊎◌, inl, inr, ◌∙◌, ℕ, ◌<◌, ◌≤◌, nat_lt, List, [], ◌∷◌, ◌++◌, drop, length, get_or, map, Bool, true, false, Option, None, Some, Result, Ok, Err, refl, sym, ap, subst, arith}
 use Rattle.std.proofs.lemmas.List.{get_or-map, length-map, append-nil, append_assoc, take-append-drop}
 use Rattle.outside_io.specs.Causes.{Rose}
 use Rattle.outside_io.specs.Told.{IsPrefix}
@@ -8,9 +8,9 @@ use Rattle.rtcp_compound.specs.Compound.{Content}
 use Rattle.rist_wire.specs.declared.session.Session.{Session}
 use Rattle.rist_sender.specs.declared.send_bad.SendBad.{SendBad}
 use Rattle.rist_sender.specs.declared.send_bad.SendBad.TheVariants.{Spent, LinksDown}
-use Rattle.rist_sender.specs.Links.{Line, Tried, is_failed}
+use Rattle.rist_sender.specs.Links.{Line}
 use Rattle.rist_sender.specs.History.{Event, tried_as, tried_on}
-use Rattle.rist_sender.specs.Calls.{Rules, IfElse, IsAnswer, AreDown}
+use Rattle.rist_sender.specs.Calls.{Rules, IfElse, AreDown}
 use Rattle.rist_sender.specs.Sender.{SenderState, rules_of, StaysSet}
 use Rattle.rist_send.specs.Served.{RisesWith, IsServed, AreServed}
 use Rattle.rist_send.specs.Turns.{compound_in}
@@ -18,8 +18,8 @@ use Rattle.rist_send.proofs.ServedLemmas.{all_none, all_then}
 use Rattle.rist_send.proofs.DownLemmas.{down_rose}
 use Rattle.rist_desk.specs.declared.beside.Side.{Side}
 use Rattle.rist_desk.specs.declared.beside.Side.TheVariants as sides
-use Rattle.rist_gateway.specs.Course.{Setup, Passed, Course, Deed, Sent, Looked, SendsPart, AreParts, SendsParts, SendsOn, GoesOn, TicksOnce, TicksAfter, AnswersAndTicks, AfterRead, ReadsOnce, LooksAt, DoesAll, side_of, with_read}
-use Rattle.rist_gateway.specs.Onward.{LinkState, shown, plain, OnwardState, onward_of, setup_of, IsAt, Moves, no_work, start_of, HasRisen, IsOnward, IsUncalled, AnswersPut, PutsOn, Puts, Looks, bad_after}
+use Rattle.rist_gateway.specs.Course.{Setup, Passed, Course, Deed, Sent, Looked, AreParts, SendsParts, SendsOn, TicksOnce, AnswersAndTicks, AfterRead, ReadsOnce, LooksAt, DoesAll, side_of, with_read}
+use Rattle.rist_gateway.specs.Onward.{LinkState, shown, plain, OnwardState, onward_of, setup_of, IsAt, Moves, start_of, HasRisen, IsOnward, IsUncalled, AnswersPut, Puts, Looks, bad_after}
 use Rattle.rist_gateway.specs.Inside.Moves.{setup_with, IsFar, Goes}
 
 -- ---- links as they are shown

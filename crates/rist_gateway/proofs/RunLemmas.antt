@@ -1,5 +1,5 @@
 -- A run's links and clocks, in their lists.
-use Rattle.std.proofs.Common.{◌≡◌, ◌∙◌, ℕ, zero, suc, ◌+◌, ◌≤◌, List, [], ◌∷◌, ◌++◌, length, take, Bool, true, Option, None, Some, refl, ap, sym, subst, slice_get, arith}
+use Rattle.std.proofs.Common.{◌≡◌, ◌∙◌, ℕ, zero, suc, ◌≤◌, List, [], ◌∷◌, ◌++◌, length, take, Bool, true, None, Some, refl, ap, subst, slice_get, arith}
 use Rattle.outside_io.specs.Causes.{RoseWhere}
 use Rattle.rist_gateway.specs.Onward.{OnwardState, IsOnward}
 

@@ -1,13 +1,12 @@
 -- A side worker after one more turn.
-use Rattle.std.proofs.Common.{◌≡◌, ◌∙◌, ◌<◌, ℕ, suc, ◌+◌, nat_le, List, [], ◌∷◌, length, Bool, true, false, Option, None, Some, option_map, refl, ap, sym, subst, arith}
-use Rattle.outside_net.specs.Streams.{later, IsFirst}
+use Rattle.std.proofs.Common.{◌≡◌, ◌∙◌, ◌<◌, ℕ, ◌+◌, nat_le, List, [], ◌∷◌, length, Bool, Option, None, Some, refl, ap, sym, subst, arith}
 use Rattle.rist_desk.specs.declared.worker.Limits.{Limits}
 use Rattle.rist_desk.specs.declared.beside.Side.{Side}
 use Rattle.rist_desk.specs.Turns.{from}
 use Rattle.rist_desk.proofs.TurnLemmas.{told_next, told_first}
 use Rattle.rist_gateway.specs.declared.found.Found.{Found}
 use Rattle.rist_gateway.specs.declared.side_worker.SideEnded.{SideEnded}
-use Rattle.rist_gateway.specs.Sides.{found_after, found_by, is_quiet, end_by, end_at, AllGoOn, IsSideServed, SideTurn, IsSideGoing}
+use Rattle.rist_gateway.specs.Sides.{found_after, found_by, is_quiet, end_by, end_at, IsSideServed, SideTurn, IsSideGoing}
 
 -- what the turn came to, by the moments that the clock was to give
 record Same (limits : Limits) (told : ℕ → ℕ) (last : Bool) (before : List Side) (side : Side) (now : Option Found) (moment : ℕ) : Type 0 where

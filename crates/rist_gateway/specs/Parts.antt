@@ -1,5 +1,5 @@
 -- What the threads of a gateway do.
-use Rattle.std.specs.Prelude.{◌≡◌, ◌<◌, ◌≤◌, ◌+◌, ℕ, List, [], ◌∷◌, length, map, reverse, slice_index_or, Option, None, vec_capacity}
+use Rattle.std.specs.Prelude.{◌≡◌, ◌<◌, ◌≤◌, ◌+◌, ℕ, List, [], ◌∷◌, length, map, reverse, slice_index_or, Option, None}
 use Rattle.rist_desk.specs.declared.worker.Limits.{Limits}
 use Rattle.rist_desk.specs.declared.worker.Worker.{Worker}
 use Rattle.rist_desk.specs.Desk.{Given}

@@ -1,7 +1,6 @@
 -- What a run of a gateway leaves, by what its objects tell. Of its links the first ones are received on and the others
 -- sent on; its clocks are those of the links, and last that of the sender.
 use Rattle.std.specs.Prelude.{◌≡◌, ℕ, List, [], map, take, drop, length, slice_get, Option, Some, None}
-use Rattle.outside_io.specs.declared.channel.Channel.{Channel}
 use Rattle.rist_sender.specs.Links.{Line}
 use Rattle.rist_sender.specs.Sender.{rules_of}
 use Rattle.rist_sender.specs.declared.send_bad.SendBad.{SendBad}

@@ -1,15 +1,14 @@
 //! A look at a link, and what is due on it.
-ghost use Rattle.std.specs.Prelude.{◌≡◌, ◌≤◌, ◌<◌, ℕ, Option, length};
+ghost use Rattle.std.specs.Prelude.{◌≡◌, ◌≤◌, ◌<◌, Some, length};
 ghost use Rattle.outside_net.specs.Links.{Gave, IsWithin, answer_of};
 ghost use Rattle.sender_rules.specs.Bonding.{link_count};
 ghost use Rattle.rist_sender.specs.Sender.{StaysSet};
 ghost use Rattle.rist_send.specs.Served.{line_of};
 ghost use Rattle.rist_send.specs.Turns.{compound_in};
 ghost use Rattle.rist_send.specs.Inside.Moves.{ReadsAt};
-ghost use Rattle.rist_gateway.specs.Course.{Course, Passed, AnswersOnce, TicksOnce, AnswersAndTicks, ReadsOnce};
+ghost use Rattle.rist_gateway.specs.Course.{AnswersOnce, TicksOnce, AnswersAndTicks, ReadsOnce};
 ghost use Rattle.rist_gateway.specs.Course.{LooksAt, side_of};
-ghost use Rattle.rist_gateway.specs.Inside.Moves.{IsFar, Goes, setup_with};
-ghost use Rattle.std.specs.Prelude.{Some};
+ghost use Rattle.rist_gateway.specs.Inside.Moves.{GoesBy};
 
 use outside_io::Channel;
 use outside_net::{Got, Link, MAX_DATAGRAM};
@@ -22,10 +21,8 @@ use rtcp_compound::Compound;
 fn tick<L: Link>(sender: &mut Sender, links: &mut [L], us: u64) -> Result<(), SendBad>
     requires links { length links.old ≡ link_count sender.old.bonding }
     requires few { length links.old ≤ 16 }
-    ensures work { (passed : Passed) (from : Course)
-        → IsFar (line_of L.taken L.knows L.faults L.reads L.ends) sender.old passed links.old from
-        → Goes (line_of L.taken L.knows L.faults L.reads L.ends) sender.old sender.new passed links.old links.new from
-        (TicksOnce (setup_with sender.old (length links.old)) us result from) }
+    ensures work { GoesBy (line_of L.taken L.knows L.faults L.reads L.ends) sender.old sender.new links.old links.new
+        (λ setup from. TicksOnce setup us result from) }
     ensures set { StaysSet sender.old sender.new }
 {
     sender.tick(us, links)
@@ -42,10 +39,8 @@ fn feed<L: Link>(
     requires among { link < length links.old }
     requires links { length links.old ≡ link_count sender.old.bonding }
     requires few { length links.old ≤ 16 }
-    ensures work { (passed : Passed) (from : Course)
-        → IsFar (line_of L.taken L.knows L.faults L.reads L.ends) sender.old passed links.old from
-        → Goes (line_of L.taken L.knows L.faults L.reads L.ends) sender.old sender.new passed links.old links.new from
-        (AnswersOnce (setup_with sender.old (length links.old)) us link compound.now result from) }
+    ensures work { GoesBy (line_of L.taken L.knows L.faults L.reads L.ends) sender.old sender.new links.old links.new
+        (λ setup from. AnswersOnce setup us link compound.now result from) }
     ensures set { StaysSet sender.old sender.new }
 {
     sender.feedback(us, link, compound, links)
@@ -62,10 +57,8 @@ fn feed_and_tick<L: Link>(
     requires among { link < length links.old }
     requires links { length links.old ≡ link_count sender.old.bonding }
     requires few { length links.old ≤ 16 }
-    ensures work { (passed : Passed) (from : Course)
-        → IsFar (line_of L.taken L.knows L.faults L.reads L.ends) sender.old passed links.old from
-        → Goes (line_of L.taken L.knows L.faults L.reads L.ends) sender.old sender.new passed links.old links.new from
-        (AnswersAndTicks (setup_with sender.old (length links.old)) us link (Some compound.now) result from) }
+    ensures work { GoesBy (line_of L.taken L.knows L.faults L.reads L.ends) sender.old sender.new links.old links.new
+        (λ setup from. AnswersAndTicks setup us link (Some compound.now) result from) }
     ensures set { StaysSet sender.old sender.new }
 {
     match feed(sender, links, us, link, compound) {
@@ -88,10 +81,8 @@ fn answer_and_tick<L: Link>(
     requires links { length links.old ≡ link_count sender.old.bonding }
     requires few { length links.old ≤ 16 }
     requires session { opener.old ≡ sender.old.session }
-    ensures work { (passed : Passed) (from : Course)
-        → IsFar (line_of L.taken L.knows L.faults L.reads L.ends) sender.old passed links.old from
-        → Goes (line_of L.taken L.knows L.faults L.reads L.ends) sender.old sender.new passed links.old links.new from
-        (AnswersAndTicks (setup_with sender.old (length links.old)) us link
+    ensures work { GoesBy (line_of L.taken L.knows L.faults L.reads L.ends) sender.old sender.new links.old links.new
+        (λ setup from. AnswersAndTicks setup us link
         (compound_in sender.old.session (Gave (record { channel = channel; octets = octets.old }))) result from) }
     ensures set { StaysSet sender.old sender.new }
     ensures opener { opener.new ≡ opener.old }
@@ -141,10 +132,8 @@ fn look_on<L: Link>(
     requires links { length links.old ≡ link_count sender.old.bonding }
     requires few { length links.old ≤ 16 }
     requires session { opener.old ≡ sender.old.session }
-    ensures work { (passed : Passed) (from : Course)
-        → IsFar (line_of L.taken L.knows L.faults L.reads L.ends) sender.old passed links.old from
-        → Goes (line_of L.taken L.knows L.faults L.reads L.ends) sender.old sender.new passed links.old links.new from
-        (ReadsOnce (setup_with sender.old (length links.old)) us link puts result from) }
+    ensures work { GoesBy (line_of L.taken L.knows L.faults L.reads L.ends) sender.old sender.new links.old links.new
+        (λ setup from. ReadsOnce setup us link puts result from) }
     ensures set { StaysSet sender.old sender.new }
     ensures opener { opener.new ≡ opener.old }
 {
@@ -177,10 +166,8 @@ pub(crate) fn look<L: Link>(
     requires links { length links.old ≡ link_count sender.old.bonding }
     requires few { length links.old ≤ 16 }
     requires session { opener.old ≡ sender.old.session }
-    ensures work { (passed : Passed) (from : Course)
-        → IsFar (line_of L.taken L.knows L.faults L.reads L.ends) sender.old passed links.old from
-        → Goes (line_of L.taken L.knows L.faults L.reads L.ends) sender.old sender.new passed links.old links.new from
-        (LooksAt (setup_with sender.old (length links.old)) us link puts result from) }
+    ensures work { GoesBy (line_of L.taken L.knows L.faults L.reads L.ends) sender.old sender.new links.old links.new
+        (λ setup from. LooksAt setup us link puts result from) }
     ensures set { StaysSet sender.old sender.new }
     ensures opener { opener.new ≡ opener.old }
 {

@@ -1,17 +1,16 @@
 //! Reading the links, and answering what came.
-ghost use Rattle.std.specs.Prelude.{◌≡◌, ◌≤◌, ◌<◌, ℕ, length, map};
+ghost use Rattle.std.specs.Prelude.{◌≡◌, ◌≤◌, ◌<◌, length};
 ghost use Rattle.std.specs.List.{range_with_len};
 ghost use Rattle.outside_io.specs.Causes.{NoFault, fault_by};
 ghost use Rattle.outside_net.specs.Links.{Datagram, Gave, IsWithin, answer_of};
 ghost use Rattle.sender_rules.specs.Bonding.{link_count};
 ghost use Rattle.sender_rules.specs.declared.bounds.TheConstants.{MAX_LINKS};
 ghost use Rattle.rist_sender.specs.Sender.{IsSenderAfter, StaysSet};
-ghost use Rattle.rist_send.specs.Run.{Run, setup_of};
+ghost use Rattle.rist_send.specs.Run.{Run};
 ghost use Rattle.rist_send.specs.Turns.{AnswersTo, AnswersIf, ReadsOn, ReadsLink, ReadsInTurn, compound_in, is_read};
 ghost use Rattle.rist_send.specs.Sending.{read_fault};
 ghost use Rattle.rist_send.specs.Served.{line_of};
-ghost use Rattle.rist_send.specs.Inside.Moves.{IsAt, Moves, ReadsAt, with_links};
-ghost use Rattle.rist_send.specs.declared.settings.SendSettings.{SendSettings as Settings};
+ghost use Rattle.rist_send.specs.Inside.Moves.{MovesBy, ReadsAt};
 
 use crate::SendFault;
 use crate::fault::refusal;
@@ -43,11 +42,9 @@ fn feed<L: Link>(
     requires among { link < length links.old }
     requires links { length links.old ≡ link_count sender.old.bonding }
     requires few { length links.old ≤ MAX_LINKS }
-    ensures work { (settings : Settings) (from : Run)
-        → IsAt sender.old progress.now (with_links from (map L.reads links.old)) from
-        → Moves (line_of L.taken L.knows L.faults L.reads L.ends)
-        sender.old sender.new progress.now (with_links from (map L.reads links.new)) links.old links.new from
-        (AnswersTo (setup_of settings sender.old (length links.old)) link compound.now result from) }
+    ensures work { MovesBy (line_of L.taken L.knows L.faults L.reads L.ends)
+        sender.old sender.new progress.now progress.now links.old links.new
+        (λ setup from. AnswersTo setup link compound.now result from) }
     ensures set { StaysSet sender.old sender.new }
     ensures source { fault_by read_fault result ≡ NoFault }
 {
@@ -71,11 +68,9 @@ fn answer<L: Link>(
     requires links { length links.old ≡ link_count sender.old.bonding }
     requires few { length links.old ≤ MAX_LINKS }
     requires session { opener.old ≡ sender.old.session }
-    ensures work { (settings : Settings) (from : Run)
-        → IsAt sender.old progress.now (with_links from (map L.reads links.old)) from
-        → Moves (line_of L.taken L.knows L.faults L.reads L.ends)
-        sender.old sender.new progress.now (with_links from (map L.reads links.new)) links.old links.new from
-        (AnswersIf (setup_of settings sender.old (length links.old)) link
+    ensures work { MovesBy (line_of L.taken L.knows L.faults L.reads L.ends)
+        sender.old sender.new progress.now progress.now links.old links.new
+        (λ setup from. AnswersIf setup link
         (compound_in sender.old.session (Gave (record { channel = channel; octets = octets.old }))) result from) }
     ensures set { StaysSet sender.old sender.new }
     ensures source { fault_by read_fault result ≡ NoFault }
@@ -110,11 +105,9 @@ fn read_on<L: Link>(
     requires links { length links.old ≡ link_count sender.old.bonding }
     requires few { length links.old ≤ MAX_LINKS }
     requires session { opener.old ≡ sender.old.session }
-    ensures work { (settings : Settings) (from : Run)
-        → IsAt sender.old progress.old (with_links from (map L.reads links.old)) from
-        → Moves (line_of L.taken L.knows L.faults L.reads L.ends)
-        sender.old sender.new progress.new (with_links from (map L.reads links.new)) links.old links.new from
-        (ReadsOn (setup_of settings sender.old (length links.old)) link result from) }
+    ensures work { MovesBy (line_of L.taken L.knows L.faults L.reads L.ends)
+        sender.old sender.new progress.old progress.new links.old links.new
+        (λ setup from. ReadsOn setup link result from) }
     ensures set { StaysSet sender.old sender.new }
     ensures source { fault_by read_fault result ≡ NoFault }
     ensures opener { opener.new ≡ opener.old }
@@ -150,11 +143,9 @@ fn read_link<L: Link>(
     requires links { length links.old ≡ link_count sender.old.bonding }
     requires few { length links.old ≤ MAX_LINKS }
     requires session { opener.old ≡ sender.old.session }
-    ensures work { (settings : Settings) (from : Run)
-        → IsAt sender.old progress.old (with_links from (map L.reads links.old)) from
-        → Moves (line_of L.taken L.knows L.faults L.reads L.ends)
-        sender.old sender.new progress.new (with_links from (map L.reads links.new)) links.old links.new from
-        (ReadsLink (setup_of settings sender.old (length links.old)) link result from) }
+    ensures work { MovesBy (line_of L.taken L.knows L.faults L.reads L.ends)
+        sender.old sender.new progress.old progress.new links.old links.new
+        (λ setup from. ReadsLink setup link result from) }
     ensures set { StaysSet sender.old sender.new }
     ensures source { fault_by read_fault result ≡ NoFault }
     ensures opener { opener.new ≡ opener.old }
@@ -177,12 +168,9 @@ pub(crate) fn read_links<L: Link>(
     requires links { length links.old ≡ link_count sender.old.bonding }
     requires few { length links.old ≤ MAX_LINKS }
     requires session { opener.old ≡ sender.old.session }
-    ensures work { (settings : Settings) (from : Run)
-        → IsAt sender.old progress.old (with_links from (map L.reads links.old)) from
-        → Moves (line_of L.taken L.knows L.faults L.reads L.ends)
-        sender.old sender.new progress.new (with_links from (map L.reads links.new)) links.old links.new from
-        (ReadsInTurn (setup_of settings sender.old (length links.old))
-        (range_with_len 0 (length links.old)) result from) }
+    ensures work { MovesBy (line_of L.taken L.knows L.faults L.reads L.ends)
+        sender.old sender.new progress.old progress.new links.old links.new
+        (λ setup from. ReadsInTurn setup (range_with_len 0 (length links.old)) result from) }
     ensures set { StaysSet sender.old sender.new }
     ensures source { fault_by read_fault result ≡ NoFault }
     ensures opener { opener.new ≡ opener.old }

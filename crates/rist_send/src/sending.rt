@@ -9,8 +9,7 @@ ghost use Rattle.rist_send.specs.Run.{Run, setup_of};
 ghost use Rattle.rist_send.specs.Turns.{TicksOnce, ReadsAndTicks, Turn};
 ghost use Rattle.rist_send.specs.Sending.{SendsSource, read_fault};
 ghost use Rattle.rist_send.specs.Served.{Runs, line_of, new_run};
-ghost use Rattle.rist_send.specs.Inside.Moves.{IsAt, Moves, IsPlace, with_links};
-ghost use Rattle.rist_send.specs.declared.settings.SendSettings.{SendSettings as Settings};
+ghost use Rattle.rist_send.specs.Inside.Moves.{IsAt, Moves, MovesBy, IsPlace};
 
 use crate::fault::refusal;
 use crate::piece::bring_next;
@@ -26,11 +25,9 @@ use rist_wire::Opener;
 fn tick<L: Link>(sender: &mut Sender, links: &mut [L], progress: &Progress) -> Result<(), SendFault>
     requires links { length links.old ≡ link_count sender.old.bonding }
     requires few { length links.old ≤ MAX_LINKS }
-    ensures work { (settings : Settings) (from : Run)
-        → IsAt sender.old progress.now (with_links from (map L.reads links.old)) from
-        → Moves (line_of L.taken L.knows L.faults L.reads L.ends)
-        sender.old sender.new progress.now (with_links from (map L.reads links.new)) links.old links.new from
-        (TicksOnce (setup_of settings sender.old (length links.old)) result from) }
+    ensures work { MovesBy (line_of L.taken L.knows L.faults L.reads L.ends)
+        sender.old sender.new progress.now progress.now links.old links.new
+        (λ setup from. TicksOnce setup result from) }
     ensures set { StaysSet sender.old sender.new }
     ensures source { fault_by read_fault result ≡ NoFault }
 {
@@ -50,11 +47,9 @@ fn read_and_tick<L: Link>(
     requires links { length links.old ≡ link_count sender.old.bonding }
     requires few { length links.old ≤ MAX_LINKS }
     requires session { opener.old ≡ sender.old.session }
-    ensures work { (settings : Settings) (from : Run)
-        → IsAt sender.old progress.old (with_links from (map L.reads links.old)) from
-        → Moves (line_of L.taken L.knows L.faults L.reads L.ends)
-        sender.old sender.new progress.new (with_links from (map L.reads links.new)) links.old links.new from
-        (ReadsAndTicks (setup_of settings sender.old (length links.old)) result from) }
+    ensures work { MovesBy (line_of L.taken L.knows L.faults L.reads L.ends)
+        sender.old sender.new progress.old progress.new links.old links.new
+        (λ setup from. ReadsAndTicks setup result from) }
     ensures set { StaysSet sender.old sender.new }
     ensures source { fault_by read_fault result ≡ NoFault }
     ensures opener { opener.new ≡ opener.old }

@@ -1,6 +1,5 @@
 -- A part of a call on the sending end: what it leaves of sender, clock and links.
-use Rattle.std.specs.Prelude.{◌≡◌, ◌≢◌, ◌≤◌, ℕ, List, length, map, slice_index_or, Option, Result}
-use Rattle.outside_net.specs.Links.{Answer}
+use Rattle.std.specs.Prelude.{◌≡◌, ℕ, List, length, map, Result}
 use Rattle.rist_sender.specs.Links.{Line}
 use Rattle.rist_sender.specs.Sender.{SenderState, IsSenderAfter, rules_of}
 use Rattle.rist_sender.specs.declared.send_bad.SendBad.{SendBad}
@@ -23,6 +22,12 @@ pub record Goes {L : Type 0} (line : Line L) (old new : SenderState) (passed : P
   pub fact : P to
   pub stands : IsFar line new passed is to
   pub given : AreServed line old.flow old.session from.work.history to.work.history was is
+
+-- a part of a call, whatever has passed: from as far as that, sender and links come to something of which this holds
+abbrev pub GoesBy : {L : Type 0} → Line L → SenderState → SenderState → List L → List L → (Setup → Course → Course → Type 0) → Type 0
+GoesBy line old new was is P =
+    (passed : Passed) (from : Course) → IsFar line old passed was from
+    → Goes line old new passed was is from (P (setup_with old (length was)) from)
 
 -- the parts before these octets were sent: whatever the sending of the rest leaves, the sending of the piece leaves
 abbrev pub SendsBefore : Setup → List ℕ → List ℕ → Course → Course → Type 0

@@ -1,5 +1,5 @@
 -- A part of a run: what it leaves of sender, progress, source and links.
-use Rattle.std.specs.Prelude.{◌≡◌, ◌≢◌, ◌≤◌, ◌-◌, ◌*◌, ◌^◌, ℕ, List, slice_index_or, Option, Result}
+use Rattle.std.specs.Prelude.{◌≡◌, ◌≢◌, ◌≤◌, ◌-◌, ◌*◌, ◌^◌, ℕ, List, length, map, slice_index_or, Option, Result}
 use Rattle.std.specs.Option.{option_map}
 use Rattle.std.specs.List.{range_with_len}
 use Rattle.outside_net.specs.Streams.{later, IsFirst}
@@ -10,7 +10,8 @@ use Rattle.rist_send.specs.declared.progress.Progress.{Progress}
 use Rattle.rist_send.specs.declared.progress.Stage.{Stage}
 use Rattle.rist_send.specs.declared.progress.Stage.TheVariants.{Reading, Ended}
 use Rattle.rist_send.specs.declared.fault.SendFault.{SendFault}
-use Rattle.rist_send.specs.Run.{Setup, Run}
+use Rattle.rist_send.specs.declared.settings.SendSettings.{SendSettings}
+use Rattle.rist_send.specs.Run.{Setup, Run, setup_of}
 use Rattle.rist_send.specs.Turns.{ReadsInTurn}
 use Rattle.rist_send.specs.Served.{Outside, AreServed}
 
@@ -41,6 +42,13 @@ pub record Moves {L : Type 0} (line : Line L) (old new : SenderState) (progress 
   pub fact : P to
   pub stands : IsAt new progress outside to
   pub given : AreServed line old.flow old.session from.work.history to.work.history was is
+
+-- a part of a run that comes neither to its clock nor to its source: from where a run has come to, it comes to something
+-- of which this holds
+abbrev pub MovesBy : {L : Type 0} → Line L → SenderState → SenderState → Progress → Progress → List L → List L → (Setup → Run → Run → Type 0) → Type 0
+MovesBy line old new before after was is P =
+    (settings : SendSettings) (from : Run) → IsAt old before (with_links from (map line.reads was)) from
+    → Moves line old new after (with_links from (map line.reads is)) was is from (P (setup_of settings old (length was)) from)
 
 -- one link gave an answer to a read, and the others stay
 pub record ReadsAt {L : Type 0} (line : Line L) (link : ℕ) (answer : Answer) (was is : List L) : Type 0 where

@@ -1,5 +1,5 @@
 -- Links and clocks are handed on, and stand in their lists again.
-use Rattle.std.proofs.Common.{◌≡◌, ◌∙◌, ◌++◌, ◌∷◌, ◌≤◌, ◌+◌, ℕ, List, [], length, map, take, drop, Some, None, refl, ap, sym, subst, arith, rules}
+use Rattle.std.proofs.Common.{◌≡◌, ◌∙◌, ◌++◌, ◌∷◌, ◌≤◌, ℕ, List, [], length, map, take, drop, Some, None, refl, ap, sym, subst, arith, rules}
 use Rattle.std.proofs.lemmas.List.{append_assoc, length-append, length-map}
 use Rattle.std.specs.Prelude.{vec_capacity}
 use Rattle.rist_send.specs.Served.{line_of}
