@@ -6,14 +6,14 @@ use std::alloc::Global;
 use std::test::Fail;
 
 /// The steps of a worker.
-#[derive(Drop)]
-struct Own(Vec<Step>);
+#[derive(Clone, Copy)]
+struct Own<'a>(&'a [Step]);
 
-impl OwnSteps for Own {
-    ghost own = { λ own. own.0.items };
+impl OwnSteps for Own<'_> {
+    ghost own = { λ own. own.0.now };
 
     fn own(&self) -> &[Step] {
-        &self.0
+        self.0
     }
 }
 
@@ -64,8 +64,11 @@ fn there(letter: u8) -> Option<Step> {
     }
 }
 
-/// The tear at these letters of the desk's and the own list; b'-' where one has ended.
-fn tear_at(link: u8, place: usize, desk: u8, own: u8) -> Option<Tear> {
+/// A link, a place there, and the letters of the desk's and the own list at it; b'-' where one has ended.
+type At = (u8, usize, u8, u8);
+
+fn tear_at(at: Option<At>) -> Option<Tear> {
+    let (link, place, desk, own) = at?;
     Some(Tear {
         link,
         place,
@@ -74,45 +77,46 @@ fn tear_at(link: u8, place: usize, desk: u8, own: u8) -> Option<Tear> {
     })
 }
 
+/// The desk's list, those of links 0 and 1, and where they differ.
+static LISTS: [(&str, &str, &str, Option<At>); 14] = [
+    ("", "", "", None),
+    ("apbq", "ab", "pq", None),
+    ("pqab", "ab", "pq", None),
+    // One list has a step more.
+    ("apbq", "a", "pq", Some((0, 1, b'b', b'-'))),
+    ("apq", "ab", "pq", Some((0, 1, b'-', b'b'))),
+    ("apbq", "ab", "p", Some((1, 1, b'q', b'-'))),
+    ("apb", "ab", "pq", Some((1, 1, b'-', b'q'))),
+    ("", "", "p", Some((1, 0, b'-', b'p'))),
+    // Another mark, and another order.
+    ("aBc", "abc", "", Some((0, 1, b'B', b'b'))),
+    ("acb", "abc", "", Some((0, 1, b'c', b'b'))),
+    // The lowest link, and the first place there.
+    ("apBcq", "abP", "Pq", Some((0, 1, b'B', b'b'))),
+    // An end, and steps of links that have no worker.
+    ("abe", "ab", "", Some((0, 2, b'e', b'-'))),
+    ("aypxb", "ab", "p", Some((2, 0, b'x', b'-'))),
+    ("ayPb", "ab", "p", Some((1, 0, b'P', b'p'))),
+];
+
 #[test]
 fn the_first_difference_is_found(rt: HostRuntime) -> Result<(), Fail> {
     let alloc = rt.alloc();
-    // The desk's list, those of links 0 and 1, and where they differ.
-    let cases: [(&str, &str, &str, Option<Tear>); 14] = [
-        ("", "", "", None),
-        ("apbq", "ab", "pq", None),
-        ("pqab", "ab", "pq", None),
-        // One list has a step more.
-        ("apbq", "a", "pq", tear_at(0, 1, b'b', b'-')),
-        ("apq", "ab", "pq", tear_at(0, 1, b'-', b'b')),
-        ("apbq", "ab", "p", tear_at(1, 1, b'q', b'-')),
-        ("apb", "ab", "pq", tear_at(1, 1, b'-', b'q')),
-        ("", "", "p", tear_at(1, 0, b'-', b'p')),
-        // Another mark, and another order.
-        ("aBc", "abc", "", tear_at(0, 1, b'B', b'b')),
-        ("acb", "abc", "", tear_at(0, 1, b'c', b'b')),
-        // The lowest link, and the first place there.
-        ("apBcq", "abP", "Pq", tear_at(0, 1, b'B', b'b')),
-        // An end, and steps of links that have no worker.
-        ("abe", "ab", "", tear_at(0, 2, b'e', b'-')),
-        ("aypxb", "ab", "p", tear_at(2, 0, b'x', b'-')),
-        ("ayPb", "ab", "p", tear_at(1, 0, b'P', b'p')),
-    ];
-    for (kept, first, second, want) in cases {
+    for (kept, first, second, want) in &LISTS {
         let steps = steps_of(alloc, kept.as_bytes())?;
-        let workers = [
-            Own(steps_of(alloc, first.as_bytes())?),
-            Own(steps_of(alloc, second.as_bytes())?),
-        ];
-        assert!(rt; compare(&steps, &workers) == want, "{kept}");
+        let first = steps_of(alloc, first.as_bytes())?;
+        let second = steps_of(alloc, second.as_bytes())?;
+        let tear = compare(&steps, &[Own(&first), Own(&second)]);
+        assert!(rt; tear == tear_at(*want), "{kept}");
     }
     Ok(())
 }
 
 #[test]
 fn without_workers_each_step_differs(rt: HostRuntime) -> Result<(), Fail> {
-    let workers: [Own; 0] = [];
+    let workers: [Own<'_>; 0] = [];
     assert!(rt; compare(&[], &workers) == None);
-    assert!(rt; compare(&[step_of(b'y'), step_of(b'p')], &workers) == tear_at(1, 0, b'p', b'-'));
+    let tear = compare(&[step_of(b'y'), step_of(b'p')], &workers);
+    assert!(rt; tear == tear_at(Some((1, 0, b'p', b'-'))));
     Ok(())
 }

@@ -2,6 +2,7 @@
 ghost use Rattle.std.specs.Prelude.{◌≡◌, None, Some};
 ghost use Rattle.rist_wire.specs.Session.{IsSession};
 ghost use Rattle.rist_desk.specs.Desk.{IsNew, state_of};
+ghost use Rattle.rist_ends.specs.Told.{IsFit, IsNoEnd};
 
 use outside_io::{Failed, Profile, Sink, Store8};
 use outside_net::{Full, Kept, Quiet, Trace};
@@ -12,6 +13,7 @@ use rist_wire::Session;
 use seq_unwrap::Width;
 use std::alloc::Global;
 use std::marker::Brand;
+use std::process::Abort;
 use std::test::Fail;
 
 const TWICE: Answer = Answer::Verdict(Verdict::Twice);
@@ -63,15 +65,12 @@ struct Run<T> {
     sink: Store8,
 }
 
-/// Brings a packet of one octet at 0 us.
-fn bring<N: Name, T: StepTrace + Drop, K: Sink + Drop>(
-    desk: &mut Desk<N, T, K>,
-    link: u8,
-    word: u16,
-    outs: &mut Outs,
-) -> Result<Answer, Full> {
-    let octet = [b'A'.wrapping_add(((word % 256) as u8).wrapping_sub(10))];
-    let told = Told {
+/// A packet of one octet at 0 us.
+fn told(link: u8, word: u16, octet: &[u8; 1]) -> Told<'_>
+    ensures fits { IsFit result }
+    ensures going { IsNoEnd result.what }
+{
+    Told {
         link: link % 16,
         us: 0,
         what: What::Media(Arrival {
@@ -80,10 +79,20 @@ fn bring<N: Name, T: StepTrace + Drop, K: Sink + Drop>(
             width: Width::W16,
             word: word as u32,
             stamp: (word as u32).saturating_sub(10) * 900,
-            payload: &octet,
+            payload: octet,
         }),
-    };
-    desk.step(&told, outs)
+    }
+}
+
+/// Brings a packet of one octet.
+fn bring<N: Name, T: StepTrace + Drop, K: Sink + Drop>(
+    desk: &mut Desk<N, T, K>,
+    link: u8,
+    word: u16,
+    outs: &mut Outs,
+) -> Result<Answer, Full> {
+    let octet = [b'A'.wrapping_add(((word % 256) as u8).wrapping_sub(10))];
+    desk.step(&told(link, word, &octet), outs)
 }
 
 /// Link 0 brings 10 and 12, link 1 brings 11 and 12, in this order of links.
@@ -134,27 +143,38 @@ fn silent(alloc: Global, order: &[u8; 4]) -> Result<Run<Quiet>, Fail> {
     stepped::<Brand, Quiet>(alloc, receiver, Quiet::new(), sink, order)
 }
 
+/// All was written in order, and of five steps one packet came twice.
+fn expect_merged(rt: &impl Abort, run: &Run<Kept<Step>>) {
+    assert!(rt; run.sink.octets() == b"ABC".as_slice());
+    assert!(rt; times_twice(run.answers.as_slice()) == 1);
+    assert!(rt; run.last == Ok(Answer::Nothing));
+    let steps = run.trace.kept();
+    assert!(rt; steps.len() == 5);
+    assert!(rt; count_of(steps, Mark::Verdict(Verdict::Twice)) == 1);
+}
+
+/// The steps came at 0 us from the links in this order.
+fn expect_order(rt: &impl Abort, steps: &[Step], order: &[u8; 4]) {
+    for (step, link) in steps.iter().zip(order.iter()) {
+        assert!(rt; step.link == *link && step.at == 0 && step.made == 0);
+    }
+}
+
+static ORDERS: [[u8; 4]; 6] = [
+    [0, 0, 1, 1],
+    [0, 1, 0, 1],
+    [0, 1, 1, 0],
+    [1, 0, 0, 1],
+    [1, 0, 1, 0],
+    [1, 1, 0, 0],
+];
+
 #[test]
 fn two_links_are_merged_in_each_order(rt: HostRuntime) -> Result<(), Fail> {
-    let orders = [
-        [0, 0, 1, 1],
-        [0, 1, 0, 1],
-        [0, 1, 1, 0],
-        [1, 0, 0, 1],
-        [1, 0, 1, 0],
-        [1, 1, 0, 0],
-    ];
-    for order in &orders {
+    for order in &ORDERS {
         let run = kept(rt.alloc(), 64, order)?;
-        assert!(rt; run.sink.octets() == b"ABC".as_slice());
-        assert!(rt; times_twice(run.answers.as_slice()) == 1);
-        assert!(rt; run.last == Ok(Answer::Nothing));
-        let steps = run.trace.kept();
-        assert!(rt; steps.len() == 5);
-        assert!(rt; count_of(steps, Mark::Verdict(Verdict::Twice)) == 1);
-        for (step, link) in steps.iter().zip(order.iter()) {
-            assert!(rt; step.link == *link && step.at == 0 && step.made == 0);
-        }
+        expect_merged(&rt, &run);
+        expect_order(&rt, run.trace.kept(), order);
     }
     Ok(())
 }

@@ -7,6 +7,8 @@ mod comparing;
 #[cfg(test)]
 mod desk;
 #[cfg(test)]
+mod links;
+#[cfg(test)]
 mod onward;
 #[cfg(test)]
 mod receiving;

@@ -1,36 +1,19 @@
 //! A sending end over a link in memory.
 ghost use Rattle.std.specs.Prelude.{◌≡◌, [], None};
-ghost use Rattle.rist_wire.specs.Session.{IsSession};
 ghost use Rattle.rist_send.specs.Served.{line_of};
 ghost use Rattle.rist_gateway.specs.Onward.{IsUncalled, onward_of, passed_of};
 
+use crate::desk::simple;
 use bond_links::Bond;
-use outside_io::{Channel, Profile, Sink};
+use outside_io::{Channel, Sink};
 use outside_net::{Clock, Link, Octets, ScriptClock, ScriptLink, ScriptRead};
 use rist_desk::{Beside, Side};
 use rist_gateway::{Onward, Origin};
 use rist_sender::{SendBad, Sender, Settings};
-use rist_wire::{Opener, Session};
-use seq_unwrap::Width;
+use rist_wire::Opener;
 use std::alloc::Global;
 use std::marker::Brand;
 use std::test::Fail;
-
-/// The session of RIST's Simple Profile.
-fn simple() -> Session
-    ensures session { IsSession result }
-    ensures clear { result.pass ≡ None }
-{
-    Session {
-        profile: Profile::Simple,
-        port: 1968,
-        pass: None,
-        bits: 128,
-        nulls: false,
-        width: Width::W16,
-        full: false,
-    }
-}
 
 /// What two asides came to, why one was refused if it was, and the links.
 #[derive(Drop)]

@@ -1,10 +1,9 @@
 //! Worked runs over a source, links and a clock in memory.
-ghost use Rattle.std.specs.Prelude.{◌≡◌, ◌≤◌, vec_len, None, IfOk, is_some};
-ghost use Rattle.std.specs.List.{All};
-ghost use Rattle.outside_net.specs.Scripts.{FitsDatagram};
+ghost use Rattle.std.specs.Prelude.{◌≡◌, ◌≤◌, vec_len, IfOk, is_some};
 ghost use Rattle.sender_rules.specs.Bonding.{link_count};
 ghost use Rattle.rist_wire.specs.Session.{IsSession};
 
+use crate::desk::simple;
 use bond_links::Bond;
 use outside_io::{Channel, Pieces, Words};
 use outside_net::{Octets, ScriptClock, ScriptLink, ScriptRead};
@@ -15,23 +14,8 @@ use rist_sender::{Sender, Settings};
 use rist_wire::{Item, Opener, Profile, Session};
 use seq_unwrap::Width;
 use std::alloc::Global;
+use std::process::Abort;
 use std::test::Fail;
-
-/// A clear session of the Simple Profile.
-fn session() -> Session
-    ensures session { IsSession result }
-    ensures clear { result.pass ≡ None }
-{
-    Session {
-        profile: Profile::Simple,
-        port: 1968,
-        pass: None,
-        bits: 128,
-        nulls: false,
-        width: Width::W16,
-        full: false,
-    }
-}
 
 /// A session of the Main Profile.
 fn tunnel(pass: Option<Phrase>, nulls: bool, width: Width) -> Session
@@ -49,20 +33,18 @@ fn tunnel(pass: Option<Phrase>, nulls: bool, width: Width) -> Session
     }
 }
 
-/// A link that takes up to 64 datagrams, but for the writes of these places, which fail.
-fn link(alloc: Global, reads: Vec<ScriptRead>, failing: &[u64]) -> Result<ScriptLink, Fail>
-    requires { All FitsDatagram reads.items }
-{
-    Ok(ScriptLink::with(alloc, reads, true, 64, &[], failing)?)
+/// A link that takes up to 64 datagrams, but for the writes of these places, which fail. No datagram comes back.
+fn link(alloc: Global, failing: &[u64]) -> Result<ScriptLink, Fail> {
+    Ok(ScriptLink::with(alloc, Vec::new(alloc), true, 64, &[], failing)?)
 }
 
-/// Links of which these writes fail, and no datagram comes back.
+/// Links of which these writes fail.
 fn two_links(alloc: Global, one: &[u64], other: &[u64]) -> Result<Vec<ScriptLink>, Fail>
     ensures two { IfOk result (λ links. vec_len links ≡ 2) }
 {
     let mut links = Vec::new(alloc);
-    links.push(link(alloc, Vec::new(alloc), one)?)?;
-    links.push(link(alloc, Vec::new(alloc), other)?)?;
+    links.push(link(alloc, one)?)?;
+    links.push(link(alloc, other)?)?;
     Ok(links)
 }
 
@@ -130,24 +112,21 @@ fn sent_over(
     Ok(Ran { answer, links })
 }
 
-/// The same of octets, in clear, over one link of this script whose writes of these places fail.
+/// The same of octets, in clear, over one link.
 fn sent(
     alloc: Global,
     octets: &[u8],
     moments: &[u64],
     linger: u64,
     turns: u64,
-    reads: Vec<ScriptRead>,
-    failing: &[u64],
-) -> Result<Ran, Fail>
-    requires { All FitsDatagram reads.items }
-{
+    link: ScriptLink,
+) -> Result<Ran, Fail> {
     let source = Pieces::with(alloc, octets, &[], &[])?;
     let mut links = Vec::new(alloc);
-    links.push(link(alloc, reads, failing)?)?;
+    links.push(link)?;
     sent_over(
         alloc,
-        &session(),
+        &simple(),
         None,
         Bond::duplicate(1),
         source,
@@ -158,74 +137,130 @@ fn sent(
     )
 }
 
+/// A datagram by its channel and its length.
+type Datagram = (Channel, usize);
+
+// A whole piece, one of an octet, and a report.
+const WHOLE: Datagram = (Channel::Media, 1328);
+
+const ONE: Datagram = (Channel::Media, 13);
+
+const REPORT: Datagram = (Channel::Control, 44);
+
+/// A run gave this answer, and the first link took these datagrams and no more.
+fn expect_ran(rt: &impl Abort, ran: &Ran, answer: Result<(), SendFault>, took: &[Datagram]) {
+    assert!(rt; ran.answer == answer);
+    for (place, datagram) in took.iter().enumerate() {
+        assert!(rt; ran.took(place) == Some(*datagram));
+    }
+    assert!(rt; ran.took(took.len()) == None);
+}
+
+/// The source's octets, the clock's moments, how long it lingers and its turns, and then the answer and what the link
+/// takes.
+type Row = (
+    &'static [u8],
+    &'static [u64],
+    u64,
+    u64,
+    Result<(), SendFault>,
+    &'static [Datagram],
+);
+
+fn expect_rows(rt: &impl Abort, alloc: Global, rows: &[Row]) -> Result<(), Fail> {
+    for (octets, moments, linger, turns, answer, took) in rows {
+        let ran = sent(alloc, octets, moments, *linger, *turns, link(alloc, &[])?)?;
+        expect_ran(rt, &ran, *answer, took);
+    }
+    Ok(())
+}
+
+static WAITING: [Row; 2] = [
+    // The clock stands still: the first piece and one report are all that is sent.
+    (
+        &[0x47; 2632],
+        &[7],
+        0,
+        5,
+        Err(SendFault::TurnsSpent),
+        &[WHOLE, REPORT],
+    ),
+    // The second piece goes in the turn of its time, counted from the start, and the third read finds the end.
+    (
+        &[0x47; 2632],
+        &[7, 1006, 2007, 2008, 3007],
+        0,
+        5,
+        Ok(()),
+        &[WHOLE, REPORT, WHOLE],
+    ),
+];
+
 #[test]
 fn a_piece_waits_for_its_time(rt: HostRuntime) -> Result<(), Fail> {
-    let alloc = rt.alloc();
-    let octets = [0x47; 2632];
-    // The clock stands still: the first piece and one report are all that is sent.
-    let ran = sent(alloc, &octets, &[7], 0, 5, Vec::new(alloc), &[])?;
-    assert!(rt; ran.answer == Err(SendFault::TurnsSpent));
-    assert!(rt; ran.took(0) == Some((Channel::Media, 1328)));
-    assert!(rt; ran.took(1) == Some((Channel::Control, 44)));
-    assert!(rt; ran.took(2) == None);
-    // The second piece goes in the turn of its time, counted from the start, and the third read finds the end.
-    let moments = [7, 1006, 2007, 2008, 3007];
-    let ran = sent(alloc, &octets, &moments, 0, 5, Vec::new(alloc), &[])?;
-    assert!(rt; ran.answer == Ok(()));
-    assert!(rt; ran.took(2) == Some((Channel::Media, 1328)));
-    assert!(rt; ran.took(3) == None);
+    expect_rows(&rt, rt.alloc(), &WAITING)
+}
+
+const THREE: &[u64] = &[0, 1000, 2000];
+
+static ENDING: [Row; 5] = [
+    // Turns are one fewer than a further read would take.
+    (b"", THREE, 0, 1, Ok(()), &[REPORT]),
+    (&[0x47], THREE, 0, 1, Ok(()), &[ONE, REPORT]),
+    (&[0x47; 1316], THREE, 0, 2, Ok(()), &[WHOLE, REPORT]),
+    (&[0x47; 1317], THREE, 0, 2, Ok(()), &[WHOLE, REPORT, ONE]),
+    // One turn fewer still.
+    (
+        &[0x47; 1316],
+        THREE,
+        0,
+        1,
+        Err(SendFault::TurnsSpent),
+        &[WHOLE, REPORT],
+    ),
+];
+
+/// Of a piece and the octet 9 the third datagram has that octet.
+fn expect_nine(rt: &impl Abort, alloc: Global) -> Result<(), Fail> {
+    let mut octets = [0x47; 1317];
+    octets[1316] = 9;
+    let ran = sent(alloc, &octets, THREE, 0, 2, link(alloc, &[])?)?;
+    assert!(rt; ran.payload(0, 2) == Some([9].as_slice()));
     Ok(())
 }
 
 #[test]
 fn the_last_piece_may_be_short(rt: HostRuntime) -> Result<(), Fail> {
-    let alloc = rt.alloc();
-    let mut octets = [0x47; 1317];
-    octets[1316] = 9;
-    let moments = [0, 1000, 2000];
-    // Turns are one fewer than a further read would take.
-    let cases: [(usize, u64, usize); 4] = [(0, 1, 0), (1, 1, 1), (1316, 2, 1), (1317, 2, 2)];
-    for (length, turns, pieces) in cases {
-        let ran = sent(
-            alloc,
-            &octets[..length],
-            &moments,
-            0,
-            turns,
-            Vec::new(alloc),
-            &[],
-        )?;
-        assert!(rt; ran.answer == Ok(()), "{length}");
-        assert!(rt; ran.took(pieces + 1) == None);
-    }
-    let ran = sent(alloc, &octets, &moments, 0, 2, Vec::new(alloc), &[])?;
-    assert!(rt; ran.payload(0, 2) == Some([9].as_slice()));
-    let ran = sent(alloc, &octets[..1316], &moments, 0, 1, Vec::new(alloc), &[])?;
-    assert!(rt; ran.answer == Err(SendFault::TurnsSpent));
-    Ok(())
+    expect_rows(&rt, rt.alloc(), &ENDING)?;
+    expect_nine(&rt, rt.alloc())
 }
+
+// A report each 100 ms: at 0, at 100 ms and, in the last turn, at 200 ms.
+const HUNDREDS: &[u64] = &[0, 100_000, 199_999, 200_000, 300_000];
+
+static LINGERING: [Row; 2] = [
+    (
+        b"A",
+        HUNDREDS,
+        200_000,
+        5,
+        Ok(()),
+        &[ONE, REPORT, REPORT, REPORT],
+    ),
+    // Turns that end while it lingers are no fault.
+    (b"A", HUNDREDS, 200_000, 2, Ok(()), &[ONE, REPORT, REPORT]),
+];
 
 #[test]
 fn it_lingers_after_the_end(rt: HostRuntime) -> Result<(), Fail> {
-    let alloc = rt.alloc();
-    // A report each 100 ms: at 0, at 100 ms and, in the last turn, at 200 ms.
-    let moments = [0, 100_000, 199_999, 200_000, 300_000];
-    let ran = sent(alloc, b"A", &moments, 200_000, 5, Vec::new(alloc), &[])?;
-    assert!(rt; ran.answer == Ok(()));
-    assert!(rt; ran.took(3).is_some() && ran.took(4).is_none());
-    // Turns that end while it lingers are no fault.
-    let ran = sent(alloc, b"A", &moments, 200_000, 2, Vec::new(alloc), &[])?;
-    assert!(rt; ran.answer == Ok(()));
-    assert!(rt; ran.took(2).is_some() && ran.took(3).is_none());
-    Ok(())
+    expect_rows(&rt, rt.alloc(), &LINGERING)
 }
 
 #[test]
 fn a_link_whose_write_fails_is_down(rt: HostRuntime) -> Result<(), Fail> {
     let alloc = rt.alloc();
-    let ran = sent(alloc, b"A", &[0], 0, 5, Vec::new(alloc), &[0])?;
-    assert!(rt; ran.answer == Err(SendFault::LinksDown));
-    assert!(rt; ran.took(0) == None);
+    let ran = sent(alloc, b"A", &[0], 0, 5, link(alloc, &[0])?)?;
+    expect_ran(&rt, &ran, Err(SendFault::LinksDown), &[]);
     Ok(())
 }
 
@@ -235,18 +270,19 @@ const ASKS_FOR_THE_FIRST: [u8; 40] = [
     0x81, 0xCD, 0, 3, 0, 0, 0, 7, 0x10, 0x20, 0x30, 0x40, 0, 0, 0, 0,
 ];
 
-#[test]
-fn a_request_is_answered_in_the_turn_that_reads_it(rt: HostRuntime) -> Result<(), Fail> {
-    let alloc = rt.alloc();
+/// A link on which that request comes.
+fn asking(alloc: Global) -> Result<ScriptLink, Fail> {
     let mut reads = Vec::new(alloc);
     let compound = Octets::of(alloc, &ASKS_FOR_THE_FIRST)?;
     reads.push(ScriptRead::Datagram(Channel::Control, compound))?;
-    let ran = sent(alloc, b"A", &[0], 0, 1, reads, &[])?;
-    assert!(rt; ran.answer == Ok(()));
-    assert!(rt; ran.took(0) == Some((Channel::Media, 13)));
-    assert!(rt; ran.took(1) == Some((Channel::Media, 13)));
-    assert!(rt; ran.took(2) == Some((Channel::Control, 44)));
-    assert!(rt; ran.took(3) == None);
+    Ok(ScriptLink::with(alloc, reads, true, 64, &[], &[])?)
+}
+
+#[test]
+fn a_request_is_answered_in_the_turn_that_reads_it(rt: HostRuntime) -> Result<(), Fail> {
+    let alloc = rt.alloc();
+    let ran = sent(alloc, b"A", &[0], 0, 1, asking(alloc)?)?;
+    expect_ran(&rt, &ran, Ok(()), &[ONE, ONE, REPORT]);
     Ok(())
 }
 
@@ -259,7 +295,7 @@ fn a_failed_read_drops_a_part_of_a_piece(rt: HostRuntime) -> Result<(), Fail> {
     let bond = Bond::duplicate(2);
     let ran = sent_over(
         alloc,
-        &session(),
+        &simple(),
         None,
         bond,
         source,
@@ -268,10 +304,7 @@ fn a_failed_read_drops_a_part_of_a_piece(rt: HostRuntime) -> Result<(), Fail> {
         6,
         links,
     )?;
-    assert!(rt; ran.answer == Err(SendFault::ReadFault));
-    assert!(rt; ran.took(0) == Some((Channel::Media, 1328)));
-    assert!(rt; ran.took(1) == Some((Channel::Control, 44)));
-    assert!(rt; ran.took(2) == None);
+    expect_ran(&rt, &ran, Err(SendFault::ReadFault), &[WHOLE, REPORT]);
     Ok(())
 }
 
@@ -288,18 +321,16 @@ fn numbered() -> [u8; 6580] {
 }
 
 /// The places of the pieces that a link took, in the order in which it took them.
-fn places(ran: &Ran, link: usize) -> [Option<u8>; 6] {
-    let mut places = [None; 6];
-    let mut count = 0;
-    for place in 0..7 {
-        if let Some(payload) = ran.payload(link, place) {
-            if payload.len() == 1316 && count < 6 {
-                places[count] = Some(payload[0]);
-                count += 1;
+fn places(alloc: Global, ran: &Ran, link: usize) -> Result<Vec<u8>, Fail> {
+    let mut places = Vec::new(alloc);
+    for at in 0..7 {
+        if let Some([place, rest @ ..]) = ran.payload(link, at) {
+            if rest.len() == 1315 {
+                places.push(*place)?;
             }
         }
     }
-    places
+    Ok(places)
 }
 
 /// Each piece goes on both links, or three of four on the first.
@@ -313,39 +344,51 @@ fn bond(shared: bool) -> Bond
     }
 }
 
+/// Whether pieces are shared, which of the first link's writes fail, and the pieces that each link takes.
+static BONDS: [(bool, &[u64], &[u8], &[u8]); 4] = [
+    (false, &[], &[0, 1, 2, 3, 4], &[0, 1, 2, 3, 4]),
+    (false, &[0], &[], &[0, 1, 2, 3, 4]),
+    (true, &[], &[0, 1, 2, 4], &[3]),
+    (true, &[0], &[], &[0, 1, 2, 3, 4]),
+];
+
+/// Each link took these pieces.
+fn expect_places(
+    rt: &impl Abort,
+    alloc: Global,
+    ran: &Ran,
+    first: &[u8],
+    second: &[u8],
+) -> Result<(), Fail> {
+    assert!(rt; ran.answer == Ok(()));
+    assert!(rt; places(alloc, ran, 0)?.as_slice() == first);
+    assert!(rt; places(alloc, ran, 1)?.as_slice() == second);
+    Ok(())
+}
+
+/// Those pieces over two links, the first of which has these failing writes.
+fn bonded(alloc: Global, shared: bool, failing: &[u64]) -> Result<Ran, Fail> {
+    let source = Pieces::with(alloc, &numbered(), &[], &[])?;
+    let links = two_links(alloc, failing, &[])?;
+    let bond = bond(shared);
+    sent_over(
+        alloc,
+        &simple(),
+        None,
+        bond,
+        source,
+        &EACH_MILLISECOND,
+        0,
+        6,
+        links,
+    )
+}
+
 #[test]
 fn pieces_go_on_the_links_that_are_theirs(rt: HostRuntime) -> Result<(), Fail> {
-    let alloc = rt.alloc();
-    let octets = numbered();
-    let none = [None; 6];
-    let all = [Some(0), Some(1), Some(2), Some(3), Some(4), None];
-    let three_of_four = [Some(0), Some(1), Some(2), Some(4), None, None];
-    let fourth = [Some(3), None, None, None, None, None];
-    // Whether pieces are shared, whether the first link's first write fails, and what each link takes.
-    for (shared, fails, first, second) in [
-        (false, false, all, all),
-        (false, true, none, all),
-        (true, false, three_of_four, fourth),
-        (true, true, none, all),
-    ] {
-        let failing = [if fails { 0 } else { 99 }];
-        let source = Pieces::with(alloc, &octets, &[], &[])?;
-        let links = two_links(alloc, &failing, &[])?;
-        let bond = bond(shared);
-        let ran = sent_over(
-            alloc,
-            &session(),
-            None,
-            bond,
-            source,
-            &EACH_MILLISECOND,
-            0,
-            6,
-            links,
-        )?;
-        assert!(rt; ran.answer == Ok(()));
-        assert!(rt; places(&ran, 0) == first);
-        assert!(rt; places(&ran, 1) == second);
+    for (shared, failing, first, second) in &BONDS {
+        let ran = bonded(rt.alloc(), *shared, failing)?;
+        expect_places(&rt, rt.alloc(), &ran, first, second)?;
     }
     Ok(())
 }
@@ -355,27 +398,28 @@ static WORDS: [u32; 16] = [1, 2, 3, 4, 5, 6, 7, 8, 9, 10, 11, 12, 13, 14, 15, 16
 // Seven packets of 188 octets, of which the first, fourth and seventh are null.
 fn stream() -> [u8; 1316] {
     let mut stream = [0xAB; 1316];
-    for packet in 0..7 {
-        stream[packet * 188] = 0x47;
-        stream[packet * 188 + 1] = if packet % 3 == 0 { 0x1F } else { 0x41 };
-        stream[packet * 188 + 2] = 0xFF;
+    for (at, octet) in stream.iter_mut().enumerate() {
+        *octet = match (at / 188 % 3, at % 188) {
+            (_, 0) => 0x47,
+            (0, 1) => 0x1F,
+            (_, 1) => 0x41,
+            (_, 2) => 0xFF,
+            _ => 0xAB,
+        };
     }
     stream
 }
 
-/// Of the first datagram of that stream in a session: how many octets of payload were sent, and how many were restored.
-fn opened(alloc: Global, session: &Session, sealer: Option<Sealer>) -> Result<(usize, usize), Fail>
+/// Of a datagram in a session: how many octets of payload there are, and how many once they are restored.
+fn lengths(
+    alloc: Global,
+    session: &Session,
+    channel: Channel,
+    octets: &[u8],
+) -> Result<(usize, usize), Fail>
     requires session { IsSession session.now }
-    requires paired { is_some sealer ≡ is_some session.now.pass }
 {
-    let source = Pieces::with(alloc, &stream(), &[], &[])?;
-    let mut links = Vec::new(alloc);
-    links.push(link(alloc, Vec::new(alloc), &[])?)?;
-    let bond = Bond::duplicate(1);
-    let ran = sent_over(alloc, session, sealer, bond, source, &[0], 0, 1, links)?;
     let mut opener = Opener::with(alloc, session)?;
-    let first = ran.links.get(0).ok_or("a link")?;
-    let (channel, octets) = first.taken(0).ok_or("a datagram")?;
     let mut block = [0; 2048];
     let mut content = [0; 1500];
     if octets.len() > 2048 {
@@ -386,6 +430,21 @@ fn opened(alloc: Global, session: &Session, sealer: Option<Sealer>) -> Result<(u
         Ok(Item::Media(media)) => Ok((media.payload().len(), media.content(&mut content))),
         _ => Err("media".into()),
     }
+}
+
+/// Of the first datagram of that stream in a session: how many octets of payload were sent, and how many were restored.
+fn opened(alloc: Global, session: &Session, sealer: Option<Sealer>) -> Result<(usize, usize), Fail>
+    requires session { IsSession session.now }
+    requires paired { is_some sealer ≡ is_some session.now.pass }
+{
+    let source = Pieces::with(alloc, &stream(), &[], &[])?;
+    let mut links = Vec::new(alloc);
+    links.push(link(alloc, &[])?)?;
+    let bond = Bond::duplicate(1);
+    let ran = sent_over(alloc, session, sealer, bond, source, &[0], 0, 1, links)?;
+    let first = ran.links.get(0).ok_or("a link")?;
+    let (channel, octets) = first.taken(0).ok_or("a datagram")?;
+    lengths(alloc, session, channel, octets)
 }
 
 #[test]

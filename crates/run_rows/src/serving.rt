@@ -1,17 +1,17 @@
 //! Workers in threads of their own.
-ghost use Rattle.std.specs.Prelude.{◌<◌, ◌≤◌, length, IfOk, Some};
-ghost use Rattle.outside_net.specs.Scripts.{FitsDatagram};
+ghost use Rattle.std.specs.Prelude.{◌<◌, ◌≤◌, length, Some};
 ghost use Rattle.rist_desk.specs.Desk.{IsNew, state_of};
 
 use crate::desk::{count_of, simple};
+use crate::links::{link, worker};
 use outside_io::{Channel, Failed, Sink, Store8};
-use outside_net::{Full, Got, Kept, Link, Octets, ScriptClock, ScriptLink, ScriptRead, Trace};
+use outside_net::{Full, Got, Kept, Link, ScriptClock, ScriptLink, Trace};
 use receiver_rules::Verdict;
 use rist_desk::{Desk, Ended, Limits, Mark, Name, Step, Worker, serve};
 use rist_ends::{Answer, Outs, Receiver, Settings};
-use rist_wire::Opener;
 use std::alloc::Global;
 use std::marker::Brand;
+use std::process::Abort;
 use std::sync::atomic::{AtomicU64, Ordering};
 use std::sync::{Arc, Mutex, Wait};
 use std::test::Fail;
@@ -74,64 +74,29 @@ impl Link for GateLink {
     }
 }
 
-/// The datagram of a packet of one octet.
-fn packet(alloc: Global, word: u8) -> Result<ScriptRead, Fail>
-    ensures fits { IfOk result FitsDatagram }
-{
-    let at = word.saturating_sub(10);
-    let stamp = (at as u16).saturating_mul(900).to_be_bytes();
-    let octets = [
-        0x80,
-        33,
-        0,
-        word,
-        0,
-        0,
-        stamp[0],
-        stamp[1],
-        0x10,
-        0x20,
-        0x30,
-        0x40,
-        b'A'.saturating_add(at),
-    ];
-    Ok(ScriptRead::Datagram(Channel::Media, Octets::of(alloc, &octets)?))
-}
-
-/// A link that brings the packets of two words.
-fn link(alloc: Global, words: &[u8; 2]) -> Result<ScriptLink, Fail> {
-    let mut reads = Vec::new(alloc);
-    reads.push(packet(alloc, words[0])?)?;
-    reads.push(packet(alloc, words[1])?)?;
-    Ok(ScriptLink::with(alloc, reads, true, 4, &[], &[])?)
-}
-
-/// A worker whose clock stands still.
-fn worker<L: Drop>(alloc: Global, link: L) -> Result<Worker<L, ScriptClock, Kept<Step>>, Fail> {
-    Ok(Worker {
-        link,
-        clock: ScriptClock::with(alloc, &[0])?,
-        opener: Opener::with(alloc, &simple())?,
-        trace: Kept::with(alloc, 8)?,
-        end: None,
-    })
+/// A worker of a link that brings these letters.
+fn plain(
+    alloc: Global,
+    letters: &[u8],
+) -> Result<Worker<ScriptLink, ScriptClock, Kept<Step>>, Fail> {
+    worker(alloc, link(alloc, letters, &[])?, Kept::with(alloc, 8)?)
 }
 
 /// A worker behind a gate.
 fn gated(
     alloc: Global,
-    words: &[u8; 2],
+    letters: &[u8],
     own: &Arc<AtomicU64, Global>,
     other: &Arc<AtomicU64, Global>,
 ) -> Result<Worker<GateLink, ScriptClock, Kept<Step>>, Fail> {
     let gate = GateLink {
-        inner: link(alloc, words)?,
+        inner: link(alloc, letters, &[])?,
         reads: 0,
         own: Arc::try_clone(own)?,
         other: Arc::try_clone(other)?,
         is_shut: false,
     };
-    worker(alloc, gate)
+    worker(alloc, gate, Kept::with(alloc, 8)?)
 }
 
 /// What was answered at the end, and what trace and sink hold.
@@ -140,6 +105,13 @@ struct Run {
     last: Result<Answer, Full>,
     trace: Kept<Step>,
     sink: Store8,
+}
+
+/// Tells the end.
+fn ended<N: Name>(desk: Desk<N, Kept<Step>, Store8>) -> Run {
+    let mut outs = Outs::none();
+    let (last, _receiver, trace, sink) = desk.finish(&mut outs);
+    Run { last, trace, sink }
 }
 
 /// Serves all, and tells the end.
@@ -158,9 +130,7 @@ fn served<N: Name + Send + Sync, L: Link + Drop + Send, R: Threads + Wait + Sync
     let desk: Mutex<Desk<N, Kept<Step>, Store8>> = Mutex::new(Desk::with(receiver, trace, sink));
     let limits = Limits { turns: 9, idle: 0 };
     serve(rt, workers, &desk, &limits);
-    let mut outs = Outs::none();
-    let (last, _receiver, trace, sink) = desk.into_inner().finish(&mut outs);
-    Run { last, trace, sink }
+    ended(desk.into_inner())
 }
 
 /// The same of a new receiver.
@@ -178,13 +148,13 @@ fn served_anew<L: Link + Drop + Send, R: Threads + Wait + Sync>(
     Ok(served::<Brand, L, R>(rt, receiver, trace, sink, workers))
 }
 
-/// Whether all was written in order, one packet came twice, and every step is kept.
-fn is_merged(run: &Run) -> bool {
-    let twice = count_of(run.trace.kept(), Mark::Verdict(Verdict::Twice));
-    run.sink.octets() == b"ABC".as_slice()
-        && run.last == Ok(Answer::Nothing)
-        && run.trace.kept().len() == 7
-        && twice == 1
+/// All was written in order, one packet came twice, and every step is kept.
+fn expect_merged(rt: &impl Abort, run: &Run) {
+    assert!(rt; run.sink.octets() == b"ABC".as_slice());
+    assert!(rt; run.last == Ok(Answer::Nothing));
+    let steps = run.trace.kept();
+    assert!(rt; steps.len() == 7);
+    assert!(rt; count_of(steps, Mark::Verdict(Verdict::Twice)) == 1);
 }
 
 /// Whether it made both packets' steps and a tick, and came to the end of its link.
@@ -198,10 +168,10 @@ fn links_are_read_side_by_side(rt: HostRuntime) -> Result<(), Fail> {
     let one = Arc::new(alloc, AtomicU64::new(0))?;
     let other = Arc::new(alloc, AtomicU64::new(0))?;
     let mut workers = Vec::new(alloc);
-    workers.push(gated(alloc, &[10, 12], &one, &other)?)?;
-    workers.push(gated(alloc, &[11, 12], &other, &one)?)?;
+    workers.push(gated(alloc, b"AC", &one, &other)?)?;
+    workers.push(gated(alloc, b"BC", &other, &one)?)?;
     let run = served_anew(&rt, alloc, &mut workers)?;
-    assert!(rt; is_merged(&run));
+    expect_merged(&rt, &run);
     for worker in &workers {
         assert!(rt; !worker.link.is_shut && is_done(worker));
     }
@@ -212,10 +182,10 @@ fn links_are_read_side_by_side(rt: HostRuntime) -> Result<(), Fail> {
 fn links_in_memory_are_served(rt: HostRuntime) -> Result<(), Fail> {
     let alloc = rt.alloc();
     let mut workers = Vec::new(alloc);
-    workers.push(worker(alloc, link(alloc, &[10, 12])?)?)?;
-    workers.push(worker(alloc, link(alloc, &[11, 12])?)?)?;
+    workers.push(plain(alloc, b"AC")?)?;
+    workers.push(plain(alloc, b"BC")?)?;
     let run = served_anew(&rt, alloc, &mut workers)?;
-    assert!(rt; is_merged(&run));
+    expect_merged(&rt, &run);
     for worker in &workers {
         assert!(rt; worker.link.is_unwritten() && is_done(worker));
     }
