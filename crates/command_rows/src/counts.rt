@@ -1,10 +1,11 @@
 //! A worked capture.
+use crate::parts::{NOTHING, simple_session, sink_of, source_of};
 use capture_file::Reader;
-use outside_io::{Bytes, Store8};
+use capture_walk::WalkBad;
+use outside_io::{Pieces, Store8};
 use rist_count::count;
 use rist_ends::Settings;
-use rist_wire::{Profile, Session};
-use seq_unwrap::Width;
+use std::alloc::Global;
 use std::test::Fail;
 
 /// At time 0: number 10; 11 with the timestamp 2^31, the tie that goes down; 12 with the greatest that goes up; 32,778;
@@ -21,28 +22,20 @@ const CAPTURE: &[u8] = b"RISTCAP1\
 const TEXT: &[u8] =
     b"kept 1\nstranger 1\nexhausted 0\nlate 1\nbehind 0\nearly 1\ntwice 1\nspan 1\nrefused 1\n";
 
-#[test]
+/// What is counted of the capture, with a delay of one second and a span of 8.
 #[tactic(auto, using(capture_walk::proofs::GoingLemmas::new_has_read))]
+fn counted(alloc: Global, source: Pieces, mut sink: Store8) -> (Result<(), WalkBad>, Store8) {
+    let mut reader = Reader::over(source);
+    let settings = Settings::muted(1000, 8, 0, false);
+    let end = count(alloc, &simple_session(), &settings, &mut reader, &mut sink);
+    (end, sink)
+}
+
+#[test]
 fn each_verdict_has_its_line(rt: HostRuntime) -> Result<(), Fail> {
-    let alloc = rt.alloc();
-    let session = Session {
-        profile: Profile::Simple,
-        port: 1968,
-        pass: None,
-        bits: 128,
-        nulls: false,
-        width: Width::W16,
-        full: false,
-    };
-    let mut reader = Reader::over(Bytes::with(alloc, CAPTURE, &[])?);
-    let mut sink = Store8::with(alloc, 512, &[])?;
-    let end = count(
-        alloc,
-        &session,
-        &Settings::muted(1000, 8, 0, false),
-        &mut reader,
-        &mut sink,
-    );
+    let source = source_of(rt.alloc(), CAPTURE, &NOTHING)?;
+    let sink = sink_of(rt.alloc(), &NOTHING)?;
+    let (end, sink) = counted(rt.alloc(), source, sink);
     assert!(rt; end == Ok(()));
     assert!(rt; sink.octets() == TEXT);
     Ok(())

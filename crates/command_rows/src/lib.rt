@@ -10,6 +10,8 @@ mod live_words;
 #[cfg(test)]
 mod packings;
 #[cfg(test)]
+mod parts;
+#[cfg(test)]
 mod replays;
 #[cfg(test)]
 mod words;

@@ -1,10 +1,10 @@
 //! The lines of worked datagrams, and each refusal once.
-ghost use Rattle.std.specs.Prelude.{None};
 ghost use Rattle.rist_wire.specs.Session.{IsSession};
 
+use crate::parts::{NAME, NOTHING, Outside, joined, repeated, simple_session, sink_of, source_of};
 use capture_file::{CapKind, Reader};
 use capture_walk::WalkBad;
-use outside_io::{Bytes, Pieces, Store8};
+use outside_io::{Pieces, Store8};
 use psk_keys::Phrase;
 use rist_show::show;
 use rist_wire::{Profile, Session};
@@ -12,18 +12,12 @@ use seq_unwrap::Width;
 use std::alloc::Global;
 use std::test::Fail;
 
-fn simple_session() -> Session
-    ensures session { IsSession result }
-{
-    Session {
-        profile: Profile::Simple,
-        port: 1968,
-        pass: None,
-        bits: 128,
-        nulls: false,
-        width: Width::W16,
-        full: false,
-    }
+/// The sessions of the datagrams. A keyed one has a passphrase.
+#[derive(Clone, Copy)]
+enum Kind {
+    Simple,
+    Main,
+    Keyed,
 }
 
 fn main_session(pass: Option<Phrase>) -> Session
@@ -40,7 +34,15 @@ fn main_session(pass: Option<Phrase>) -> Session
     }
 }
 
-const NAME: &[u8] = b"RISTCAP1";
+fn session_of(kind: Kind) -> Session
+    ensures session { IsSession result }
+{
+    match kind {
+        Kind::Simple => simple_session(),
+        Kind::Main => main_session(None),
+        Kind::Keyed => main_session(Some(Phrase::of(b"secret"))),
+    }
+}
 
 const A: &[u8] =
     b"\x00\x00\x00\x0D\x00\x00\x00\x00\x00\x00\x00\x00\x80\x21\x00\x0A\x00\x00\x00\x00\x10\x20\x30\x40A";
@@ -60,312 +62,374 @@ const LINE_B: &str =
 const LINE_C: &str =
     "{\"again\":true,\"at\":20000,\"channel\":\"media\",\"flow\":\"10203040\",\"item\":\"media\",\"length\":1,\"link\":3,\"number\":12,\"stamp\":1800,\"width\":16}\n";
 
-fn joined(alloc: Global, parts: &[&[u8]]) -> Result<Vec<u8>, Fail> {
-    let mut octets = Vec::new(alloc);
-    for part in parts {
-        octets.extend_from_slice(part)?;
-    }
-    Ok(octets)
+/// What is written of a capture, and how that ends.
+#[tactic(auto, using(capture_walk::proofs::GoingLemmas::new_has_read))]
+fn written(
+    alloc: Global,
+    kind: Kind,
+    source: Pieces,
+    mut sink: Store8,
+) -> (Result<(), WalkBad>, Store8) {
+    let mut reader = Reader::over(source);
+    let end = show(alloc, &session_of(kind), &mut reader, &mut sink);
+    (end, sink)
 }
 
-// What is written of a capture of one datagram on link 0 at time 0, and how that ends.
-#[tactic(auto, using(capture_walk::proofs::GoingLemmas::new_has_read))]
-fn shown(
+/// Whether the showing of a capture ends so, and leaves this text.
+fn leaves(
     alloc: Global,
-    session: &Session,
+    kind: Kind,
+    octets: &[u8],
+    outside: &Outside<'_>,
+    want: Result<(), WalkBad>,
+    text: &[u8],
+) -> Result<bool, Fail> {
+    let source = source_of(alloc, octets, outside)?;
+    let (end, sink) = written(alloc, kind, source, sink_of(alloc, outside)?);
+    Ok(end == want && sink.octets() == text)
+}
+
+/// Whether this is the text of a capture of one datagram, on link 0 at time 0.
+fn shows(
+    alloc: Global,
+    kind: Kind,
     channel: u8,
     datagram: &[u8],
-) -> Result<(Vec<u8>, Result<(), WalkBad>), Fail>
-    requires session { IsSession session.now }
-{
+    text: &[u8],
+) -> Result<bool, Fail> {
     let high = (datagram.len() / 256 % 256) as u8;
     let low = (datagram.len() % 256) as u8;
     let head = [0, channel, high, low, 0, 0, 0, 0, 0, 0, 0, 0];
     let octets = joined(alloc, &[NAME, head.as_slice(), datagram])?;
-    let mut reader = Reader::over(Bytes::with(alloc, octets.as_slice(), &[])?);
-    let mut sink = Store8::with(alloc, 8192, &[])?;
-    let end = show(alloc, session, &mut reader, &mut sink);
-    Ok((Vec::from_slice(alloc, sink.octets())?, end))
+    leaves(alloc, kind, octets.as_slice(), &NOTHING, Ok(()), text)
 }
 
-// What is written of a capture that is cut at these places, where these reads fail and the sink has this room.
-#[tactic(auto, using(capture_walk::proofs::GoingLemmas::new_has_read))]
-fn written(
-    alloc: Global,
-    octets: &[u8],
-    cuts: &[usize],
-    failing: &[u64],
-    room: usize,
-) -> Result<(Vec<u8>, Result<(), WalkBad>), Fail> {
-    let mut reader = Reader::over(Pieces::with(alloc, octets, cuts, failing)?);
-    let mut sink = Store8::with(alloc, room, &[])?;
-    let end = show(alloc, &simple_session(), &mut reader, &mut sink);
-    Ok((Vec::from_slice(alloc, sink.octets())?, end))
+/// Whether the three records are shown as their lines.
+fn shows_all(alloc: Global, outside: &Outside<'_>) -> Result<bool, Fail> {
+    let octets = joined(alloc, &[NAME, A, B, C])?;
+    let lines = [LINE_A.as_bytes(), LINE_B.as_bytes(), LINE_C.as_bytes()];
+    let text = joined(alloc, &lines)?;
+    leaves(
+        alloc,
+        Kind::Simple,
+        octets.as_slice(),
+        outside,
+        Ok(()),
+        text.as_slice(),
+    )
 }
 
 #[test]
-#[tactic(auto, using(capture_walk::proofs::GoingLemmas::new_has_read))]
 fn each_record_is_a_line_however_the_capture_is_cut(rt: HostRuntime) -> Result<(), Fail> {
-    let alloc = rt.alloc();
-    let octets = joined(alloc, &[NAME, A, B, C])?;
-    let lines = joined(
-        alloc,
-        &[LINE_A.as_bytes(), LINE_B.as_bytes(), LINE_C.as_bytes()],
-    )?;
     for cut in 1..83 {
-        let (text, end) = written(alloc, octets.as_slice(), &[cut], &[], 1024)?;
-        assert!(rt; end == Ok(()));
-        assert!(rt; text.as_slice() == lines.as_slice(), "cut at {cut}");
+        let outside = Outside {
+            cuts: &[cut],
+            ..NOTHING
+        };
+        assert!(rt; shows_all(rt.alloc(), &outside)?, "cut at {cut}");
     }
-    // Each line is one put, and the end is none: no fourth put is made, which would fail.
-    let mut reader = Reader::over(Bytes::with(alloc, octets.as_slice(), &[])?);
-    let mut sink = Store8::with(alloc, 1024, &[3])?;
-    let end = show(alloc, &simple_session(), &mut reader, &mut sink);
-    assert!(rt; end == Ok(()));
-    assert!(rt; sink.octets() == lines.as_slice());
     Ok(())
 }
 
 #[test]
-#[tactic(auto, using(capture_walk::proofs::GoingLemmas::new_has_read))]
-fn a_fault_comes_after_the_lines_before_it(rt: HostRuntime) -> Result<(), Fail> {
-    let alloc = rt.alloc();
+fn each_line_is_one_put_and_the_end_is_none(rt: HostRuntime) -> Result<(), Fail> {
+    // No fourth put is made, which would fail.
+    let outside = Outside {
+        puts: &[3],
+        ..NOTHING
+    };
+    assert!(rt; shows_all(rt.alloc(), &outside)?);
+    Ok(())
+}
+
+/// What fails, how the showing of two records and three octets ends then, and how many octets of their lines are left.
+static FAULTS: [(Outside<'static>, Result<(), WalkBad>, usize); 4] = [
+    (
+        NOTHING,
+        Err(WalkBad::BadCapture(CapKind::Truncated, 58)),
+        260,
+    ),
+    // The sink has no room for the end of the second line.
+    (
+        Outside {
+            room: 200,
+            ..NOTHING
+        },
+        Err(WalkBad::WriteFault),
+        200,
+    ),
+    // The first write fails.
+    (
+        Outside {
+            puts: &[0],
+            ..NOTHING
+        },
+        Err(WalkBad::WriteFault),
+        0,
+    ),
+    // The second read fails, after the first record.
+    (
+        Outside {
+            cuts: &[33],
+            reads: &[1],
+            ..NOTHING
+        },
+        Err(WalkBad::ReadFault),
+        127,
+    ),
+];
+
+fn breaks_off(
+    alloc: Global,
+    outside: &Outside<'_>,
+    want: Result<(), WalkBad>,
+    count: usize,
+) -> Result<bool, Fail> {
     let octets = joined(alloc, &[NAME, A, B, b"\x00\x00\x00"])?;
     let lines = joined(alloc, &[LINE_A.as_bytes(), LINE_B.as_bytes()])?;
-    let (text, end) = written(alloc, octets.as_slice(), &[], &[], 1024)?;
-    assert!(rt; end == Err(WalkBad::BadCapture(CapKind::Truncated, 58)));
-    assert!(rt; text.as_slice() == lines.as_slice());
-    // The sink has no room for the end of the second line.
-    let (text, end) = written(alloc, octets.as_slice(), &[], &[], 200)?;
-    assert!(rt; end == Err(WalkBad::WriteFault));
-    assert!(rt; text.as_slice() == lines.get(..200).ok_or("200")?);
-    // The first write fails.
-    let mut reader = Reader::over(Bytes::with(alloc, octets.as_slice(), &[])?);
-    let mut sink = Store8::with(alloc, 1024, &[0])?;
-    let end = show(alloc, &simple_session(), &mut reader, &mut sink);
-    assert!(rt; end == Err(WalkBad::WriteFault));
-    assert!(rt; sink.octets().is_empty());
-    // The second read fails, after the first record.
-    let (text, end) = written(alloc, octets.as_slice(), &[33], &[1], 1024)?;
-    assert!(rt; end == Err(WalkBad::ReadFault));
-    assert!(rt; text.as_slice() == LINE_A.as_bytes());
+    let text = lines.get(..count).ok_or("count")?;
+    leaves(alloc, Kind::Simple, octets.as_slice(), outside, want, text)
+}
+
+#[test]
+fn a_fault_comes_after_the_lines_before_it(rt: HostRuntime) -> Result<(), Fail> {
+    for (outside, want, count) in &FAULTS {
+        assert!(rt; breaks_off(rt.alloc(), outside, *want, *count)?);
+    }
     Ok(())
 }
 
-// A block that begins with these octets.
-fn block_with(front: &[u8; 20]) -> [u8; 2048] {
-    let mut block = [0xab; 2048];
-    block[..20].copy_from_slice(front);
-    block
-}
-
-// Whether the line of a compound has as many asks as a record of 2,048 octets holds.
+/// Whether the line of a compound has as many asks as a record of 2,048 octets holds.
 fn shows_503_asks(alloc: Global) -> Result<bool, Fail> {
-    let mut datagram = joined(
+    let lost = repeated(alloc, b"\xFF\xFF\x00\x01", 503)?;
+    let datagram = joined(
         alloc,
         &[
             b"\x80\xC9\x00\x01\x00\x00\x00\x07\x81\xCA\x00\x03\x00\x00\x00\x07\x01\x04rist\x00\x00",
             b"\x80\xCC\x01\xF9\x10\x20\x30\x40RIST",
+            lost.as_slice(),
         ],
     )?;
-    let mut asks = Vec::new(alloc);
-    for place in 0..503 {
-        datagram.extend_from_slice(b"\xFF\xFF\x00\x01")?;
-        if place > 0 {
-            asks.push(b',')?;
-        }
-        asks.extend_from_slice(b"[65535,1]")?;
-    }
-    let want = joined(
+    let asks = repeated(alloc, b"[65535,1],", 502)?;
+    let line = joined(
         alloc,
         &[
             b"{\"asks\":[",
             asks.as_slice(),
-            b"],\"at\":0,\"channel\":\"control\",\"item\":\"control\",\"link\":0,\"packets\":[201,202,204]}\n",
+            b"[65535,1]],\"at\":0,\"channel\":\"control\",\"item\":\"control\",\"link\":0,\"packets\":[201,202,204]}\n",
         ],
     )?;
-    let (line, end) = shown(alloc, &simple_session(), 1, datagram.as_slice())?;
-    Ok(datagram.len() == 2048 && end == Ok(()) && line.as_slice() == want.as_slice())
+    let is_shown = shows(alloc, Kind::Simple, 1, datagram.as_slice(), line.as_slice())?;
+    Ok(datagram.len() == 2048 && is_shown)
 }
+
+/// What follows the first octets of a long datagram.
+static REST: [u8; 1493] = [0xab; 1493];
+
+/// Whether the line of a datagram without null packets 0, 3 and 6 of seven has their octets too. Numbers have 32 bits.
+fn shows_restored_length(alloc: Global) -> Result<bool, Fail> {
+    let datagram = joined(
+        alloc,
+        &[
+            b"\x90\x21\x00\x0a\x00\x00\x00\x00\xA0\x2B\x3C\x4D\x52\x49\x00\x01\xF8\x49\x00\x02",
+            &REST[..752],
+        ],
+    )?;
+    shows(
+        alloc,
+        Kind::Simple,
+        0,
+        datagram.as_slice(),
+        b"{\"again\":true,\"at\":0,\"channel\":\"media\",\"flow\":\"a02b3c4c\",\"item\":\"media\",\"length\":1316,\"link\":0,\"number\":131082,\"stamp\":0,\"width\":32}\n",
+    )
+}
+
+/// A compound that asks for 65,535 and one more, and a keep-alive message, each with its channel and its line.
+static ITEMS: [(Kind, u8, &[u8], &str); 2] = [
+    (
+        Kind::Simple,
+        1,
+        b"\x80\xC9\x00\x01\x00\x00\x00\x07\x81\xCA\x00\x03\x00\x00\x00\x07\x01\x04rist\x00\x00\x80\xCC\x00\x03\x10\x20\x30\x40RIST\xFF\xFF\x00\x01",
+        "{\"asks\":[[65535,1]],\"at\":0,\"channel\":\"control\",\"item\":\"control\",\"link\":0,\"packets\":[201,202,204]}\n",
+    ),
+    (
+        Kind::Main,
+        2,
+        b"\x00\x00\x88\xb5\x02\x00\x10\x20\x30\x40\x00\x00",
+        "{\"at\":0,\"capabilities\":0,\"channel\":\"tunnel\",\"item\":\"keepalive\",\"link\":0,\"mac\":\"020010203040\",\"text\":0}\n",
+    ),
+];
 
 #[test]
 fn an_item_is_told_by_its_fields(rt: HostRuntime) -> Result<(), Fail> {
-    let alloc = rt.alloc();
-    let simple = simple_session();
-    // A compound that asks for 65,535 and one more.
-    let (line, end) = shown(
-        alloc,
-        &simple,
-        1,
-        b"\x80\xC9\x00\x01\x00\x00\x00\x07\x81\xCA\x00\x03\x00\x00\x00\x07\x01\x04rist\x00\x00\x80\xCC\x00\x03\x10\x20\x30\x40RIST\xFF\xFF\x00\x01",
-    )?;
-    assert!(rt; end == Ok(()));
-    assert!(rt;
-        line.as_slice()
-            == b"{\"asks\":[[65535,1]],\"at\":0,\"channel\":\"control\",\"item\":\"control\",\"link\":0,\"packets\":[201,202,204]}\n".as_slice()
-    );
-    assert!(rt; shows_503_asks(alloc)?);
-    // Null packets 0, 3 and 6 of seven were deleted; numbers have 32 bits.
-    let stripped = block_with(
-        b"\x90\x21\x00\x0a\x00\x00\x00\x00\xA0\x2B\x3C\x4D\x52\x49\x00\x01\xF8\x49\x00\x02",
-    );
-    let (line, end) = shown(alloc, &simple, 0, stripped.get(..772).ok_or("772")?)?;
-    assert!(rt; end == Ok(()));
-    assert!(rt;
-        line.as_slice()
-            == b"{\"again\":true,\"at\":0,\"channel\":\"media\",\"flow\":\"a02b3c4c\",\"item\":\"media\",\"length\":1316,\"link\":0,\"number\":131082,\"stamp\":0,\"width\":32}\n".as_slice()
-    );
-    let (line, end) = shown(
-        alloc,
-        &main_session(None),
-        2,
-        b"\x00\x00\x88\xb5\x02\x00\x10\x20\x30\x40\x00\x00",
-    )?;
-    assert!(rt; end == Ok(()));
-    assert!(rt;
-        line.as_slice()
-            == b"{\"at\":0,\"capabilities\":0,\"channel\":\"tunnel\",\"item\":\"keepalive\",\"link\":0,\"mac\":\"020010203040\",\"text\":0}\n".as_slice()
-    );
+    for (kind, channel, datagram, line) in &ITEMS {
+        assert!(rt; shows(rt.alloc(), *kind, *channel, datagram, line.as_bytes())?);
+    }
+    assert!(rt; shows_503_asks(rt.alloc())?);
+    assert!(rt; shows_restored_length(rt.alloc())?);
     Ok(())
 }
 
-// The first row whose datagram isn't refused for this reason at this place.
-fn first_wrong<'r>(
+/// Whether a datagram is refused for this reason at this place.
+fn is_refused(
     alloc: Global,
-    session: &Session,
+    kind: Kind,
     channel: u8,
-    name: &str,
-    rows: &[(&[u8], usize, &'r str)],
-) -> Result<Option<&'r str>, Fail>
-    requires session { IsSession session.now }
-{
+    datagram: &[u8],
+    place: usize,
+    why: &str,
+) -> Result<bool, Fail> {
+    let name = match channel {
+        0 => "media",
+        1 => "control",
+        _ => "tunnel",
+    };
+    let line = format!(in alloc;
+        "{{\"at\":0,\"channel\":\"{name}\",\"item\":\"refused\",\"link\":0,\"place\":{place},\"why\":\"{why}\"}}\n"
+    )?;
+    shows(alloc, kind, channel, datagram, line.as_bytes())
+}
+
+/// The first row whose datagram isn't refused for its reason at its place.
+fn first_wrong(
+    alloc: Global,
+    kind: Kind,
+    channel: u8,
+    rows: &[(&[u8], usize, &'static str)],
+) -> Result<Option<&'static str>, Fail> {
     for (datagram, place, why) in rows {
-        let (line, end) = shown(alloc, session, channel, datagram)?;
-        let want = format!(in alloc;
-            "{{\"at\":0,\"channel\":\"{name}\",\"item\":\"refused\",\"link\":0,\"place\":{place},\"why\":\"{why}\"}}\n"
-        )?;
-        if end != Ok(()) || line.as_slice() != want.as_bytes() {
+        if !is_refused(alloc, kind, channel, datagram, *place, why)? {
             return Ok(Some(*why));
         }
     }
     Ok(None)
 }
 
+/// Datagrams of media, each with the place and the reason of its refusal.
+static MEDIA: [(&[u8], usize, &str); 7] = [
+    (b"\x80", 0, "rtp short"),
+    (
+        b"\x40\x21\x00\x0a\x00\x00\x00\x00\x10\x20\x30\x40",
+        0,
+        "rtp version",
+    ),
+    (
+        b"\x81\x21\x00\x0a\x00\x00\x00\x00\x10\x20\x30\x40",
+        0,
+        "rtp sources",
+    ),
+    (
+        b"\x90\x21\x00\x0a\x00\x00\x00\x00\x10\x20\x30\x40",
+        0,
+        "rtp extension",
+    ),
+    (
+        b"\xa0\x21\x00\x0a\x00\x00\x00\x00\x10\x20\x30\x40\x00",
+        0,
+        "rtp padding",
+    ),
+    (
+        b"\x90\x21\x00\x0a\x00\x00\x00\x00\x10\x20\x30\x40\x52\x49\x00\x01\x80\x00\x00\x00",
+        0,
+        "extension size",
+    ),
+    (
+        b"\x90\x21\x00\x0a\x00\x00\x00\x00\x10\x20\x30\x40\x52\x49\x00\x01\x88\x00\x00\x00\x00",
+        0,
+        "nulls shape",
+    ),
+];
+
+/// Whether a payload of 1,501 octets is refused.
+fn is_long_refused(alloc: Global) -> Result<bool, Fail> {
+    let head = b"\x80\x21\x00\x0a\x00\x00\x00\x00\x10\x20\x30\x40\x00\x00\x00\x00\x00\x00\x00\x00";
+    let long = joined(alloc, &[head, &REST])?;
+    is_refused(alloc, Kind::Simple, 0, long.as_slice(), 0, "rtp long")
+}
+
 #[test]
 fn a_refusal_of_media_has_its_reason(rt: HostRuntime) -> Result<(), Fail> {
-    let alloc = rt.alloc();
-    let session = simple_session();
-    // A payload of 1,501 octets.
-    let long = block_with(
-        b"\x80\x21\x00\x0a\x00\x00\x00\x00\x10\x20\x30\x40\x00\x00\x00\x00\x00\x00\x00\x00",
-    );
-    let long_rows: [(&[u8], usize, &str); 1] = [(long.get(..1513).ok_or("1513")?, 0, "rtp long")];
-    assert!(rt; first_wrong(alloc, &session, 0, "media", &long_rows)? == None);
-    let media: [(&[u8], usize, &str); 7] = [
-        (b"\x80", 0, "rtp short"),
-        (
-            b"\x40\x21\x00\x0a\x00\x00\x00\x00\x10\x20\x30\x40",
-            0,
-            "rtp version",
-        ),
-        (
-            b"\x81\x21\x00\x0a\x00\x00\x00\x00\x10\x20\x30\x40",
-            0,
-            "rtp sources",
-        ),
-        (
-            b"\x90\x21\x00\x0a\x00\x00\x00\x00\x10\x20\x30\x40",
-            0,
-            "rtp extension",
-        ),
-        (
-            b"\xa0\x21\x00\x0a\x00\x00\x00\x00\x10\x20\x30\x40\x00",
-            0,
-            "rtp padding",
-        ),
-        (
-            b"\x90\x21\x00\x0a\x00\x00\x00\x00\x10\x20\x30\x40\x52\x49\x00\x01\x80\x00\x00\x00",
-            0,
-            "extension size",
-        ),
-        (
-            b"\x90\x21\x00\x0a\x00\x00\x00\x00\x10\x20\x30\x40\x52\x49\x00\x01\x88\x00\x00\x00\x00",
-            0,
-            "nulls shape",
-        ),
-    ];
-    assert!(rt; first_wrong(alloc, &session, 0, "media", &media)? == None);
+    assert!(rt; is_long_refused(rt.alloc())?);
+    assert!(rt; first_wrong(rt.alloc(), Kind::Simple, 0, &MEDIA)? == None);
     Ok(())
 }
+
+/// The same of control.
+static CONTROL: [(&[u8], usize, &str); 8] = [
+    (b"", 0, "rtcp short"),
+    (b"\x40\xc9\x00\x01\x00\x00\x00\x07", 0, "rtcp version"),
+    (b"\x80\xbf\x00\x01\x00\x00\x00\x07", 0, "rtcp kind"),
+    (b"\x80\xca\x00\x00", 0, "rtcp first"),
+    (b"\x80\xc9\x00\x02\x00\x00\x00\x07", 0, "rtcp length"),
+    (
+        b"\x80\xc9\x00\x01\x00\x00\x00\x07\x80\xcb\x00\x01",
+        8,
+        "rtcp length",
+    ),
+    (
+        b"\xa0\xc9\x00\x01\x00\x00\x00\x07\x80\xcb\x00\x00",
+        0,
+        "rtcp padding",
+    ),
+    (b"\x81\xc9\x00\x01\x00\x00\x00\x07", 0, "rtcp body"),
+];
 
 #[test]
 fn a_refusal_of_control_has_its_place_and_reason(rt: HostRuntime) -> Result<(), Fail> {
-    let alloc = rt.alloc();
-    let session = simple_session();
-    let control: [(&[u8], usize, &str); 8] = [
-        (b"", 0, "rtcp short"),
-        (b"\x40\xc9\x00\x01\x00\x00\x00\x07", 0, "rtcp version"),
-        (b"\x80\xbf\x00\x01\x00\x00\x00\x07", 0, "rtcp kind"),
-        (b"\x80\xca\x00\x00", 0, "rtcp first"),
-        (b"\x80\xc9\x00\x02\x00\x00\x00\x07", 0, "rtcp length"),
-        (
-            b"\x80\xc9\x00\x01\x00\x00\x00\x07\x80\xcb\x00\x01",
-            8,
-            "rtcp length",
-        ),
-        (
-            b"\xa0\xc9\x00\x01\x00\x00\x00\x07\x80\xcb\x00\x00",
-            0,
-            "rtcp padding",
-        ),
-        (b"\x81\xc9\x00\x01\x00\x00\x00\x07", 0, "rtcp body"),
-    ];
-    assert!(rt; first_wrong(alloc, &session, 1, "control", &control)? == None);
-    let tunnel: [(&[u8], usize, &str); 1] = [(b"", 0, "wire channel")];
-    assert!(rt; first_wrong(alloc, &session, 2, "tunnel", &tunnel)? == None);
+    assert!(rt; first_wrong(rt.alloc(), Kind::Simple, 1, &CONTROL)? == None);
     Ok(())
 }
+
+/// The same of the tunnel.
+static TUNNEL: [(&[u8], usize, &str); 11] = [
+    (b"\x00\x00", 0, "gre short"),
+    (b"\x00\x01\x88\xb6", 0, "gre version"),
+    (b"\x80\x00\x88\xb6", 0, "gre checksum"),
+    (b"\x40\x00\x88\xb6", 0, "gre reserved"),
+    (
+        b"\x20\x00\x88\xb6\x00\x00\x00\x00",
+        0,
+        "gre key without sequence",
+    ),
+    (b"\x00\x00\x88\xb7", 0, "gre protocol"),
+    (
+        b"\x30\x00\x88\xb6\x00\x00\x00\x01\x00\x00\x00\x00\x51\x74\xfc\xec",
+        0,
+        "wire sealed",
+    ),
+    (b"\x00\x00\x88\xb5\x02\x00\x10", 0, "keepalive short"),
+    (b"\x00\x00\x88\xb6\x07\xb0", 0, "wire stub"),
+    (b"\x00\x00\x88\xb6\x07\xb0\x07\xb2", 0, "wire port"),
+    (
+        b"\x00\x00\x88\xb6\x07\xb1\x07\xb1\x80\xc9\x00\x01\x00\x00\x00\x07\x80\xcb\x00\x01",
+        8,
+        "rtcp length",
+    ),
+];
+
+/// A datagram that isn't enciphered.
+static CLEAR: [(&[u8], usize, &str); 1] = [(
+    b"\x00\x00\x88\xb6\x07\xb0\x07\xb0\x80\x21\x00\x00\x00\x00\x00\x00\x10\x20\x30\x40\x41",
+    0,
+    "wire clear",
+)];
+
+/// A datagram of the tunnel where there is none.
+static NO_TUNNEL: [(&[u8], usize, &str); 1] = [(b"", 0, "wire channel")];
 
 #[test]
 fn a_refusal_of_the_tunnel_has_its_place_and_reason(rt: HostRuntime) -> Result<(), Fail> {
-    let alloc = rt.alloc();
-    let rows: [(&[u8], usize, &str); 11] = [
-        (b"\x00\x00", 0, "gre short"),
-        (b"\x00\x01\x88\xb6", 0, "gre version"),
-        (b"\x80\x00\x88\xb6", 0, "gre checksum"),
-        (b"\x40\x00\x88\xb6", 0, "gre reserved"),
-        (
-            b"\x20\x00\x88\xb6\x00\x00\x00\x00",
-            0,
-            "gre key without sequence",
-        ),
-        (b"\x00\x00\x88\xb7", 0, "gre protocol"),
-        (
-            b"\x30\x00\x88\xb6\x00\x00\x00\x01\x00\x00\x00\x00\x51\x74\xfc\xec",
-            0,
-            "wire sealed",
-        ),
-        (b"\x00\x00\x88\xb5\x02\x00\x10", 0, "keepalive short"),
-        (b"\x00\x00\x88\xb6\x07\xb0", 0, "wire stub"),
-        (b"\x00\x00\x88\xb6\x07\xb0\x07\xb2", 0, "wire port"),
-        (
-            b"\x00\x00\x88\xb6\x07\xb1\x07\xb1\x80\xc9\x00\x01\x00\x00\x00\x07\x80\xcb\x00\x01",
-            8,
-            "rtcp length",
-        ),
-    ];
-    assert!(rt; first_wrong(alloc, &main_session(None), 2, "tunnel", &rows)? == None);
-    let keyed = main_session(Some(Phrase::of(b"secret")));
-    let clear: [(&[u8], usize, &str); 1] = [(
-        b"\x00\x00\x88\xb6\x07\xb0\x07\xb0\x80\x21\x00\x00\x00\x00\x00\x00\x10\x20\x30\x40\x41",
-        0,
-        "wire clear",
-    )];
-    assert!(rt; first_wrong(alloc, &keyed, 2, "tunnel", &clear)? == None);
+    for (kind, rows) in [
+        (Kind::Main, TUNNEL.as_slice()),
+        (Kind::Keyed, CLEAR.as_slice()),
+        (Kind::Simple, NO_TUNNEL.as_slice()),
+    ] {
+        assert!(rt; first_wrong(rt.alloc(), kind, 2, rows)? == None);
+    }
     Ok(())
 }
 
-// A full datagram of media with each test of IPv4 and UDP failing first.
+/// A full datagram of media with each test of IPv4 and UDP failing first.
 static FULL: [(&[u8], usize, &str); 10] = [
     (
         b"\x00\x00\x08\x00\x45\x00\x00\x29\x00\x00\x40\x00\x40\x11\x26\xc2\x0a\x00\x00\x01\x0a\x00\x00",
@@ -421,7 +485,6 @@ static FULL: [(&[u8], usize, &str); 10] = [
 
 #[test]
 fn a_refusal_of_a_full_datagram_has_its_reason(rt: HostRuntime) -> Result<(), Fail> {
-    let alloc = rt.alloc();
-    assert!(rt; first_wrong(alloc, &main_session(None), 2, "tunnel", &FULL)? == None);
+    assert!(rt; first_wrong(rt.alloc(), Kind::Main, 2, &FULL)? == None);
     Ok(())
 }

@@ -1,10 +1,9 @@
 //! Command lines of a receiving and of a gateway that are taken and refused.
-use crate::words::{PLAIN, STREAM, reads};
+use crate::words::{PLAIN, STREAM, none_of, reads, specs, weights};
 use outside_io::Profile;
-use outside_net::LinkSpec;
 use request_rules::NackKind;
 use rist_words::{
-    GateLine, Line, ReceiverWords, RecvLine, Refused, ServingWords, SessionWords, StreamWords,
+    GateLine, Line, ReceiverWords, RecvLine, ServingWords, SessionWords, StreamWords,
 };
 use std::alloc::Global;
 use std::test::Fail;
@@ -66,18 +65,6 @@ const HIGH: (ReceiverWords, ServingWords) = (
         keep: 65_536,
     },
 );
-
-/// Links of this machine, by their ports.
-fn specs(alloc: Global, ports: &[u16]) -> Result<Vec<LinkSpec>, Fail> {
-    let mut links = Vec::new(alloc);
-    for port in ports {
-        links.push(LinkSpec {
-            address: [127, 0, 0, 1],
-            port: *port,
-        })?;
-    }
-    Ok(links)
-}
 
 /// Lines of a receiving in the Simple Profile with what they set.
 static RECEIVED: [(&str, (ReceiverWords, ServingWords)); 3] = [
@@ -163,85 +150,119 @@ static NOT_GATES: [&str; 24] = [
     "rist gate 1.1.1.1:2 1.1.1.1:2 1.1.1.1:2 1.1.1.1:2 1.1.1.1:2 1.1.1.1:2 1.1.1.1:2 1.1.1.1:2 1.1.1.1:2 1.1.1.1:2 1.1.1.1:2 1.1.1.1:2 1.1.1.1:2 1.1.1.1:2 1.1.1.1:2 1.1.1.1:2 1.1.1.1:2",
 ];
 
+fn is_received(
+    alloc: Global,
+    text: &str,
+    receiver: ReceiverWords,
+    serving: ServingWords,
+) -> Result<bool, Fail> {
+    let line = RecvLine {
+        out: "-",
+        links: specs(alloc, &[2, 65_534])?,
+        session: PLAIN,
+        receiver,
+        serving,
+    };
+    reads(alloc, text, Ok(Line::Recv(line)))
+}
+
 fn all_received(alloc: Global) -> Result<bool, Fail> {
-    for (text, (receiver, serving)) in RECEIVED {
-        let line = RecvLine {
-            out: "-",
-            links: specs(alloc, &[2, 65_534])?,
-            session: PLAIN,
-            receiver,
-            serving,
-        };
-        if !reads(alloc, text, Ok(Line::Recv(line)))? {
+    for (text, (receiver, serving)) in &RECEIVED {
+        if !is_received(alloc, text, *receiver, *serving)? {
             return Ok(false);
         }
     }
     Ok(true)
 }
 
-fn none_of(alloc: Global, texts: &[&str]) -> Result<bool, Fail> {
-    for text in texts {
-        if !reads(alloc, text, Err(Refused::Usage))? {
-            return Ok(false);
-        }
-    }
-    Ok(true)
+/// What a line of a gateway sets beside its links and their weights.
+#[derive(Clone, Copy)]
+struct GateWords {
+    session: SessionWords<'static>,
+    stream: StreamWords,
+    store: u64,
+    hold: u64,
 }
 
-/// A gateway between links of these ports, with the options' defaults.
-fn gate_line(alloc: Global, inputs: &[u16], outputs: &[u16]) -> Result<GateLine<'static>, Fail> {
-    Ok(GateLine {
+const UNSET: GateWords = GateWords {
+    session: PLAIN,
+    stream: STREAM,
+    store: 4096,
+    hold: 20,
+};
+
+const SET: GateWords = GateWords {
+    session: SessionWords {
+        profile: Profile::Main,
+        pass: Some("x"),
+        full: true,
+        ..PLAIN
+    },
+    stream: StreamWords {
+        nulls: true,
+        wide: true,
+        flow: 4_294_967_294,
+        first: 65_536,
+    },
+    store: 1,
+    hold: 1,
+};
+
+/// Lines of a gateway with the ports of their inputs and outputs, the weights and what else they set.
+static GATES: [(&str, &[u16], &[u16], Option<&[u8]>, GateWords); 3] = [
+    (
+        "rist gate 127.0.0.1:2 127.0.0.1:4 127.0.0.1:6",
+        &[2],
+        &[4, 6],
+        None,
+        UNSET,
+    ),
+    (
+        "rist gate --share=100:1 127.0.0.1:2 127.0.0.1:4 127.0.0.1:6 --in=1",
+        &[2],
+        &[4, 6],
+        Some(&[100, 1]),
+        UNSET,
+    ),
+    (
+        "rist gate 127.0.0.1:2 127.0.0.1:4 127.0.0.1:65535 --in 2 --share 7 --profile main --pass x --nulls --wide --full \
+         --flow 4294967294 --first 65536 --store 1 --hold 1",
+        &[2, 4],
+        &[65_535],
+        Some(&[7]),
+        SET,
+    ),
+];
+
+fn is_gate(
+    alloc: Global,
+    text: &str,
+    inputs: &[u16],
+    outputs: &[u16],
+    share: Option<&[u8]>,
+    words: GateWords,
+) -> Result<bool, Fail> {
+    let line = GateLine {
         inputs: specs(alloc, inputs)?,
         outputs: specs(alloc, outputs)?,
-        session: PLAIN,
+        session: words.session,
         receiver: RECEIVER,
         serving: SERVING,
-        stream: STREAM,
-        store: 4096,
-        hold: 20,
-        share: None,
-    })
+        stream: words.stream,
+        store: words.store,
+        hold: words.hold,
+        share: weights(alloc, share)?,
+    };
+    reads(alloc, text, Ok(Line::Gate(line)))
 }
 
 fn all_gates(alloc: Global) -> Result<bool, Fail> {
-    let plain = gate_line(alloc, &[2], &[4, 6])?;
-    let shared = GateLine {
-        share: Some(Vec::from_slice(alloc, &[100, 1])?),
-        ..gate_line(alloc, &[2], &[4, 6])?
-    };
-    let full = GateLine {
-        session: SessionWords {
-            profile: Profile::Main,
-            pass: Some("x"),
-            full: true,
-            ..PLAIN
-        },
-        receiver: RECEIVER,
-        stream: StreamWords {
-            nulls: true,
-            wide: true,
-            flow: 4_294_967_294,
-            first: 65_536,
-        },
-        store: 1,
-        hold: 1,
-        share: Some(Vec::from_slice(alloc, &[7])?),
-        ..gate_line(alloc, &[2, 4], &[65_535])?
-    };
-    let text =
-        "rist gate 127.0.0.1:2 127.0.0.1:4 127.0.0.1:65535 --in 2 --share 7 --profile main --pass x --nulls --wide --full \
-                --flow 4294967294 --first 65536 --store 1 --hold 1";
-    Ok(
-        reads(
-            alloc,
-            "rist gate 127.0.0.1:2 127.0.0.1:4 127.0.0.1:6",
-            Ok(Line::Gate(plain)),
-        )? && reads(
-            alloc,
-            "rist gate --share=100:1 127.0.0.1:2 127.0.0.1:4 127.0.0.1:6 --in=1",
-            Ok(Line::Gate(shared)),
-        )? && reads(alloc, text, Ok(Line::Gate(full)))?,
-    )
+    for (text, inputs, outputs, share, words) in &GATES {
+        if !is_gate(alloc, text, inputs, outputs, *share, *words)? {
+            return Ok(false);
+        }
+    }
+    Ok(true)
 }
 
 #[test]

@@ -23,21 +23,26 @@ pub const STREAM: StreamWords = StreamWords {
     first: 0,
 };
 
+/// The words between blanks.
+fn words_of(alloc: Global, text: &str) -> Result<Vec<String>, Fail> {
+    let mut words = Vec::new(alloc);
+    for word in text.split(' ') {
+        words.push(String::from_str(alloc, word)?)?;
+    }
+    Ok(words)
+}
+
 /// Whether the words between blanks are this line, or are refused.
 pub fn reads(
     alloc: Global,
     text: &str,
     line_or_refused: Result<Line<'_>, Refused>,
 ) -> Result<bool, Fail> {
-    let mut words = Vec::new(alloc);
-    for word in text.split(' ') {
-        words.push(String::from_str(alloc, word)?)?;
+    let words = words_of(alloc, text)?;
+    match line(alloc, words.as_slice()) {
+        Err(Refused::Memory) => Err(Fail::new("out of memory")),
+        read => Ok(read == line_or_refused),
     }
-    let read = line(alloc, words.as_slice());
-    if read == Err(Refused::Memory) {
-        return Err(Fail::new("out of memory"));
-    }
-    Ok(read == line_or_refused)
 }
 
 /// Lines with the names, the delay and the span that they give.
@@ -191,27 +196,39 @@ static REFUSED: [&str; 97] = [
     "rist --version",
 ];
 
+fn is_replay<'a>(
+    alloc: Global,
+    text: &str,
+    capture: &'a str,
+    out: &'a str,
+    delay: u64,
+    span: u64,
+) -> Result<bool, Fail> {
+    let line = ReplayLine {
+        capture,
+        out,
+        session: PLAIN,
+        delay,
+        span,
+        restart: 0,
+        drift: false,
+        pcap: None,
+    };
+    reads(alloc, text, Ok(Line::Replay(line)))
+}
+
 fn all_replays(alloc: Global) -> Result<bool, Fail> {
-    for (text, capture, out, delay, span) in REPLAYS {
-        let line = ReplayLine {
-            capture,
-            out,
-            session: PLAIN,
-            delay,
-            span,
-            restart: 0,
-            drift: false,
-            pcap: None,
-        };
-        if !reads(alloc, text, Ok(Line::Replay(line)))? {
+    for (text, capture, out, delay, span) in &REPLAYS {
+        if !is_replay(alloc, text, capture, out, *delay, *span)? {
             return Ok(false);
         }
     }
     Ok(true)
 }
 
-fn all_refused(alloc: Global) -> Result<bool, Fail> {
-    for text in REFUSED {
+/// Whether each of these is refused.
+pub fn none_of(alloc: Global, texts: &[&str]) -> Result<bool, Fail> {
+    for text in texts {
         if !reads(alloc, text, Err(Refused::Usage))? {
             return Ok(false);
         }
@@ -277,12 +294,12 @@ fn all_counted(alloc: Global) -> Result<bool, Fail> {
 }
 
 fn all_drills(alloc: Global) -> Result<bool, Fail> {
-    for (text, number, count, links, loss) in DRILLS {
+    for (text, number, count, links, loss) in &DRILLS {
         let line = DrillLine {
-            number,
-            count,
-            links,
-            loss,
+            number: *number,
+            count: *count,
+            links: *links,
+            loss: *loss,
         };
         if !reads(alloc, text, Ok(Line::Drill(line)))? {
             return Ok(false);
@@ -322,13 +339,8 @@ fn all_packed(alloc: Global) -> Result<bool, Fail> {
     )
 }
 
-/// The line of these links, and of these weights.
-fn send_line(
-    alloc: Global,
-    session: SessionWords<'static>,
-    ports: &[u16],
-    share: Option<&[u8]>,
-) -> Result<SendLine<'static>, Fail> {
+/// Links of this machine, by their ports.
+pub fn specs(alloc: Global, ports: &[u16]) -> Result<Vec<LinkSpec>, Fail> {
     let mut links = Vec::new(alloc);
     for port in ports {
         links.push(LinkSpec {
@@ -336,19 +348,32 @@ fn send_line(
             port: *port,
         })?;
     }
-    let share = match share {
-        Some(weights) => Some(Vec::from_slice(alloc, weights)?),
-        None => None,
-    };
+    Ok(links)
+}
+
+pub fn weights(alloc: Global, share: Option<&[u8]>) -> Result<Option<Vec<u8>>, Fail> {
+    match share {
+        Some(weights) => Ok(Some(Vec::from_slice(alloc, weights)?)),
+        None => Ok(None),
+    }
+}
+
+/// The line of these links, and of these weights.
+fn send_line(
+    alloc: Global,
+    session: SessionWords<'static>,
+    ports: &[u16],
+    share: Option<&[u8]>,
+) -> Result<SendLine<'static>, Fail> {
     Ok(SendLine {
         source: "a",
-        links,
+        links: specs(alloc, ports)?,
         session,
         stream: STREAM,
         gap: 1000,
         store: 4096,
         hold: 20,
-        share,
+        share: weights(alloc, share)?,
         linger: 1000,
         turns: 1 << 40,
     })
@@ -383,13 +408,23 @@ fn words_are_a_line_or_refused(rt: HostRuntime) -> Result<(), Fail> {
     assert!(rt; all_packed(alloc)?);
     assert!(rt; all_sent(alloc)?);
     assert!(rt; all_drills(alloc)?);
-    assert!(rt; all_refused(alloc)?);
-    assert!(rt; line(alloc, &[]) == Err(Refused::Usage));
+    assert!(rt; none_of(alloc, &REFUSED)?);
+    assert!(rt; is_no_word_refused(alloc));
+    Ok(())
+}
+
+/// Whether the line of no word is refused.
+fn is_no_word_refused(alloc: Global) -> bool {
+    line(alloc, &[]) == Err(Refused::Usage)
+}
+
+#[test]
+fn each_refusal_has_its_text(rt: HostRuntime) -> Result<(), Fail> {
     for (refused, text) in [
         (Refused::Memory, "out of memory"),
         (Refused::Usage, "usage"),
     ] {
-        let written = format!(in alloc; "{refused}")?;
+        let written = format!(in rt.alloc(); "{refused}")?;
         assert!(rt; written.as_str() == text);
     }
     Ok(())
