@@ -1,7 +1,6 @@
 //! Captures of the network through the commands.
-use crate::tests::{NAME, NOTHING, Outside, joined, written};
+use crate::tests::{Ending, NAME, NOTHING, Outside, joined, writes, written};
 use pcap_file::PcapKind;
-use rist_top::Status;
 use std::alloc::Global;
 use std::test::Fail;
 
@@ -24,59 +23,82 @@ const RECORD: &[u8] = b"\0\0\0\x0D\0\0\0\0\0\0\0\0\x80\x21\0\0\0\0\0\0\x10\x20\x
 
 const LATER: &[u8] = b"\0\0\0\x0D\0\0\0\0\0\x0F\x69\x45\x80\x21\0\0\0\0\0\0\x10\x20\x30\x40A";
 
-/// Whether a command over these parts has this status and writes these octets.
-fn writes(
-    alloc: Global,
-    line: &str,
-    parts: &[&[u8]],
-    status: Status,
-    octets: &[u8],
-) -> Result<bool, Fail> {
-    let source = joined(alloc, parts)?;
-    let written = written(alloc, line, source.as_slice(), &NOTHING, status)?;
-    Ok(written.as_slice() == octets)
-}
+const LINE: &str = "replay --pcap --udp 1968 - -";
+
+/// Lines over pcap files, what fails, and the status and the octets that are left then.
+static FILES: [(&str, &[&[u8]], Outside<'static>, Ending, &str); 7] = [
+    (LINE, &[RAW_IP, HEAD, PACKET], NOTHING, Ending::Done, "A"),
+    (LINE, &[RAW_IP], NOTHING, Ending::Done, ""),
+    (LINE, &[NANOSECONDS, PACKET], NOTHING, Ending::Done, "A"),
+    (
+        "replay --pcap --udp 1966 - -",
+        &[RAW_IP, HEAD, PACKET],
+        NOTHING,
+        Ending::Done,
+        "",
+    ),
+    (
+        LINE,
+        &[b"\xA1\xB2\xC3\xD5"],
+        NOTHING,
+        Ending::BadPcap(PcapKind::Magic, 0),
+        "",
+    ),
+    (
+        LINE,
+        &[RAW_IP, HEAD, PACKET, b"\0"],
+        NOTHING,
+        Ending::BadPcap(PcapKind::Truncated, 81),
+        "A",
+    ),
+    // The source gives 81 octets, a whole record, and then fails.
+    (
+        LINE,
+        &[RAW_IP, HEAD, PACKET, HEAD, PACKET],
+        Outside {
+            cuts: &[81],
+            reads: &[1],
+            ..NOTHING
+        },
+        Ending::ReadFault,
+        "A",
+    ),
+];
 
 #[test]
 fn a_pcap_file_is_replayed(rt: HostRuntime) -> Result<(), Fail> {
-    let alloc = rt.alloc();
-    let line = "replay --pcap --udp 1968 - -";
-    assert!(rt; writes(alloc, line, &[RAW_IP, HEAD, PACKET], Status::Done, b"A")?);
-    assert!(rt; writes(alloc, line, &[RAW_IP], Status::Done, b"")?);
-    assert!(rt; writes(alloc, line, &[NANOSECONDS, PACKET], Status::Done, b"A")?);
-    let other = "replay --pcap --udp 1966 - -";
-    assert!(rt; writes(alloc, other, &[RAW_IP, HEAD, PACKET], Status::Done, b"")?);
-    let magic = Status::BadPcap(PcapKind::Magic, 0);
-    assert!(rt; magic.exit_code() == 14);
-    assert!(rt; writes(alloc, line, &[b"\xA1\xB2\xC3\xD5"], magic, b"")?);
-    let truncated = Status::BadPcap(PcapKind::Truncated, 81);
-    assert!(rt; writes(alloc, line, &[RAW_IP, HEAD, PACKET, b"\0"], truncated, b"A")?);
-    // The source gives 81 octets, a whole record, and then fails.
-    let outside = Outside {
-        cuts: &[81],
-        reads: &[1],
-        ..NOTHING
-    };
-    let source = joined(alloc, &[RAW_IP, HEAD, PACKET, HEAD, PACKET])?;
-    let octets = written(alloc, line, source.as_slice(), &outside, Status::ReadFault)?;
-    assert!(rt; octets.as_slice() == b"A".as_slice());
+    for (line, parts, outside, ending, octets) in &FILES {
+        assert!(rt; writes(rt.alloc(), line, parts, outside, *ending, octets.as_bytes())?);
+    }
     Ok(())
 }
 
 /// Whether a pcap file is shown as the capture of its datagrams is.
 fn shows_alike(alloc: Global, packets: &[&[u8]], records: &[&[u8]]) -> Result<bool, Fail> {
-    let packets = joined(alloc, packets)?;
     let records = joined(alloc, records)?;
+    let shown = written(alloc, "show -", records.as_slice(), &NOTHING, Ending::Done)?;
     let line = "show --pcap --udp 1968 -";
-    let of_packets = written(alloc, line, packets.as_slice(), &NOTHING, Status::Done)?;
-    let of_records = written(alloc, "show -", records.as_slice(), &NOTHING, Status::Done)?;
-    Ok(of_packets.as_slice() == of_records.as_slice() && !of_records.is_empty())
+    let is_alike = writes(
+        alloc,
+        line,
+        packets,
+        &NOTHING,
+        Ending::Done,
+        shown.as_slice(),
+    )?;
+    Ok(is_alike && !shown.is_empty())
 }
+
+/// Pcap files and the captures of their datagrams.
+static CAPTURES: [(&[&[u8]], &[&[u8]]); 2] = [
+    (&[RAW_IP, HEAD, PACKET], &[NAME, RECORD]),
+    (&[NANOSECONDS, PACKET], &[NAME, LATER]),
+];
 
 #[test]
 fn a_pcap_file_is_shown_as_its_capture(rt: HostRuntime) -> Result<(), Fail> {
-    let alloc = rt.alloc();
-    assert!(rt; shows_alike(alloc, &[RAW_IP, HEAD, PACKET], &[NAME, RECORD])?);
-    assert!(rt; shows_alike(alloc, &[NANOSECONDS, PACKET], &[NAME, LATER])?);
+    for (packets, records) in &CAPTURES {
+        assert!(rt; shows_alike(rt.alloc(), packets, records)?);
+    }
     Ok(())
 }

@@ -89,21 +89,58 @@ fn words(alloc: Global, line: &str) -> Result<Vec<String>, Fail> {
     Ok(words)
 }
 
+/// The statuses that tables hold.
+#[derive(Clone, Copy)]
+pub(crate) enum Ending {
+    Done,
+    Usage,
+    OpenFault,
+    ReadFault,
+    WriteFault,
+    BadCapture(CapKind, u64),
+    EntropyFault,
+    BadPcap(PcapKind, u64),
+}
+
+fn status_of(ending: Ending) -> Status {
+    match ending {
+        Ending::Done => Status::Done,
+        Ending::Usage => Status::Usage,
+        Ending::OpenFault => Status::OpenFault,
+        Ending::ReadFault => Status::ReadFault,
+        Ending::WriteFault => Status::WriteFault,
+        Ending::BadCapture(kind, at) => Status::BadCapture(kind, at),
+        Ending::EntropyFault => Status::EntropyFault,
+        Ending::BadPcap(kind, at) => Status::BadPcap(kind, at),
+    }
+}
+
+/// How a command ends.
+fn ended(
+    alloc: Global,
+    line: &str,
+    source: &[u8],
+    outside: &Outside<'_>,
+) -> Result<(Status, MemHost), Fail> {
+    let line = words(alloc, line)?;
+    let mut host = host(alloc, source, outside)?;
+    let ended = plain(alloc, line.as_slice(), &mut host);
+    Ok((ended, host))
+}
+
 /// What a command writes, if it ends with this status.
 pub(crate) fn written(
     alloc: Global,
     line: &str,
     source: &[u8],
     outside: &Outside<'_>,
-    status: Status,
+    ending: Ending,
 ) -> Result<Vec<u8>, Fail> {
-    let line = words(alloc, line)?;
-    let mut host = host(alloc, source, outside)?;
-    let ended = plain(alloc, line.as_slice(), &mut host);
+    let (ended, host) = ended(alloc, line, source, outside)?;
     if ended == Status::Memory {
         return Err(Fail::new("out of memory"));
     }
-    if ended != status {
+    if ended != status_of(ending) {
         return Err(Fail::new("another status"));
     }
     match host.returned_sink("-") {
@@ -112,76 +149,141 @@ pub(crate) fn written(
     }
 }
 
-pub(crate) fn joined(alloc: Global, parts: &[&[u8]]) -> Result<Vec<u8>, Fail> {
-    let mut octets = Vec::new(alloc);
+fn append(octets: &mut Vec<u8>, parts: &[&[u8]]) -> Result<(), AllocError> {
     for part in parts {
         octets.extend_from_slice(part)?;
     }
+    Ok(())
+}
+
+pub(crate) fn joined(alloc: Global, parts: &[&[u8]]) -> Result<Vec<u8>, Fail> {
+    let mut octets = Vec::new(alloc);
+    append(&mut octets, parts)?;
     Ok(octets)
 }
 
-/// Whether a replay of this capture has this status and writes these octets.
-fn replays(
+/// Whether a command over a source of these parts has this status and writes these octets.
+pub(crate) fn writes(
     alloc: Global,
+    line: &str,
     parts: &[&[u8]],
     outside: &Outside<'_>,
-    status: Status,
+    ending: Ending,
     octets: &[u8],
 ) -> Result<bool, Fail> {
-    let capture = joined(alloc, parts)?;
-    let written = written(alloc, "replay - -", capture.as_slice(), outside, status)?;
+    let source = joined(alloc, parts)?;
+    let written = written(alloc, line, source.as_slice(), outside, ending)?;
     Ok(written.as_slice() == octets)
 }
+
+/// Captures with what is played out of them.
+static REPLAYED: [(&[&[u8]], &str); 3] = [
+    (&[NAME, A, B, C], "ABC"),
+    (&[NAME], ""),
+    (&[NAME, A, C_EARLY, B_LATE], "ABC"),
+];
 
 #[test]
 fn a_capture_is_replayed_in_the_order_of_its_numbers(rt: HostRuntime) -> Result<(), Fail> {
     let alloc = rt.alloc();
-    assert!(rt; replays(alloc, &[NAME, A, B, C], &NOTHING, Status::Done, b"ABC")?);
-    assert!(rt; replays(alloc, &[NAME], &NOTHING, Status::Done, b"")?);
-    assert!(rt;
-        replays(
-            alloc,
-            &[NAME, A, C_EARLY, B_LATE],
-            &NOTHING,
-            Status::Done,
-            b"ABC"
-        )?
-    );
+    for (parts, octets) in &REPLAYED {
+        let octets = octets.as_bytes();
+        assert!(rt; writes(alloc, "replay - -", parts, &NOTHING, Ending::Done, octets)?);
+    }
     Ok(())
 }
+
+/// Captures, what fails while they are replayed, and the status and the octets that are left then.
+static FAULTS: [(&[&[u8]], Outside<'static>, Ending, &str); 6] = [
+    (
+        &[NAME, A, b"\0\0\0"],
+        NOTHING,
+        Ending::BadCapture(CapKind::Truncated, 33),
+        "A",
+    ),
+    (
+        &[b"RISTCAP2", A],
+        NOTHING,
+        Ending::BadCapture(CapKind::Magic, 0),
+        "",
+    ),
+    (
+        &[NAME, A, B, C],
+        Outside {
+            puts: &[0],
+            ..NOTHING
+        },
+        Ending::WriteFault,
+        "",
+    ),
+    (
+        &[NAME, A, B, C],
+        Outside {
+            puts: &[1],
+            ..NOTHING
+        },
+        Ending::WriteFault,
+        "A",
+    ),
+    (
+        &[NAME, A, B, C],
+        Outside {
+            puts: &[2],
+            ..NOTHING
+        },
+        Ending::WriteFault,
+        "AB",
+    ),
+    // The source gives 33 octets, a whole record, and then fails.
+    (
+        &[NAME, A, B, C],
+        Outside {
+            cuts: &[33],
+            reads: &[1],
+            ..NOTHING
+        },
+        Ending::ReadFault,
+        "A",
+    ),
+];
 
 #[test]
 fn a_fault_is_answered_and_what_was_held_is_written(rt: HostRuntime) -> Result<(), Fail> {
     let alloc = rt.alloc();
-    let truncated = Status::BadCapture(CapKind::Truncated, 33);
-    assert!(rt; replays(alloc, &[NAME, A, b"\0\0\0"], &NOTHING, truncated, b"A")?);
-    let magic = Status::BadCapture(CapKind::Magic, 0);
-    assert!(rt; replays(alloc, &[b"RISTCAP2", A], &NOTHING, magic, b"")?);
-    let whole = &[NAME, A, B, C];
-    for (put, octets) in [
-        (0, b"".as_slice()),
-        (1, b"A".as_slice()),
-        (2, b"AB".as_slice()),
-    ] {
-        let outside = Outside {
-            puts: &[put],
-            ..NOTHING
-        };
-        assert!(rt; replays(alloc, whole, &outside, Status::WriteFault, octets)?);
+    for (parts, outside, ending, octets) in &FAULTS {
+        assert!(rt;
+            writes(
+                alloc,
+                "replay - -",
+                parts,
+                outside,
+                *ending,
+                octets.as_bytes()
+            )?
+        );
     }
-    // The source gives 33 octets, a whole record, and then fails.
-    let outside = Outside {
-        cuts: &[33],
-        reads: &[1],
-        ..NOTHING
-    };
-    assert!(rt; replays(alloc, whole, &outside, Status::ReadFault, b"A")?);
     Ok(())
+}
+
+/// Whether both the source and the sink under this name can be opened.
+fn opens(host: &mut MemHost, name: &str) -> bool {
+    host.source(name).is_ok() && host.sink(name).is_ok()
+}
+
+/// Whether a line over this source has this status, and leaves what is under this name.
+fn leaves(
+    alloc: Global,
+    line: &str,
+    source: &[u8],
+    ending: Ending,
+    name: &str,
+) -> Result<bool, Fail> {
+    let (ended, mut host) = ended(alloc, line, source, &NOTHING)?;
+    Ok(ended == status_of(ending) && opens(&mut host, name))
 }
 
 #[test]
 fn what_is_no_line_or_not_there_is_refused(rt: HostRuntime) -> Result<(), Fail> {
-    let alloc = rt.alloc();
     for line in [
         "replay",
         "replay - - --port 3",
@@ -189,81 +291,89 @@ fn what_is_no_line_or_not_there_is_refused(rt: HostRuntime) -> Result<(), Fail> 
         "pack -",
         "--help",
     ] {
-        let line = words(alloc, line)?;
-        let mut host = host(alloc, b"", &NOTHING)?;
-        assert!(rt; plain(alloc, line.as_slice(), &mut host) == Status::Usage);
-        assert!(rt; host.source("-").is_ok() && host.sink("-").is_ok());
+        assert!(rt; leaves(rt.alloc(), line, b"", Ending::Usage, "-")?);
     }
-    let missing = words(alloc, "replay file -")?;
-    let mut host_without = host(alloc, b"", &NOTHING)?;
-    assert!(rt; plain(alloc, missing.as_slice(), &mut host_without) == Status::OpenFault);
-    // The second call of the host fails: that for the sink, so the source comes back.
-    let line = words(alloc, "replay - -")?;
+    let (status, _host) = ended(rt.alloc(), "replay file -", b"", &NOTHING)?;
+    assert!(rt; status == Status::OpenFault);
+    Ok(())
+}
+
+#[test]
+fn a_source_comes_back_where_its_sink_cannot_be_opened(rt: HostRuntime) -> Result<(), Fail> {
+    // The second call of the host fails: that for the sink.
     let outside = Outside {
         calls: &[1],
         ..NOTHING
     };
-    let mut failing = host(alloc, b"", &outside)?;
-    assert!(rt; plain(alloc, line.as_slice(), &mut failing) == Status::OpenFault);
-    assert!(rt; failing.returned_source("-").is_some() && failing.returned_sink("-").is_none());
-    assert!(rt; Status::EntropyFault.exit_code() == 11);
+    let (status, host) = ended(rt.alloc(), "replay - -", b"", &outside)?;
+    assert!(rt; status == Status::OpenFault);
+    assert!(rt; host.returned_source("-").is_some() && host.returned_sink("-").is_none());
     Ok(())
 }
 
+/// Lines with their statuses. None of them names `other`.
+static NAMING: [(&str, Ending); 5] = [
+    ("replay - -", Ending::Done),
+    ("show -", Ending::Done),
+    ("pack - -", Ending::Done),
+    ("replay - file", Ending::OpenFault),
+    ("replay file -", Ending::OpenFault),
+];
+
 #[test]
 fn what_a_line_does_not_name_is_not_opened(rt: HostRuntime) -> Result<(), Fail> {
-    let alloc = rt.alloc();
-    let capture = joined(alloc, &[NAME, A])?;
-    for (line, status) in [
-        ("replay - -", Status::Done),
-        ("show -", Status::Done),
-        ("pack - -", Status::Done),
-        ("replay - file", Status::OpenFault),
-        ("replay file -", Status::OpenFault),
-    ] {
-        let line = words(alloc, line)?;
-        let mut host = host(alloc, capture.as_slice(), &NOTHING)?;
-        assert!(rt; plain(alloc, line.as_slice(), &mut host) == status);
-        assert!(rt; host.source("other").is_ok() && host.sink("other").is_ok());
+    let capture = joined(rt.alloc(), &[NAME, A])?;
+    for (line, ending) in &NAMING {
+        assert!(rt; leaves(rt.alloc(), line, capture.as_slice(), *ending, "other")?);
     }
     Ok(())
 }
 
-/// Whether what a packing writes is replayed to its source, with the same options of the session.
-fn returns(alloc: Global, source: &[u8], pack: &str, replay: &str) -> Result<bool, Fail> {
+/// What sources are taken from.
+static OCTETS: [u8; 5264] = [0x2F; 5264];
+
+/// What a packing writes of a source, with random words that are all 9.
+fn packed(alloc: Global, line: &str, source: &[u8]) -> Result<Vec<u8>, Fail> {
     let outside = Outside {
         random: &[9; 16],
         ..NOTHING
     };
-    let capture = written(alloc, pack, source, &outside, Status::Done)?;
-    let octets = written(alloc, replay, capture.as_slice(), &NOTHING, Status::Done)?;
+    written(alloc, line, source, &outside, Ending::Done)
+}
+
+/// What a line of a command writes of a source.
+fn done(alloc: Global, line: &str, source: &[u8]) -> Result<Vec<u8>, Fail> {
+    written(alloc, line, source, &NOTHING, Ending::Done)
+}
+
+/// Whether what a packing writes is replayed to its source, with the same options of the session.
+fn returns(alloc: Global, source: &[u8], pack: &str, replay: &str) -> Result<bool, Fail> {
+    let capture = packed(alloc, pack, source)?;
+    let octets = done(alloc, replay, capture.as_slice())?;
     Ok(octets.as_slice() == source)
 }
 
+/// Lines of packings and of the replays of what they write.
+static RETURNS: [(&str, &str); 4] = [
+    ("pack - -", "replay - -"),
+    ("pack --first 65534 - -", "replay - -"),
+    (
+        "pack --profile main --wide --first 4294967295 - -",
+        "replay --profile main - -",
+    ),
+    (
+        "pack --profile main --pass secret --bits 256 - -",
+        "replay --profile main --pass secret --bits 256 - -",
+    ),
+];
+
 #[test]
 fn a_packed_stream_is_replayed_to_itself(rt: HostRuntime) -> Result<(), Fail> {
-    let alloc = rt.alloc();
-    let source = [0x2F; 5264];
-    let capture = written(alloc, "pack - -", &source[..2632], &NOTHING, Status::Done)?;
+    let capture = done(rt.alloc(), "pack - -", &OCTETS[..2632])?;
     assert!(rt; capture.len() == 2688);
-    assert!(rt; returns(alloc, &source, "pack - -", "replay - -")?);
-    assert!(rt; returns(alloc, &source, "pack --first 65534 - -", "replay - -")?);
-    assert!(rt;
-        returns(
-            alloc,
-            &source,
-            "pack --profile main --wide --first 4294967295 - -",
-            "replay --profile main - -"
-        )?
-    );
-    assert!(rt;
-        returns(
-            alloc,
-            &source,
-            "pack --profile main --pass secret --bits 256 - -",
-            "replay --profile main --pass secret --bits 256 - -"
-        )?
-    );
+    for (pack, replay) in &RETURNS {
+        assert!(rt; returns(rt.alloc(), &OCTETS, pack, replay)?);
+    }
     Ok(())
 }
 
@@ -317,117 +427,181 @@ static FULL_ROWS: [([u8; 2], [u8; 2], [u8; 2], &str); 5] = [
     ),
 ];
 
-#[test]
-fn full_datagrams_are_packed_and_shown_and_replayed(rt: HostRuntime) -> Result<(), Fail> {
-    let alloc = rt.alloc();
-    let line = "pack --profile main --full - -";
-    let packed = written(alloc, line, b"A", &NOTHING, Status::Done)?;
+/// Whether the capture of such a datagram is shown as this line.
+fn is_shown(
+    alloc: Global,
+    flags: [u8; 2],
+    header_sum: [u8; 2],
+    udp_sum: [u8; 2],
+    line: &str,
+) -> Result<bool, Fail> {
+    let capture = full_capture(alloc, flags, header_sum, udp_sum)?;
+    let octets = done(alloc, "show --profile main -", capture.as_slice())?;
+    Ok(octets.as_slice() == line.as_bytes())
+}
+
+/// Whether the octet `A` is packed in a full datagram.
+fn is_packed_full(alloc: Global) -> Result<bool, Fail> {
+    let packed = done(alloc, "pack --profile main --full - -", b"A")?;
     let whole = full_capture(alloc, [0x40, 0], [0x26, 0xC2], [0xDA, 0xDF])?;
-    assert!(rt; packed.as_slice() == whole.as_slice());
-    for (flags, header_sum, udp_sum, shown) in FULL_ROWS {
-        let capture = full_capture(alloc, flags, header_sum, udp_sum)?;
-        let line = "show --profile main -";
-        let octets = written(alloc, line, capture.as_slice(), &NOTHING, Status::Done)?;
-        assert!(rt; octets.as_slice() == shown.as_bytes());
+    Ok(packed.as_slice() == whole.as_slice())
+}
+
+/// Lines of packings in full datagrams and of the replays of what they write.
+static FULL_RETURNS: [(&str, &str); 2] = [
+    (
+        "pack --profile main --full - -",
+        "replay --profile main - -",
+    ),
+    (
+        "pack --profile main --full --pass secret - -",
+        "replay --profile main --pass secret - -",
+    ),
+];
+
+#[test]
+fn full_datagrams_are_packed_and_shown(rt: HostRuntime) -> Result<(), Fail> {
+    assert!(rt; is_packed_full(rt.alloc())?);
+    for (flags, header_sum, udp_sum, line) in &FULL_ROWS {
+        assert!(rt; is_shown(rt.alloc(), *flags, *header_sum, *udp_sum, line)?);
     }
-    let source = [0x2F; 1317];
-    let replay = "replay --profile main - -";
-    assert!(rt; returns(alloc, &source, "pack --profile main --full - -", replay)?);
-    let replay = "replay --profile main --pass secret - -";
-    let pack = "pack --profile main --full --pass secret - -";
-    assert!(rt; returns(alloc, &source, pack, replay)?);
     Ok(())
 }
 
 #[test]
+fn full_datagrams_are_packed_and_replayed(rt: HostRuntime) -> Result<(), Fail> {
+    for (pack, replay) in &FULL_RETURNS {
+        assert!(rt; returns(rt.alloc(), &OCTETS[..1317], pack, replay)?);
+    }
+    Ok(())
+}
+
+const SEALED: &str = "pack --profile main --pass secret - -";
+
+#[test]
 fn what_is_enciphered_under_another_passphrase_is_refused(rt: HostRuntime) -> Result<(), Fail> {
-    let alloc = rt.alloc();
-    let outside = Outside {
-        random: &[9; 16],
-        ..NOTHING
-    };
-    let line = "pack --profile main --pass secret - -";
-    let capture = written(alloc, line, &[0x2F; 2632], &outside, Status::Done)?;
+    let capture = packed(rt.alloc(), SEALED, &OCTETS[..2632])?;
     let line = "replay --profile main --pass another - -";
-    let octets = written(alloc, line, capture.as_slice(), &NOTHING, Status::Done)?;
+    let octets = done(rt.alloc(), line, capture.as_slice())?;
     assert!(rt; octets.is_empty());
     let line = "replay --profile main --pass secret - -";
-    let octets = written(alloc, line, capture.as_slice(), &NOTHING, Status::Done)?;
-    assert!(rt; octets.as_slice() == [0x2F; 2632].as_slice());
+    let octets = done(rt.alloc(), line, capture.as_slice())?;
+    assert!(rt; octets.as_slice() == &OCTETS[..2632]);
     Ok(())
+}
+
+/// Whether a datagram begins so at this place: flags, protocol, key and sequence number (RFC 2890, section 2).
+fn is_headed(
+    alloc: Global,
+    capture: &[u8],
+    at: usize,
+    nonce: u32,
+    sequence: u32,
+) -> Result<bool, Fail> {
+    let header = joined(
+        alloc,
+        &[
+            b"\x30\x00\x88\xB6",
+            nonce.to_be_bytes().as_slice(),
+            sequence.to_be_bytes().as_slice(),
+        ],
+    )?;
+    let datagram = capture.get(at..).ok_or("a datagram")?;
+    Ok(datagram.starts_with(header.as_slice()))
+}
+
+/// Whether both datagrams of two pieces go under this nonce, where each random word is this one.
+fn goes_under(alloc: Global, word: u32, nonce: u32) -> Result<bool, Fail> {
+    let outside = Outside {
+        random: &[word; 16],
+        ..NOTHING
+    };
+    let capture = written(alloc, SEALED, &OCTETS[..2632], &outside, Ending::Done)?;
+    let octets = capture.as_slice();
+    // The name, and two records of a head of 12 octets and a datagram of 1,344.
+    Ok(
+        octets.len() == 2720
+            && is_headed(alloc, octets, 20, nonce, 0)?
+            && is_headed(alloc, octets, 1376, nonce, 1)?,
+    )
 }
 
 #[test]
 fn a_packing_goes_under_the_nonce_of_its_first_random_word(rt: HostRuntime) -> Result<(), Fail> {
-    let alloc = rt.alloc();
     // A nonce isn't 0: the word 0 gives the number after it.
-    for (word, nonce) in [(0x1020_3040, 0x1020_3040_u32), (0, 1)] {
-        let random = [word; 16];
-        let outside = Outside {
-            random: &random,
-            ..NOTHING
-        };
-        let line = "pack --profile main --pass secret - -";
-        let capture = written(alloc, line, &[0x2F; 2632], &outside, Status::Done)?;
-        // The name, and two records of a head of 12 octets and a datagram of 1,344.
-        assert!(rt; capture.len() == 2720);
-        // Each datagram begins with flags, protocol, key and sequence number (RFC 2890, section 2).
-        for (sequence, at) in [(0_u32, 20), (1, 1376)] {
-            let header = joined(
-                alloc,
-                &[
-                    b"\x30\x00\x88\xB6",
-                    nonce.to_be_bytes().as_slice(),
-                    sequence.to_be_bytes().as_slice(),
-                ],
-            )?;
-            let found = capture.get(at..at + 12).ok_or("a header")?;
-            assert!(rt; found == header.as_slice());
-        }
+    for (word, nonce) in [(0x1020_3040, 0x1020_3040), (0, 1)] {
+        assert!(rt; goes_under(rt.alloc(), word, nonce)?);
     }
     Ok(())
 }
 
+/// Whether nothing is written where this draw of a word fails.
+fn writes_nothing(alloc: Global, draw: u64) -> Result<bool, Fail> {
+    let outside = Outside {
+        random: &[9; 16],
+        draws: &[draw],
+        ..NOTHING
+    };
+    writes(
+        alloc,
+        SEALED,
+        &[b"ABC"],
+        &outside,
+        Ending::EntropyFault,
+        b"",
+    )
+}
+
 #[test]
 fn words_that_fail_write_nothing(rt: HostRuntime) -> Result<(), Fail> {
-    let alloc = rt.alloc();
     for draw in [0, 7, 15] {
-        let outside = Outside {
-            random: &[9; 16],
-            draws: &[draw],
-            ..NOTHING
-        };
-        let line = "pack --profile main --pass secret - -";
-        let octets = written(alloc, line, b"ABC", &outside, Status::EntropyFault)?;
-        assert!(rt; octets.is_empty());
+        assert!(rt; writes_nothing(rt.alloc(), draw)?);
     }
     Ok(())
 }
 
 #[test]
 fn a_record_is_shown_as_a_line(rt: HostRuntime) -> Result<(), Fail> {
-    let alloc = rt.alloc();
-    let capture = joined(alloc, &[NAME, A])?;
-    let octets = written(alloc, "show -", capture.as_slice(), &NOTHING, Status::Done)?;
     let line =
         b"{\"again\":false,\"at\":0,\"channel\":\"media\",\"flow\":\"10203040\",\"item\":\"media\",\"length\":1,\"link\":0,\"number\":10,\"stamp\":0,\"width\":16}\n";
-    assert!(rt; octets.as_slice() == line.as_slice());
+    assert!(rt;
+        writes(
+            rt.alloc(),
+            "show -",
+            &[NAME, A],
+            &NOTHING,
+            Ending::Done,
+            line
+        )?
+    );
     Ok(())
+}
+
+/// Captures with their statuses and how many packets are kept of them.
+static COUNTED: [(&[&[u8]], Ending, &str); 2] = [
+    (&[NAME, A, B, C], Ending::Done, "kept 3\n"),
+    (
+        &[
+            NAME,
+            A,
+            B,
+            b"\0\0\0\x0D\0\0\0\0\0\0\x4E\x20\x80\x21\0\x0C\0\0\x07\x08\x10\x20\x30\x40",
+        ],
+        Ending::BadCapture(CapKind::Truncated, 58),
+        "kept 2\n",
+    ),
+];
+
+fn counts(alloc: Global, parts: &[&[u8]], ending: Ending, kept: &str) -> Result<bool, Fail> {
+    let none = b"stranger 0\nexhausted 0\nlate 0\nbehind 0\nearly 0\ntwice 0\nspan 0\nrefused 0\n";
+    let text = joined(alloc, &[kept.as_bytes(), none])?;
+    writes(alloc, "count -", parts, &NOTHING, ending, text.as_slice())
 }
 
 #[test]
 fn a_capture_is_counted_as_far_as_it_goes(rt: HostRuntime) -> Result<(), Fail> {
-    let alloc = rt.alloc();
-    let truncated = Status::BadCapture(CapKind::Truncated, 58);
-    let none = "stranger 0\nexhausted 0\nlate 0\nbehind 0\nearly 0\ntwice 0\nspan 0\nrefused 0\n";
-    for (parts, status, kept) in [
-        ([NAME, A, B, C], Status::Done, 3),
-        ([NAME, A, B, &C[..24]], truncated, 2),
-    ] {
-        let capture = joined(alloc, &parts)?;
-        let octets = written(alloc, "count -", capture.as_slice(), &NOTHING, status)?;
-        let text = format!(in alloc; "kept {kept}\n{none}")?;
-        assert!(rt; octets.as_slice() == text.as_bytes());
+    for (parts, ending, kept) in &COUNTED {
+        assert!(rt; counts(rt.alloc(), parts, *ending, kept)?);
     }
     Ok(())
 }
@@ -454,6 +628,13 @@ fn each_status_has_its_text(rt: HostRuntime) -> Result<(), Fail> {
         let written = format!(in rt.alloc(); "{status}")?;
         assert!(rt; written.as_str() == text);
     }
+    Ok(())
+}
+
+#[test]
+fn a_fault_has_its_exit_status(rt: HostRuntime) -> Result<(), Fail> {
+    assert!(rt; Status::EntropyFault.exit_code() == 11);
+    assert!(rt; Status::BadPcap(PcapKind::Magic, 0).exit_code() == 14);
     Ok(())
 }
 
@@ -495,13 +676,18 @@ fn push_record(
     packet: &MediaPacket,
     payload: &[u8],
 ) -> Result<(), AllocError> {
-    octets.extend_from_slice(&[0, 0, 0, 13])?;
-    octets.extend_from_slice(packet.micros.to_be_bytes().as_slice())?;
-    octets.extend_from_slice(&[0x80, 33])?;
-    octets.extend_from_slice(packet.word.to_be_bytes().as_slice())?;
-    octets.extend_from_slice(packet.stamp.to_be_bytes().as_slice())?;
-    octets.extend_from_slice(packet.ssrc.to_be_bytes().as_slice())?;
-    octets.extend_from_slice(payload)
+    append(
+        octets,
+        &[
+            &[0, 0, 0, 13],
+            packet.micros.to_be_bytes().as_slice(),
+            &[0x80, 33],
+            packet.word.to_be_bytes().as_slice(),
+            packet.stamp.to_be_bytes().as_slice(),
+            packet.ssrc.to_be_bytes().as_slice(),
+            payload,
+        ],
+    )
 }
 
 /// The same packet as a step of the rules.
@@ -567,21 +753,22 @@ fn made_capture(
     Ok(steps)
 }
 
-#[test]
-fn a_made_capture_is_replayed_as_the_plain_program_says(rt: HostRuntime) -> Result<(), Fail> {
-    let alloc = rt.alloc();
+/// Whether the made capture is replayed as the plain program says.
+fn is_replayed(alloc: Global) -> Result<bool, Fail> {
     let mut octets = joined(alloc, &[NAME])?;
     let steps = made_capture(alloc, &mut octets, 3000)?;
     let payloads = released(alloc, &limits(), steps.as_slice())?;
     let expected = joined(alloc, payloads.as_slice())?;
-    assert!(rt; expected.len() > 1500 && expected.len() < 3000);
-    let line = "replay --restart 500 - -";
-    let played = written(alloc, line, octets.as_slice(), &NOTHING, Status::Done)?;
-    assert!(rt; played.as_slice() == expected.as_slice());
+    let played = done(alloc, "replay --restart 500 - -", octets.as_slice())?;
+    let is_some = expected.len() > 1500 && expected.len() < 3000;
     // Without a restart time the first flow alone is played out.
-    let line = "replay - -";
-    let first_alone = written(alloc, line, octets.as_slice(), &NOTHING, Status::Done)?;
-    assert!(rt; first_alone.len() < 1000);
+    let first_alone = done(alloc, "replay - -", octets.as_slice())?;
+    Ok(is_some && played.as_slice() == expected.as_slice() && first_alone.len() < 1000)
+}
+
+#[test]
+fn a_made_capture_is_replayed_as_the_plain_program_says(rt: HostRuntime) -> Result<(), Fail> {
+    assert!(rt; is_replayed(rt.alloc())?);
     Ok(())
 }
 
@@ -605,9 +792,15 @@ fn drifting_capture(alloc: Global, micros: u64) -> Result<Vec<u8>, Fail> {
     Ok(octets)
 }
 
+/// How many packets of that capture are played out.
+fn played_count(alloc: Global, line: &str, micros: u64) -> Result<usize, Fail> {
+    let capture = drifting_capture(alloc, micros)?;
+    let played = done(alloc, line, capture.as_slice())?;
+    Ok(played.len())
+}
+
 #[test]
 fn deadlines_follow_a_clock_that_drifts(rt: HostRuntime) -> Result<(), Fail> {
-    let alloc = rt.alloc();
     // After a window the base is 41, so that 1,024 is due at tick 182,201; without drift it is due at 182,210.
     for (line, micros, length) in [
         ("replay --drift - -", 2_024_445, 1025),
@@ -615,9 +808,7 @@ fn deadlines_follow_a_clock_that_drifts(rt: HostRuntime) -> Result<(), Fail> {
         ("replay - -", 2_024_545, 1025),
         ("replay - -", 2_024_556, 1024),
     ] {
-        let capture = drifting_capture(alloc, micros)?;
-        let played = written(alloc, line, capture.as_slice(), &NOTHING, Status::Done)?;
-        assert!(rt; played.len() == length);
+        assert!(rt; played_count(rt.alloc(), line, micros)? == length);
     }
     Ok(())
 }
