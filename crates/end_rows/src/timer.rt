@@ -1,11 +1,12 @@
 //! Worked runs and generated ones on a timer with its buffer. At each tick the words are those of the plain program.
-ghost use Rattle.std.specs.Prelude.{◌≡◌, ◌≤◌, ◌<◌, ◌^◌, true, IfOk, OnOk};
+ghost use Rattle.std.specs.Prelude.{◌≡◌, ◌≤◌, ◌<◌, ◌^◌, true, length, IfOk, OnOk};
 ghost use Rattle.std.specs.List.{All};
 ghost use Rattle.receiver_rules.specs.Bounds.{AreInRange};
 ghost use Rattle.reorder_buffer.specs.declared.phase.Phase.TheVariants.{Open};
 ghost use Rattle.request_plain.specs.Told.{IsFit, IsFitInput, IsSmallPolicy};
 ghost use Rattle.nack_timer.specs.State.{IsInRange};
 
+use crate::expecting::expect;
 use nack_timer::{Settings, Timer};
 use outside_io::Store8;
 use receiver_rules::{Arrival, Limits, tick_of};
@@ -16,6 +17,10 @@ use seq_unwrap::Width;
 use std::alloc::{AllocError, Global};
 use std::test::Fail;
 
+const FLOW: u32 = 0x1020_3040;
+
+const OTHER_FLOW: u32 = 0x2030_4050;
+
 /// When a run asks, in which span and with which delay, and when another flow may take over.
 #[derive(Clone, Copy)]
 struct Setting {
@@ -23,6 +28,61 @@ struct Setting {
     delay_ms: u64,
     restart_ms: u64,
     settings: Settings,
+}
+
+/// What comes in a run. Times are in ticks of 1/90,000 s.
+#[derive(Clone, Copy)]
+enum Row {
+    /// A packet at a time with its number: 10 has timestamp 0, and each is 10 ms after the one before it.
+    Packet(u64, u32),
+    /// A packet of a flow at a time with its number and its timestamp.
+    Comes(u32, u64, u32, u32),
+    /// On a link, at a time, a sample of the round-trip time in microseconds.
+    Sample(u64, u64, u64),
+    /// Something else on a link.
+    Other(u64, u64),
+    /// A tick of the clock on a link.
+    Tick(u64, u64),
+}
+
+/// A packet of 16 bits on link 0, without a payload.
+fn comes(flow: u32, tick: u64, word: u32, stamp: u32) -> Step<'static> {
+    let arrival = Arrival {
+        flow,
+        again: false,
+        width: Width::W16,
+        word,
+        stamp,
+        payload: &[],
+    };
+    Step {
+        link: 0,
+        tick,
+        input: Input::Media(arrival),
+    }
+}
+
+/// A row as the plain program is told.
+fn step_of(row: &Row) -> Step<'static> {
+    match *row {
+        Row::Packet(tick, n) => comes(FLOW, tick, n, 900_u32.wrapping_mul(n.wrapping_sub(10))),
+        Row::Comes(flow, tick, word, stamp) => comes(flow, tick, word, stamp),
+        Row::Sample(link, tick, sample) => Step {
+            link,
+            tick,
+            input: Input::Control(Some(sample)),
+        },
+        Row::Other(link, tick) => Step {
+            link,
+            tick,
+            input: Input::Other,
+        },
+        Row::Tick(link, tick) => Step {
+            link,
+            tick,
+            input: Input::Tick,
+        },
+    }
 }
 
 /// Whether a step is one that the plain program takes, with a packet of 16 bits if any.
@@ -45,69 +105,33 @@ fn is_fit_input(input: &Input<'_>) -> bool
     }
 }
 
-/// Steps that are all fit.
-fn fit<'a>(alloc: Global, steps: &[Step<'a>]) -> Result<Vec<Step<'a>>, Fail>
+/// The steps of rows that are all fit.
+fn fit(alloc: Global, rows: &[Row]) -> Result<Vec<Step<'static>>, Fail>
     ensures { IfOk result (λ fit. All IsFit fit.items) }
 {
     let mut fit = Vec::new(alloc);
-    for step in steps {
-        if !is_fit(step) {
+    for row in rows {
+        let step = step_of(row);
+        if !is_fit(&step) {
             return Err(Fail::new("a step that is not fit"));
         }
-        fit.push(*step)?;
+        fit.push(step)?;
     }
     Ok(fit)
 }
 
-/// Plays steps on a buffer and a timer, and gives the words of the last tick.
-fn play(alloc: Global, setting: &Setting, steps: &[Step<'_>]) -> Result<Vec<AskWord>, Fail>
-    requires span { (1 ≤ setting.now.span) × (setting.now.span ≤ 16384) }
-    requires delay { (1 ≤ setting.now.delay_ms) × (setting.now.delay_ms ≤ 30000) }
-    requires restart { setting.now.restart_ms ≤ 60000 }
-    requires settings { IsInRange setting.now.settings }
+/// Whether a setting is in its range.
+fn is_in_range(setting: &Setting) -> bool
+    ensures span { result ≡ true → (1 ≤ setting.now.span) × (setting.now.span ≤ 16384) }
+    ensures delay { result ≡ true → (1 ≤ setting.now.delay_ms) × (setting.now.delay_ms ≤ 30000) }
+    ensures restart { result ≡ true → setting.now.restart_ms ≤ 60000 }
+    ensures settings { result ≡ true → IsInRange setting.now.settings }
 {
-    let steps = fit(alloc, steps)?;
-    play_fit(alloc, setting, steps.as_slice())
-}
-
-fn play_fit(alloc: Global, setting: &Setting, steps: &[Step<'_>]) -> Result<Vec<AskWord>, Fail>
-    requires span { (1 ≤ setting.now.span) × (setting.now.span ≤ 16384) }
-    requires delay { (1 ≤ setting.now.delay_ms) × (setting.now.delay_ms ≤ 30000) }
-    requires restart { setting.now.restart_ms ≤ 60000 }
-    requires settings { IsInRange setting.now.settings }
-    requires steps { All IsFit steps.now }
-{
-    let mut sink = Store8::with(alloc, 64, &[])?;
-    let mut buffer = Buffer::with_limits(
-        alloc,
-        setting.span,
-        setting.delay_ms,
-        setting.restart_ms,
-        false,
-    )?;
-    let mut timer = Timer::with_span(alloc, setting.span, setting.settings)?;
-    let mut known = None;
-    let mut at = 0;
-    let mut last = Vec::new(alloc);
-    for (place, step) in steps.iter().enumerate() {
-        at = at.max(step.tick);
-        let epoch = buffer.epoch();
-        bring(&mut buffer, at, step, &mut sink)?;
-        known = tell(&mut timer, &buffer, epoch, known, at);
-        if matches!(step.input, Input::Tick) {
-            let words = ask(
-                alloc,
-                setting,
-                &buffer,
-                &mut timer,
-                known,
-                at,
-                &steps[..place],
-            )?;
-            last = Vec::from_slice(alloc, words.words())?;
-        }
-    }
-    Ok(last)
+    let settings = &setting.settings;
+    (1 <= setting.span && setting.span <= 16384)
+        && (1 <= setting.delay_ms && setting.delay_ms <= 30000)
+        && setting.restart_ms <= 60000
+        && (settings.reorder <= 1000 && settings.least <= 1000 && settings.tries <= 32)
 }
 
 /// What a step brings to the buffer.
@@ -158,291 +182,420 @@ fn tell(timer: &mut Timer, buffer: &Buffer, epoch: u64, known: Option<u64>, at: 
     }
 }
 
-/// Asks at a tick, and compares with the plain program.
-fn ask(
-    alloc: Global,
-    setting: &Setting,
-    buffer: &Buffer,
-    timer: &mut Timer,
-    known: Option<u64>,
-    at: u64,
-    before: &[Step<'_>],
-) -> Result<Asked, Fail>
-    requires range { (1 ≤ setting.now.span) × (setting.now.span ≤ 16384) }
+/// The limits of a setting that is in its range.
+fn limits_of(setting: &Setting) -> Limits
+    requires span { (1 ≤ setting.now.span) × (setting.now.span ≤ 16384) }
     requires delay { (1 ≤ setting.now.delay_ms) × (setting.now.delay_ms ≤ 30000) }
     requires restart { setting.now.restart_ms ≤ 60000 }
-    requires settings { IsInRange setting.now.settings }
-    requires before { All IsFit before.now }
-    requires tick { at < 2 ^ 61 }
-    requires clock { (buffer.now.time ≡ at) × (buffer.now.phase ≡ Open) }
-    requires known { timer.old.high ≡ known }
-    requires span { buffer.now.limits.capacity ≡ timer.old.span }
-    ensures known { timer.new.high ≡ timer.old.high }
-    ensures span { timer.new.span ≡ timer.old.span }
+    ensures range { AreInRange result }
 {
-    if buffer.high() != known {
-        return Err(Fail::new("another highest number"));
-    }
-    let limits = Limits {
+    Limits {
         playout_delay: 90 * setting.delay_ms,
         capacity: setting.span,
         restart_time: 90 * setting.restart_ms,
         drift: false,
-    };
-    let policy = Policy {
-        reorder_tolerance: 90 * setting.settings.reorder,
-        retry_interval: 90 * setting.settings.least,
-        retry_limit: setting.settings.tries,
-        kind: setting.settings.nack,
-    };
-    let rtt = tick_of(longest_rtt(before));
-    let want = asked(alloc, &limits, &policy, before, at)?;
-    let would = timer.would(at, buffer, rtt);
-    let words = timer.due(at, buffer, rtt);
-    if would == want.is_empty() || words.words() != want.words() {
-        return Err(Fail::new("other words"));
+    }
+}
+
+fn policy_of(settings: &Settings) -> Policy
+    requires { IsInRange settings.now }
+    ensures small { IsSmallPolicy result }
+{
+    Policy {
+        reorder_tolerance: 90 * settings.reorder,
+        retry_interval: 90 * settings.least,
+        retry_limit: settings.tries,
+        kind: settings.nack,
+    }
+}
+
+/// A buffer and a timer that know the same highest number, the time to which the buffer has come, and what the plain
+/// program is told.
+#[derive(Drop)]
+struct Run {
+    buffer: Buffer,
+    timer: Timer,
+    known: Option<u64>,
+    at: u64,
+    limits: Limits,
+    policy: Policy,
+    ghost running: { buffer.phase ≡ Open },
+    ghost time: { (buffer.time ≡ at) × (at < 2 ^ 61) },
+    ghost high: { timer.high ≡ known },
+    ghost span: { buffer.limits.capacity ≡ timer.span },
+    ghost range: { AreInRange limits },
+    ghost small: { IsSmallPolicy policy },
+}
+
+impl Run {
+    fn begin(alloc: Global, setting: &Setting) -> Result<Run, Fail> {
+        if !is_in_range(setting) {
+            return Err(Fail::new("a setting out of its range"));
+        }
+        let buffer = Buffer::with_limits(
+            alloc,
+            setting.span,
+            setting.delay_ms,
+            setting.restart_ms,
+            false,
+        )?;
+        let timer = Timer::with_span(alloc, setting.span, setting.settings)?;
+        Ok(Run {
+            buffer,
+            timer,
+            known: None,
+            at: 0,
+            limits: limits_of(setting),
+            policy: policy_of(&setting.settings),
+        })
+    }
+
+    /// The run with what a step brings.
+    fn brought(self, step: &Step<'_>, sink: &mut Store8) -> Result<Run, Fail>
+        requires { IsFit step.now }
+    {
+        let Run {
+            mut buffer,
+            mut timer,
+            known,
+            at,
+            limits,
+            policy,
+        } = self;
+        let at = at.max(step.tick);
+        let epoch = buffer.epoch();
+        bring(&mut buffer, at, step, sink)?;
+        let known = tell(&mut timer, &buffer, epoch, known, at);
+        Ok(Run {
+            buffer,
+            timer,
+            known,
+            at,
+            limits,
+            policy,
+        })
+    }
+
+    /// Asks at a tick behind these steps, and compares with the plain program.
+    fn ask(&mut self, alloc: Global, before: &[Step<'_>]) -> Result<Asked, Fail>
+        requires before { All IsFit before.now }
+    {
+        if self.buffer.high() != self.known {
+            return Err(Fail::new("another highest number"));
+        }
+        let rtt = tick_of(longest_rtt(before));
+        let want = asked(alloc, &self.limits, &self.policy, before, self.at)?;
+        let would = self.timer.would(self.at, &self.buffer, rtt);
+        let words = self.timer.due(self.at, &self.buffer, rtt);
+        if would == want.is_empty() || words.words() != want.words() {
+            return Err(Fail::new("other words"));
+        }
+        Ok(words)
+    }
+
+    /// The run behind the step at a place, and where that is a tick its words.
+    fn behind(
+        self,
+        alloc: Global,
+        steps: &[Step<'_>],
+        place: usize,
+        sink: &mut Store8,
+        words: &mut Vec<AskWord>,
+    ) -> Result<Run, Fail>
+        requires fits { All IsFit steps.now }
+        requires place { place < length steps.now }
+    {
+        let step = &steps[place];
+        let mut run = self.brought(step, sink)?;
+        if matches!(step.input, Input::Tick) {
+            let asked = run.ask(alloc, &steps[..place])?;
+            *words = Vec::from_slice(alloc, asked.words())?;
+        }
+        Ok(run)
+    }
+}
+
+/// Plays rows on a buffer and a timer, and gives the words of the last tick.
+fn play(alloc: Global, setting: &Setting, rows: &[Row]) -> Result<Vec<AskWord>, Fail> {
+    let steps = fit(alloc, rows)?;
+    let mut run = Run::begin(alloc, setting)?;
+    let mut sink = Store8::with(alloc, 64, &[])?;
+    let mut words = Vec::new(alloc);
+    for place in 0..steps.len() {
+        run = run.behind(alloc, steps.as_slice(), place, &mut sink, &mut words)?;
     }
     Ok(words)
 }
 
-/// A span of 8, a delay of one second, a tolerance of 25 ms and at least 50 ms between two requests.
-fn usual(nack: NackKind, tries: u64) -> Setting
-    requires { tries ≤ 32 }
-    ensures span { result.span ≡ 8 }
-    ensures delay { result.delay_ms ≡ 1000 }
-    ensures restart { result.restart_ms ≡ 2000 }
-    ensures settings { IsInRange result.settings }
-{
+/// A span of 8, a delay of one second, a tolerance of 25 ms and at least 50 ms between two requests, of which there are
+/// eight for one packet.
+const USUAL: Setting = Setting {
+    span: 8,
+    delay_ms: 1000,
+    restart_ms: 2000,
+    settings: Settings {
+        reorder: 25,
+        least: 50,
+        tries: 8,
+        nack: NackKind::Range,
+    },
+};
+
+/// The usual one with so many requests for one packet.
+fn with_tries(tries: u64) -> Setting {
     Setting {
-        span: 8,
-        delay_ms: 1000,
-        restart_ms: 2000,
         settings: Settings {
-            reorder: 25,
-            least: 50,
             tries,
-            nack,
+            ..USUAL.settings
         },
+        ..USUAL
     }
 }
 
-/// A packet of 16 bits on link 0, without a payload.
-fn comes(tick: u64, word: u32, stamp: u32) -> Step<'static> {
-    comes_of(0x1020_3040, tick, word, stamp)
-}
-
-/// The same of a flow.
-fn comes_of(flow: u32, tick: u64, word: u32, stamp: u32) -> Step<'static> {
-    let arrival = Arrival {
-        flow,
-        again: false,
-        width: Width::W16,
-        word,
-        stamp,
-        payload: &[],
-    };
-    Step {
-        link: 0,
-        tick,
-        input: Input::Media(arrival),
+/// The usual one with a span, and with masks or ranges.
+fn with_span(span: u64, nack: NackKind) -> Setting {
+    Setting {
+        span,
+        settings: Settings {
+            nack,
+            ..USUAL.settings
+        },
+        ..USUAL
     }
 }
 
-/// Number n of a flow, 10 ms after the one before it.
-fn packet(tick: u64, n: u32) -> Step<'static>
-    requires { (10 ≤ n) × (n < 2 ^ 16) }
-{
-    comes(tick, n, 900 * (n - 10))
-}
-
-/// Something else than a packet, on a link.
-fn other(link: u64, tick: u64, input: Input<'static>) -> Step<'static> {
-    Step { link, tick, input }
-}
-
-fn clock(tick: u64) -> Step<'static> {
-    other(1, tick, Input::Tick)
-}
+/// Where the numbers of the first cycle begin.
+const FIRST_CYCLE: u64 = 1 << 40;
 
 /// A word of a request for a number of the first cycle.
-fn word(n: u64, second: u16) -> AskWord
-    requires { n < 2 ^ 32 }
-{
+fn word(n: u64, second: u16) -> AskWord {
     AskWord {
-        first: (1 << 40) + n,
+        first: FIRST_CYCLE.wrapping_add(n),
         second,
     }
 }
 
-/// Whether a run asks in the end by these words.
-fn asks(
+/// Numbers of the first cycle and the second halves of their words.
+type Words = &'static [(u64, u16)];
+
+/// A run asks in the end by these words.
+fn expect_asked(
     alloc: Global,
     setting: &Setting,
-    steps: &[Step<'_>],
-    want: &[AskWord],
-) -> Result<bool, Fail>
-    requires span { (1 ≤ setting.now.span) × (setting.now.span ≤ 16384) }
-    requires delay { (1 ≤ setting.now.delay_ms) × (setting.now.delay_ms ≤ 30000) }
-    requires restart { setting.now.restart_ms ≤ 60000 }
-    requires settings { IsInRange setting.now.settings }
-{
-    let words = play(alloc, setting, steps)?;
-    Ok(words.as_slice() == want)
+    rows: &[Row],
+    want: &[(u64, u16)],
+) -> Result<(), Fail> {
+    let mut words = Vec::new(alloc);
+    for (n, second) in want {
+        words.push(word(*n, *second))?;
+    }
+    let asked = play(alloc, setting, rows)?;
+    expect(asked.as_slice() == words.as_slice(), "other words")
 }
+
+fn expect_all(alloc: Global, setting: &Setting, runs: &[(&[Row], Words)]) -> Result<(), Fail> {
+    for (rows, want) in runs {
+        expect_asked(alloc, setting, rows, want)?;
+    }
+    Ok(())
+}
+
+const TEN: Row = Row::Packet(0, 10);
+
+const FIFTEEN: Row = Row::Packet(100, 15);
+
+const FIRST: Row = Row::Tick(1, 2350);
+
+const SECOND: Row = Row::Tick(1, 6850);
+
+static RANGES: [(&[Row], Words); 4] = [
+    (&[TEN, FIFTEEN, Row::Tick(1, 2349)], &[]),
+    (&[TEN, FIFTEEN, Row::Tick(1, 2349), FIRST], &[(11, 3)]),
+    (&[TEN, FIFTEEN, FIRST, Row::Tick(1, 6849)], &[]),
+    (&[TEN, FIFTEEN, FIRST, SECOND], &[(11, 3)]),
+];
+
+static MASKS: [(&[Row], Words); 4] = [
+    (&[TEN, FIFTEEN, Row::Tick(1, 2349)], &[]),
+    (&[TEN, FIFTEEN, Row::Tick(1, 2349), FIRST], &[(11, 7)]),
+    (&[TEN, FIFTEEN, FIRST, Row::Tick(1, 6849)], &[]),
+    (&[TEN, FIFTEEN, FIRST, SECOND], &[(11, 7)]),
+];
 
 #[test]
 fn a_gap_is_asked_for_after_the_tolerance_and_again_after_the_interval(
     rt: HostRuntime,
 ) -> Result<(), Fail> {
-    let alloc = rt.alloc();
-    for (nack, second) in [(NackKind::Range, 3), (NackKind::Mask, 7)] {
-        let usual = usual(nack, 8);
-        let (ten, fifteen) = (packet(0, 10), packet(100, 15));
-        let (early, first) = (clock(2349), clock(2350));
-        let want = [word(11, second)];
-        assert!(rt; asks(alloc, &usual, &[ten, fifteen, early], &[])?);
-        assert!(rt; asks(alloc, &usual, &[ten, fifteen, early, first], &want)?);
-        assert!(rt; asks(alloc, &usual, &[ten, fifteen, first, clock(6849)], &[])?);
-        assert!(rt; asks(alloc, &usual, &[ten, fifteen, first, clock(6850)], &want)?);
-    }
-    Ok(())
+    expect_all(rt.alloc(), &USUAL, &RANGES)?;
+    expect_all(rt.alloc(), &with_span(8, NackKind::Mask), &MASKS)
 }
+
+const THIRD: Row = Row::Tick(1, 80_000);
+
+// Each packet is asked for twice at most.
+static TWICE: [(&[Row], Words); 2] = [
+    (&[TEN, FIFTEEN, FIRST, SECOND], &[(11, 3)]),
+    (&[TEN, FIFTEEN, FIRST, SECOND, THIRD], &[]),
+];
+
+// A round-trip time of 100 ms.
+const SAMPLE: Row = Row::Sample(15, 0, 100_000);
+
+static WAITING: [(&[Row], Words); 7] = [
+    (&[TEN, FIFTEEN, FIRST, SECOND, THIRD], &[(11, 3)]),
+    // 13 comes between two asks; a higher gap has a time of its own.
+    (
+        &[TEN, FIFTEEN, FIRST, Row::Packet(5000, 13), SECOND],
+        &[(11, 1), (14, 0)],
+    ),
+    (
+        &[
+            TEN,
+            FIFTEEN,
+            FIRST,
+            Row::Packet(3000, 17),
+            Row::Tick(1, 5250),
+        ],
+        &[(16, 0)],
+    ),
+    (
+        &[
+            TEN,
+            FIFTEEN,
+            FIRST,
+            Row::Packet(3000, 17),
+            Row::Tick(1, 5250),
+            SECOND,
+        ],
+        &[(11, 3)],
+    ),
+    // The round-trip time holds the second request back.
+    (&[SAMPLE, TEN, FIFTEEN, FIRST, Row::Tick(1, 11_349)], &[]),
+    (
+        &[SAMPLE, TEN, FIFTEEN, FIRST, Row::Tick(1, 11_350)],
+        &[(11, 3)],
+    ),
+    // A tick that was not answered asks for nothing.
+    (
+        &[TEN, FIFTEEN, Row::Other(1, 2350), Row::Tick(1, 2351)],
+        &[(11, 3)],
+    ),
+];
 
 #[test]
 fn what_has_come_or_was_asked_for_waits_or_is_left_out(rt: HostRuntime) -> Result<(), Fail> {
-    let alloc = rt.alloc();
-    let (usual, twice) = (usual(NackKind::Range, 8), usual(NackKind::Range, 2));
-    let (ten, fifteen, once) = (packet(0, 10), packet(100, 15), clock(2350));
-    let (again, third) = (clock(6850), clock(80_000));
-    let all = [word(11, 3)];
-    assert!(rt; asks(alloc, &twice, &[ten, fifteen, once, again], &all)?);
-    assert!(rt; asks(alloc, &twice, &[ten, fifteen, once, again, third], &[])?);
-    assert!(rt; asks(alloc, &usual, &[ten, fifteen, once, again, third], &all)?);
-    // 13 comes between two asks; a higher gap has a time of its own.
-    let rest = [word(11, 1), word(14, 0)];
-    assert!(rt;
-        asks(
-            alloc,
-            &usual,
-            &[ten, fifteen, once, packet(5000, 13), again],
-            &rest
-        )?
-    );
-    let higher = [ten, fifteen, once, packet(3000, 17), clock(5250), again];
-    assert!(rt; asks(alloc, &usual, &higher[..5], &[word(16, 0)])?);
-    assert!(rt; asks(alloc, &usual, &higher, &all)?);
-    // A round-trip time of 100 ms holds the second request back.
-    let sample = other(15, 0, Input::Control(Some(100_000)));
-    assert!(rt;
-        asks(
-            alloc,
-            &usual,
-            &[sample, ten, fifteen, once, clock(11_349)],
-            &[]
-        )?
-    );
-    assert!(rt;
-        asks(
-            alloc,
-            &usual,
-            &[sample, ten, fifteen, once, clock(11_350)],
-            &all
-        )?
-    );
-    // A tick that was not answered asks for nothing.
-    let unanswered = other(1, 2350, Input::Other);
-    assert!(rt;
-        asks(
-            alloc,
-            &usual,
-            &[ten, fifteen, unanswered, clock(2351)],
-            &all
-        )?
-    );
-    Ok(())
+    expect_all(rt.alloc(), &with_tries(2), &TWICE)?;
+    expect_all(rt.alloc(), &USUAL, &WAITING)
 }
+
+static BETWEEN: [(&[Row], Words); 3] = [
+    (
+        &[
+            Row::Comes(FLOW, 0, 10, 5400),
+            Row::Comes(FLOW, 0, 7, 2700),
+            Row::Comes(FLOW, 100, 12, 7200),
+            FIRST,
+        ],
+        &[(11, 0)],
+    ),
+    (
+        &[
+            TEN,
+            Row::Packet(0, 12),
+            Row::Packet(0, 14),
+            Row::Tick(1, 91_800),
+        ],
+        &[(13, 0)],
+    ),
+    (
+        &[TEN, Row::Packet(90_000, 30), Row::Tick(1, 92_250)],
+        &[(23, 6)],
+    ),
+];
+
+// A run across 65,536.
+static ACROSS: [Row; 3] = [
+    Row::Comes(FLOW, 0, 65_530, 0),
+    Row::Comes(FLOW, 0, 4, 900),
+    Row::Tick(1, 2250),
+];
 
 #[test]
 fn only_what_lies_between_is_looked_for(rt: HostRuntime) -> Result<(), Fail> {
-    let alloc = rt.alloc();
-    let (usual, mask) = (usual(NackKind::Range, 8), usual(NackKind::Mask, 8));
-    let below = [
-        comes(0, 10, 5400),
-        comes(0, 7, 2700),
-        comes(100, 12, 7200),
-        clock(2350),
-    ];
-    assert!(rt; asks(alloc, &usual, &below, &[word(11, 0)])?);
-    let out = [packet(0, 10), packet(0, 12), packet(0, 14), clock(91_800)];
-    assert!(rt; asks(alloc, &usual, &out, &[word(13, 0)])?);
-    let far = [packet(0, 10), packet(90_000, 30), clock(92_250)];
-    assert!(rt; asks(alloc, &usual, &far, &[word(23, 6)])?);
-    // A run across 65,536 stays one word.
-    let (wide, masked) = (Setting { span: 16, ..usual }, Setting { span: 16, ..mask });
-    let across = [comes(0, 65_530, 0), comes(0, 4, 900), clock(2250)];
-    assert!(rt; asks(alloc, &wide, &across, &[word(65_531, 8)])?);
-    assert!(rt; asks(alloc, &masked, &across, &[word(65_531, 255)])?);
-    Ok(())
+    expect_all(rt.alloc(), &USUAL, &BETWEEN)?;
+    // It stays one word.
+    let (range, mask) = (
+        with_span(16, NackKind::Range),
+        with_span(16, NackKind::Mask),
+    );
+    expect_asked(rt.alloc(), &range, &ACROSS, &[(65_531, 8)])?;
+    expect_asked(rt.alloc(), &mask, &ACROSS, &[(65_531, 255)])
 }
+
+// 11 to 14 are asked for, and two seconds after 15 another flow begins with 12.
+const BEGINS: Row = Row::Comes(OTHER_FLOW, 180_100, 12, 900);
+
+const GOES_ON: Row = Row::Comes(OTHER_FLOW, 180_200, 15, 3600);
+
+static ANEW: [(&[Row], Words); 3] = [
+    (&[TEN, FIFTEEN, FIRST, BEGINS, Row::Tick(1, 190_000)], &[]),
+    (
+        &[TEN, FIFTEEN, FIRST, BEGINS, GOES_ON, Row::Tick(1, 182_449)],
+        &[],
+    ),
+    (
+        &[
+            TEN,
+            FIFTEEN,
+            FIRST,
+            BEGINS,
+            GOES_ON,
+            Row::Tick(1, 182_449),
+            Row::Tick(1, 182_450),
+        ],
+        &[(13, 1)],
+    ),
+];
 
 #[test]
 fn a_new_epoch_asks_for_its_own_numbers(rt: HostRuntime) -> Result<(), Fail> {
-    let alloc = rt.alloc();
-    let once = usual(NackKind::Range, 1);
-    // 11 to 14 are asked for, and two seconds after 15 another flow begins with 12.
-    let (ten, fifteen, first) = (packet(0, 10), packet(100, 15), clock(2350));
-    let begins = comes_of(0x2030_4050, 180_100, 12, 900);
-    let goes_on = comes_of(0x2030_4050, 180_200, 15, 3600);
-    let (early, then) = (clock(182_449), clock(182_450));
-    assert!(rt;
-        asks(
-            alloc,
-            &once,
-            &[ten, fifteen, first, begins, clock(190_000)],
-            &[]
-        )?
-    );
-    let anew = [ten, fifteen, first, begins, goes_on, early, then];
-    assert!(rt; asks(alloc, &once, &anew[..6], &[])?);
-    assert!(rt; asks(alloc, &once, &anew, &[word(13, 1)])?);
-    Ok(())
+    expect_all(rt.alloc(), &with_tries(1), &ANEW)
 }
 
-/// Every second number from 10 on, with 66 gaps between them, and so many ticks.
-fn every_second(alloc: Global, ticks: u64) -> Result<Vec<Step<'static>>, AllocError>
-    requires { ticks ≤ 10 }
-{
-    let mut steps = Vec::new(alloc);
+/// A number of every second.
+fn second(place: u32) -> Row {
+    let n = place.wrapping_mul(2).wrapping_add(10);
+    Row::Comes(FLOW, 0, n, place)
+}
+
+/// Every second number from 10 on, with 66 gaps between them, and these ticks.
+fn every_second(alloc: Global, ticks: &[Row]) -> Result<Vec<Row>, AllocError> {
+    let mut rows = Vec::new(alloc);
     for place in 0..67_u32 {
-        steps.push(comes(0, 10 + 2 * place, place))?;
+        rows.push(second(place))?;
     }
-    for tick in 0..ticks {
-        steps.push(clock(2250 + tick))?;
-    }
-    Ok(steps)
+    rows.extend_from_slice(ticks)?;
+    Ok(rows)
+}
+
+static TICKS: [Row; 2] = [Row::Tick(1, 2250), Row::Tick(1, 2251)];
+
+/// The words that ask at the first tick, in a span of 256.
+fn words_of_one_tick(alloc: Global, nack: NackKind) -> Result<Vec<AskWord>, Fail> {
+    let rows = every_second(alloc, &TICKS[..1])?;
+    play(alloc, &with_span(256, nack), rows.as_slice())
 }
 
 #[test]
 fn at_most_64_words_ask_and_the_next_tick_asks_for_the_rest(rt: HostRuntime) -> Result<(), Fail> {
     let alloc = rt.alloc();
-    let (once, twice) = (every_second(alloc, 1)?, every_second(alloc, 2)?);
-    let (range, mask) = (usual(NackKind::Range, 8), usual(NackKind::Mask, 8));
-    let (range, mask) = (
-        Setting { span: 256, ..range },
-        Setting { span: 256, ..mask },
-    );
-    let first = play(alloc, &range, once.as_slice())?;
+    let first = words_of_one_tick(alloc, NackKind::Range)?;
     assert!(rt; first.len() == 64);
     assert!(rt; first.as_slice().last().copied() == Some(word(137, 0)));
-    assert!(rt;
-        asks(
-            alloc,
-            &range,
-            twice.as_slice(),
-            &[word(139, 0), word(141, 0)]
-        )?
-    );
-    let masks = play(alloc, &mask, once.as_slice())?;
+    let twice = every_second(alloc, &TICKS)?;
+    let range = with_span(256, NackKind::Range);
+    expect_asked(alloc, &range, twice.as_slice(), &[(139, 0), (141, 0)])?;
+    let masks = words_of_one_tick(alloc, NackKind::Mask)?;
     assert!(rt; masks.len() == 8);
     assert!(rt; masks.as_slice().first().copied() == Some(word(11, 0xaaaa)));
     Ok(())
@@ -453,67 +606,74 @@ fn next(seed: u32) -> u32 {
     seed.wrapping_mul(1_664_525).wrapping_add(1_013_904_223)
 }
 
-/// A step that a row of numbers gives: packets near their time and out of order, ticks, samples, and others. In the middle
+/// A row that a row of numbers gives: packets near their time and out of order, ticks, samples, and others. In the middle
 /// comes a pause, after which most packets are another flow's.
-fn made(seed: u32, place: u32) -> Step<'static>
+fn made(seed: u32, place: u32) -> Row
     requires { place < 2 ^ 10 }
 {
     let number = place / 2 + (seed >> 8) % 6;
     let pause = if place > 11 { 20_000 } else { 0 };
     let tick = u64::from(place * 600 + (seed >> 16) % 1500 + pause);
     let is_other = (place > 11) != (seed % 8 == 0);
-    let flow = if is_other { 0x2030_4050 } else { 0x1020_3040 };
+    let flow = if is_other { OTHER_FLOW } else { FLOW };
     let first = if is_other { 65_520 } else { 65_530 };
     match seed >> 28 {
-        0..=8 => comes_of(flow, tick, (first + number) % 65_536, 1200 * number),
-        9..=13 => other(u64::from(seed >> 4) % 3, tick, Input::Tick),
-        14 => {
-            let sample = u64::from(seed >> 4) % 60_000;
-            other(
-                u64::from(seed >> 20) % 3,
-                tick,
-                Input::Control(Some(sample)),
-            )
-        }
-        _ => other(0, tick, Input::Other),
+        0..=8 => Row::Comes(flow, tick, (first + number) % 65_536, 1200 * number),
+        9..=13 => Row::Tick(u64::from(seed >> 4) % 3, tick),
+        14 => Row::Sample(
+            u64::from(seed >> 20) % 3,
+            tick,
+            u64::from(seed >> 4) % 60_000,
+        ),
+        _ => Row::Other(0, tick),
     }
 }
 
-/// So many made steps, and a tick after them.
-fn made_run(alloc: Global, case: u32) -> Result<Vec<Step<'static>>, AllocError> {
+/// So many made rows, and a tick after them.
+fn made_run(alloc: Global, case: u32) -> Result<Vec<Row>, AllocError> {
     let mut seed = case;
-    let mut steps = Vec::new(alloc);
+    let mut rows = Vec::new(alloc);
     for place in 0..24_u32 {
         seed = next(seed);
-        steps.push(made(seed, place))?;
+        rows.push(made(seed, place))?;
     }
-    steps.push(clock(38_000))?;
-    Ok(steps)
+    rows.push(Row::Tick(1, 38_000))?;
+    Ok(rows)
+}
+
+/// The setting of a case.
+fn made_setting(case: u32) -> Setting {
+    let nack = if case % 2 == 0 {
+        NackKind::Range
+    } else {
+        NackKind::Mask
+    };
+    let case = u64::from(case);
+    Setting {
+        span: 4 + case % 13,
+        delay_ms: 100,
+        restart_ms: case / 2 % 3 * 100,
+        settings: Settings {
+            reorder: case % 3 * 10,
+            least: 20,
+            tries: case % 4,
+            nack,
+        },
+    }
+}
+
+/// Whether a made run asks in the end.
+fn does_ask(alloc: Global, case: u32) -> Result<bool, Fail> {
+    let rows = made_run(alloc, case)?;
+    let words = play(alloc, &made_setting(case), rows.as_slice())?;
+    Ok(!words.is_empty())
 }
 
 #[test]
 fn generated_runs_agree_with_the_plain_program(rt: HostRuntime) -> Result<(), Fail> {
     let mut asking: u32 = 0;
     for case in 0..2000_u32 {
-        let nack = if case % 2 == 0 {
-            NackKind::Range
-        } else {
-            NackKind::Mask
-        };
-        let setting = Setting {
-            span: 4 + u64::from(case) % 13,
-            delay_ms: 100,
-            restart_ms: u64::from(case) / 2 % 3 * 100,
-            settings: Settings {
-                reorder: u64::from(case) % 3 * 10,
-                least: 20,
-                tries: u64::from(case) % 4,
-                nack,
-            },
-        };
-        let steps = made_run(rt.alloc(), case)?;
-        let words = play(rt.alloc(), &setting, steps.as_slice())?;
-        asking = asking.saturating_add(u32::from(!words.is_empty()));
+        asking = asking.saturating_add(u32::from(does_ask(rt.alloc(), case)?));
     }
     assert!(rt; asking > 500, "{asking} runs ask in the end");
     Ok(())

@@ -3,5 +3,5 @@ use Rattle.std.specs.List.{All}
 use Rattle.request_plain.specs.Told.{IsFit}
 use Rattle.end_rows.proofs.timer.fit.Given as goal
 
-abbrev pub invariant-loop-step : goal.invariant-loop-step
-invariant-loop-step l = All IsFit l.fit.items
+abbrev pub invariant-loop-row : goal.invariant-loop-row
+invariant-loop-row l = All IsFit l.fit.items
