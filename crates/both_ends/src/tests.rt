@@ -1,6 +1,6 @@
 //! What a sender sends comes out at a receiver, though some of it is lost, the rest comes in another order, and one
 //! flow follows another.
-ghost use Rattle.std.specs.Prelude.{◌≡◌, ◌≤◌, ◌<◌, length, is_some, vec_len};
+ghost use Rattle.std.specs.Prelude.{◌≡◌, ◌≤◌, length, is_some, vec_len, IfOk};
 ghost use Rattle.sender_rules.specs.Bonding.{link_count};
 ghost use Rattle.rist_wire.specs.Session.{IsSession};
 
@@ -39,50 +39,76 @@ struct Far {
     sink: Store8,
 }
 
-fn session(pass: Option<Phrase>, width: Width) -> Session
+/// How two ends meet.
+#[derive(Clone, Copy)]
+struct Meeting {
+    is_secret: bool,
+    width: Width,
+    nack: NackKind,
+}
+
+/// The passphrase of ends that meet in secret.
+fn pass(is_secret: bool) -> Option<Phrase>
+    ensures { is_some result ≡ is_secret }
+{
+    if is_secret {
+        Some(Phrase::of(b"secret"))
+    } else {
+        None
+    }
+}
+
+fn session(meeting: Meeting) -> Session
     ensures session { IsSession result }
-    ensures pass { result.pass ≡ pass }
+    ensures pass { is_some result.pass ≡ meeting.is_secret }
 {
     Session {
         profile: Profile::Main,
         port: 1968,
-        pass,
+        pass: pass(meeting.is_secret),
         bits: 128,
         nulls: true,
-        width,
+        width: meeting.width,
         full: false,
     }
 }
 
-/// A sealer whose nonces begin with this one.
-fn sealer(alloc: Global, first: u32) -> Result<Sealer, Fail> {
+/// A sealer whose nonces begin with this one, where the ends meet in secret.
+fn sealer(alloc: Global, meeting: Meeting, first: u32) -> Result<Option<Sealer>, Fail>
+    ensures { IfOk result (λ sealer. is_some sealer ≡ meeting.is_secret) }
+{
+    if !meeting.is_secret {
+        return Ok(None);
+    }
     match Sealer::with(&mut Words::with(alloc, &[first; 16], &[])?) {
-        Ok(sealer) => Ok(sealer),
+        Ok(sealer) => Ok(Some(sealer)),
         Err(_) => Err(Fail::new("no nonces")),
     }
 }
 
+/// Copies a datagram to the front of a block.
+fn copied<'a>(block: &'a mut [u8; 2048], octets: &[u8]) -> Result<&'a mut [u8], Fail> {
+    let front = block.get_mut(..octets.len()).ok_or("too long")?;
+    front.copy_from_slice(octets);
+    Ok(front)
+}
+
 impl Near {
-    fn with(
-        alloc: Global,
-        session: &Session,
-        sealer: Option<Sealer>,
-        first: u32,
-    ) -> Result<Near, Fail>
-        requires session { IsSession session.now }
-        requires paired { is_some sealer ≡ is_some session.now.pass }
-    {
+    /// A sender of numbers from 65,536 on.
+    fn with(alloc: Global, meeting: Meeting) -> Result<Near, Fail> {
         let settings = Settings {
             flow: FLOW,
-            first,
+            first: 65_536,
             store: 32,
             hold: 20,
             bond: Bond::duplicate(1),
         };
-        let sender = Sender::with(alloc, settings, session, sealer)?;
+        let session = session(meeting);
+        let sealer = sealer(alloc, meeting, 1)?;
+        let sender = Sender::with(alloc, settings, &session, sealer)?;
         let mut links = Vec::new(alloc);
         links.push(ScriptLink::with(alloc, Vec::new(alloc), true, 64, &[], &[])?)?;
-        let opener = Opener::with(alloc, session)?;
+        let opener = Opener::with(alloc, &session)?;
         Ok(Near {
             opener,
             sender,
@@ -99,6 +125,16 @@ impl Near {
         }
     }
 
+    /// Sends each letter, so long after the one before it.
+    fn send_each(&mut self, us: u64, apart: u64, letters: &[u8]) -> Result<(), Fail> {
+        let mut us = us;
+        for letter in letters {
+            self.send(us, &[*letter])?;
+            us = us.wrapping_add(apart);
+        }
+        Ok(())
+    }
+
     /// The next flow begins, at number 7.
     fn renew(&mut self) {
         self.sender.renew(NEXT_FLOW, 7);
@@ -106,13 +142,9 @@ impl Near {
 
     /// How many packets are sent again for a datagram that came back.
     fn feedback(&mut self, us: u64, channel: Channel, octets: &[u8]) -> Result<u32, Fail> {
-        let mut datagram = [0; 2048];
-        if octets.len() > 2048 {
-            return Err(Fail::new("too long"));
-        }
-        datagram[..octets.len()].copy_from_slice(octets);
-        let item = self.opener.take(channel, &mut datagram[..octets.len()]);
-        let Ok(Item::Control(compound)) = item else {
+        let mut block = [0; 2048];
+        let Ok(Item::Control(compound)) = self.opener.take(channel, copied(&mut block, octets)?)
+        else {
             return Err(Fail::new("no compound"));
         };
         match self.sender.feedback(us, 0, &compound, &mut self.links) {
@@ -120,18 +152,15 @@ impl Near {
             Err(_) => Err(Fail::new("not answered")),
         }
     }
+
+    /// The datagram at a place of those that its link took.
+    fn taken(&self, place: usize) -> Option<(Channel, &[u8])> {
+        self.links[0].taken(place)
+    }
 }
 
 impl Far {
-    fn with(
-        alloc: Global,
-        session: &Session,
-        sealer: Option<Sealer>,
-        nack: NackKind,
-    ) -> Result<Far, Fail>
-        requires session { IsSession session.now }
-        requires paired { is_some sealer ≡ is_some session.now.pass }
-    {
+    fn with(alloc: Global, meeting: Meeting) -> Result<Far, Fail> {
         let settings = rist_ends::Settings {
             delay: 1000,
             restart: 500,
@@ -140,13 +169,15 @@ impl Far {
             reorder: 25,
             least: 50,
             tries: 8,
-            nack,
+            nack: meeting.nack,
             own: 7,
             muted: false,
         };
+        let session = session(meeting);
+        let sealer = sealer(alloc, meeting, 100)?;
         Ok(Far {
-            opener: Opener::with(alloc, session)?,
-            receiver: Receiver::with(alloc, &settings, session, sealer)?,
+            opener: Opener::with(alloc, &session)?,
+            receiver: Receiver::with(alloc, &settings, &session, sealer)?,
             sink: Store8::with(alloc, 256, &[])?,
         })
     }
@@ -154,12 +185,8 @@ impl Far {
     /// A datagram comes.
     fn take(&mut self, us: u64, channel: Channel, octets: &[u8]) -> Result<(), Fail> {
         let mut datagram = [0; 2048];
-        if octets.len() > 2048 {
-            return Err(Fail::new("too long"));
-        }
-        datagram[..octets.len()].copy_from_slice(octets);
         let mut block = [0; 1500];
-        let item = self.opener.take(channel, &mut datagram[..octets.len()]);
+        let item = self.opener.take(channel, copied(&mut datagram, octets)?);
         let told = Told {
             link: 0,
             us,
@@ -193,97 +220,130 @@ impl Far {
     }
 }
 
-/// Six payloads are sent, the second and the fifth are lost, and the others come in another order. The receiver asks for
-/// what is missing, and what comes back comes in another order too. Whether all come out in order.
-fn recovers(
-    alloc: Global,
-    session: &Session,
-    sealers: (Option<Sealer>, Option<Sealer>),
-    nack: NackKind,
-) -> Result<bool, Fail>
-    requires session { IsSession session.now }
-    requires sending { is_some sealers.0 ≡ is_some session.now.pass }
-    requires receiving { is_some sealers.1 ≡ is_some session.now.pass }
-{
-    let mut near = Near::with(alloc, session, sealers.0, 65_536)?;
-    let mut far = Far::with(alloc, session, sealers.1, nack)?;
-    for (at, letter) in b"ABCDEF".iter().enumerate() {
-        near.send(1_000 * at as u64, &[*letter])?;
-    }
-    for place in [0, 3, 2, 5] {
-        let (channel, octets) = near.links[0].taken(place).ok_or("a datagram")?;
-        far.take(30_000, channel, octets)?;
-    }
-    let outs = far.tick(60_000)?;
-    let count = near.feedback(70_000, outs.first.channel(), outs.first.octets())?;
-    // The answer to the receiver's RTT request, and two retransmissions.
-    for place in [8, 7, 6] {
-        let (channel, octets) = near.links[0].taken(place).ok_or("what came back")?;
-        far.take(80_000, channel, octets)?;
-    }
-    far.end();
-    Ok(count == 2 && near.links[0].taken(9).is_none() && far.sink.octets() == b"ABCDEF".as_slice())
+/// What happens between two ends. A moment is in microseconds.
+#[derive(Clone, Copy)]
+enum Row {
+    /// From a moment on each letter is sent, so long after the one before it.
+    Sends(u64, u64, &'static [u8]),
+    /// The next flow begins.
+    Renews,
+    /// The datagrams at these places come at a moment.
+    Come(u64, &'static [usize]),
+    /// What a tick at a moment sends back comes at another, and so many packets are sent again for it.
+    Asks(u64, u64, u32),
+    /// The receiver ends. There were so many datagrams, and these octets come out.
+    Ends(usize, &'static [u8]),
 }
+
+/// This holds, or else the test fails with a text.
+fn expect(holds: bool, text: &str) -> Result<(), Fail> {
+    if holds { Ok(()) } else { Err(Fail::new(text)) }
+}
+
+/// The datagram at a place comes at a moment.
+fn come_one(near: &Near, far: &mut Far, us: u64, place: usize) -> Result<(), Fail> {
+    match near.taken(place) {
+        Some((channel, octets)) => far.take(us, channel, octets),
+        None => Err(Fail::new("no datagram")),
+    }
+}
+
+fn come(near: &Near, far: &mut Far, us: u64, places: &[usize]) -> Result<(), Fail> {
+    for place in places {
+        come_one(near, far, us, *place)?;
+    }
+    Ok(())
+}
+
+fn ask(near: &mut Near, far: &mut Far, us: u64, then: u64, want: u32) -> Result<(), Fail> {
+    let outs = far.tick(us)?;
+    let count = near.feedback(then, outs.first.channel(), outs.first.octets())?;
+    expect(count == want, "other retransmissions")
+}
+
+fn end(near: &Near, far: &mut Far, count: usize, want: &[u8]) -> Result<(), Fail> {
+    far.end();
+    expect(near.taken(count).is_none(), "more datagrams")?;
+    expect(far.sink.octets() == want, "other octets")
+}
+
+fn step(near: &mut Near, far: &mut Far, row: &Row) -> Result<(), Fail> {
+    match *row {
+        Row::Sends(us, apart, letters) => near.send_each(us, apart, letters),
+        Row::Renews => {
+            near.renew();
+            Ok(())
+        }
+        Row::Come(us, places) => come(near, far, us, places),
+        Row::Asks(us, then, count) => ask(near, far, us, then, count),
+        Row::Ends(count, octets) => end(near, far, count, octets),
+    }
+}
+
+/// All this happens between two ends that meet so.
+fn happens(alloc: Global, meeting: Meeting, rows: &[Row]) -> Result<(), Fail> {
+    let mut near = Near::with(alloc, meeting)?;
+    let mut far = Far::with(alloc, meeting)?;
+    for row in rows {
+        step(&mut near, &mut far, row)?;
+    }
+    Ok(())
+}
+
+fn clear(width: Width, nack: NackKind) -> Meeting {
+    Meeting {
+        is_secret: false,
+        width,
+        nack,
+    }
+}
+
+fn secret(width: Width, nack: NackKind) -> Meeting {
+    Meeting {
+        is_secret: true,
+        width,
+        nack,
+    }
+}
+
+// Six payloads are sent, the second and the fifth are lost, and the others come in another order. The receiver asks for
+// what is missing, and what comes back comes in another order too.
+static RECOVERING: [Row; 5] = [
+    Row::Sends(0, 1_000, b"ABCDEF"),
+    Row::Come(30_000, &[0, 3, 2, 5]),
+    Row::Asks(60_000, 70_000, 2),
+    // The answer to the receiver's RTT request, and two retransmissions.
+    Row::Come(80_000, &[8, 7, 6]),
+    Row::Ends(9, b"ABCDEF"),
+];
 
 #[test]
 fn in_clear_all_payloads_come_out(rt: HostRuntime) -> Result<(), Fail> {
-    let short = session(None, Width::W16);
-    assert!(rt; recovers(rt.alloc(), &short, (None, None), NackKind::Range)?);
-    let long = session(None, Width::W32);
-    assert!(rt; recovers(rt.alloc(), &long, (None, None), NackKind::Mask)?);
-    Ok(())
+    happens(rt.alloc(), clear(Width::W16, NackKind::Range), &RECOVERING)?;
+    happens(rt.alloc(), clear(Width::W32, NackKind::Mask), &RECOVERING)
 }
 
 #[test]
 fn enciphered_all_payloads_come_out(rt: HostRuntime) -> Result<(), Fail> {
-    let alloc = rt.alloc();
-    let short = session(Some(Phrase::of(b"secret")), Width::W16);
-    let sealers = (Some(sealer(alloc, 1)?), Some(sealer(alloc, 100)?));
-    assert!(rt; recovers(alloc, &short, sealers, NackKind::Mask)?);
-    let long = session(Some(Phrase::of(b"secret")), Width::W32);
-    let sealers = (Some(sealer(alloc, 1)?), Some(sealer(alloc, 100)?));
-    assert!(rt; recovers(alloc, &long, sealers, NackKind::Range)?);
-    Ok(())
+    happens(rt.alloc(), secret(Width::W16, NackKind::Mask), &RECOVERING)?;
+    happens(rt.alloc(), secret(Width::W32, NackKind::Range), &RECOVERING)
 }
 
-/// Two payloads are sent, and two seconds later three of another flow, of which the second is lost and asked for.
-/// Whether those of one flow come out behind those of the other.
-fn restarts(
-    alloc: Global,
-    session: &Session,
-    sealers: (Option<Sealer>, Option<Sealer>),
-) -> Result<bool, Fail>
-    requires session { IsSession session.now }
-    requires sending { is_some sealers.0 ≡ is_some session.now.pass }
-    requires receiving { is_some sealers.1 ≡ is_some session.now.pass }
-{
-    let mut near = Near::with(alloc, session, sealers.0, 65_536)?;
-    let mut far = Far::with(alloc, session, sealers.1, NackKind::Range)?;
-    for letter in b"AB" {
-        near.send(0, &[*letter])?;
-    }
-    near.renew();
-    for letter in b"CDE" {
-        near.send(2_000_000, &[*letter])?;
-    }
-    for (place, us) in [(0, 30_000), (1, 30_000), (2, 2_030_000), (4, 2_030_000)] {
-        let (channel, octets) = near.links[0].taken(place).ok_or("a datagram")?;
-        far.take(us, channel, octets)?;
-    }
-    let outs = far.tick(2_060_000)?;
-    let count = near.feedback(2_070_000, outs.first.channel(), outs.first.octets())?;
+// Two payloads are sent, and two seconds later three of another flow, of which the second is lost and asked for. Those
+// of one flow come out behind those of the other.
+static RESTARTING: [Row; 8] = [
+    Row::Sends(0, 0, b"AB"),
+    Row::Renews,
+    Row::Sends(2_000_000, 0, b"CDE"),
+    Row::Come(30_000, &[0, 1]),
+    Row::Come(2_030_000, &[2, 4]),
+    Row::Asks(2_060_000, 2_070_000, 1),
     // Behind the answer to the receiver's RTT request.
-    let (channel, octets) = near.links[0].taken(6).ok_or("what came back")?;
-    far.take(2_080_000, channel, octets)?;
-    far.end();
-    Ok(count == 1 && near.links[0].taken(7).is_none() && far.sink.octets() == b"ABCDE".as_slice())
-}
+    Row::Come(2_080_000, &[6]),
+    Row::Ends(7, b"ABCDE"),
+];
 
 #[test]
 fn a_flow_comes_out_behind_the_one_before_it(rt: HostRuntime) -> Result<(), Fail> {
-    let alloc = rt.alloc();
-    let secret = session(Some(Phrase::of(b"secret")), Width::W16);
-    let sealers = (Some(sealer(alloc, 1)?), Some(sealer(alloc, 100)?));
-    assert!(rt; restarts(alloc, &secret, sealers)?);
-    Ok(())
+    happens(rt.alloc(), secret(Width::W16, NackKind::Range), &RESTARTING)
 }
