@@ -66,6 +66,7 @@ fn session() -> Session
         bits: 128,
         nulls: false,
         width: Width::W16,
+        full: false,
     }
 }
 
