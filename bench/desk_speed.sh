@@ -76,6 +76,8 @@ impl Link for Flood {
 
     ghost knows = { λ _ _. true };
 
+    ghost knew = { λ _ _. true };
+
     ghost faults = { λ _. 0 };
 
     ghost ends = { λ link. link.ends };
@@ -95,6 +97,8 @@ impl Link for Flood {
         buf[..12].copy_from_slice(&head);
         Got::Datagram(Channel::Media, 1_328)
     }
+
+    fn refuse(&mut self) {}
 
     fn write(&mut self, _channel: Channel, _octets: &[u8]) -> Result<bool, Failed> {
         Ok(true)
