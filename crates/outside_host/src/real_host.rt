@@ -1,7 +1,9 @@
 //! The host of the system. What its objects give and take is not told: the trusted edge of the system.
-ghost use Rattle.std.specs.Prelude.{◌≡◌, false};
+ghost use Rattle.std.specs.Prelude.{◌≡◌, false, None, IfOk, OnErr};
 ghost use Rattle.outside_io.specs.Causes.{Rose};
-ghost use Rattle.outside_host.specs.Shelf.{nowhere};
+ghost use Rattle.outside_io.specs.Real.{silent, IsSourceNamed, IsSinkNamed, KnowsFile};
+ghost use Rattle.outside_io.specs.Told.{IsEmpty};
+ghost use Rattle.outside_host.specs.Shelf.{nowhere, HasHostCause};
 
 use crate::{Host, HostBad, Reception};
 use outside_io::{
@@ -31,13 +33,13 @@ impl<'a, R> Model for RealHost<'a, R> {
 
     ghost Value = { RealHostState };
 
-    ghost view = { λ host. record { faults = host.faults } };
+    ghost view = { λ host. record { faults = host.faults; read = host.read } };
 }
 
 impl<'a, R> RealHost<'a, R> {
     /// A host of which no call has failed.
     pub fn new(rt: &'a R) -> RealHost<'a, R>
-        ensures value { result.faults ≡ 0 }
+        ensures value { result ≡ record { faults = 0; read = None } }
     {
         RealHost {
             rt,
@@ -51,6 +53,7 @@ impl<'a, R> RealHost<'a, R> {
     fn refuse(&mut self) -> HostBad
         ensures value { result ≡ HostBad.Failed }
         ensures cause { Rose self.old.faults self.new.faults }
+        ensures read { self.new.read ≡ self.old.read }
     {
         self.faults = self.faults.saturating_add(1);
         HostBad::Failed
@@ -78,7 +81,13 @@ where
 
     ghost faults = { λ host. host.faults };
 
-    fn source(&mut self, name: &str) -> Result<Self::Input, HostBad> {
+    fn source(&mut self, name: &str) -> Result<Self::Input, HostBad>
+        ensures cause { HasHostCause self.old.faults self.new.faults result }
+        ensures named { IfOk result (λ source. IsSourceNamed name.now source) }
+        // The file that is read is known until it is given back.
+        ensures known { IfOk result (λ source. KnowsFile source self.new.read) }
+        ensures stays { OnErr result (self.new.read ≡ self.old.read) }
+    {
         match open_known_source(self.rt, name) {
             Ok((source, file)) => {
                 self.read = file;
@@ -88,7 +97,12 @@ where
         }
     }
 
-    fn sink(&mut self, name: &str) -> Result<Self::Output, HostBad> {
+    fn sink(&mut self, name: &str) -> Result<Self::Output, HostBad>
+        ensures fresh { IfOk result (λ _. IsEmpty silent) }
+        ensures cause { HasHostCause self.old.faults self.new.faults result }
+        ensures named { IfOk result (λ sink. IsSinkNamed name.now sink) }
+        ensures stays { self.new.read ≡ self.old.read }
+    {
         if name != "-" && is_named(self.rt, name, self.read) {
             return Err(self.refuse());
         }
@@ -127,7 +141,10 @@ where
         }
     }
 
-    fn back_source(&mut self, _name: &str, _object: Self::Input) {
+    fn back_source(&mut self, _name: &str, _object: Self::Input)
+        ensures cause { self.new.faults ≡ self.old.faults }
+        ensures known { self.new.read ≡ None }
+    {
         self.read = None;
     }
 

@@ -3,6 +3,7 @@ use Rattle.std.specs.Prelude.{◌≡◌, ◌≢◌, ℕ, List, Option, None, Res
 use Rattle.std.specs.Io.KnownBytes.{Appends, ReadConsumes}
 use Rattle.outside_io.specs.Told.{IsPrefix}
 use Rattle.outside_io.specs.declared.source.Failed.{Failed}
+use Rattle.outside_io.specs.declared.file_identity.FileIdentity.{FileIdentity}
 use Rattle.outside_io.specs.declared.real.RealSource.{RealSource}
 use Rattle.outside_io.specs.declared.real.RealSource.TheVariants as sources
 use Rattle.outside_io.specs.declared.real.RealSink.{RealSink}
@@ -56,3 +57,8 @@ IsSourceNamed name (sources.Stream s) = name ≡ codes "-"
 abbrev pub IsSinkNamed : {F O : Type 0} → List ℕ → RealSink F O → Type 0
 IsSinkNamed name (sinks.File s) = name ≢ codes "-"
 IsSinkNamed name (sinks.Stream s) = name ≡ codes "-"
+
+-- a stream reads no file that can be told from others
+abbrev pub KnowsFile : {F I : Type 0} → RealSource F I → Option FileIdentity → Type 0
+KnowsFile (sources.File s) file = Unit
+KnowsFile (sources.Stream s) file = file ≡ None

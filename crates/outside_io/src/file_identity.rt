@@ -1,4 +1,7 @@
 //! What tells one file from another.
+ghost use Rattle.std.specs.Prelude.{◌↔◌, IsSome};
+ghost use Rattle.std.specs.Fs.{file_type, IsFile};
+
 use std::fs::Metadata;
 use std::os::unix::fs::MetadataExt;
 
@@ -11,7 +14,9 @@ pub struct FileIdentity {
 
 impl FileIdentity {
     /// The identity of a regular file. A device, a pipe or a socket can be read and written at once, and has none.
-    pub fn of(metadata: &Metadata) -> Option<FileIdentity> {
+    pub fn of(metadata: &Metadata) -> Option<FileIdentity>
+        ensures file { IsSome result ↔ IsFile (file_type metadata.now) }
+    {
         if !metadata.is_file() {
             return None;
         }

@@ -1,6 +1,6 @@
 //! Files and standard streams. What they give and take is not told: the trusted edge of the system.
-ghost use Rattle.std.specs.Prelude.{◌≡◌, ◌≤◌, ◌<◌, length, take, false, IfOk, OnOk, OnErr};
-ghost use Rattle.outside_io.specs.Real.{silent, source_faults, sink_faults, ReadsBehind, WritesBehind, WritesFront, WritesFrontBehind, IsSourceNamed, IsSinkNamed};
+ghost use Rattle.std.specs.Prelude.{◌≡◌, ◌≤◌, ◌<◌, length, take, false, None, IfOk, OnOk, OnErr};
+ghost use Rattle.outside_io.specs.Real.{silent, source_faults, sink_faults, ReadsBehind, WritesBehind, WritesFront, WritesFrontBehind, IsSourceNamed, IsSinkNamed, KnowsFile};
 ghost use Rattle.std.specs.Io.{ReadsAtMost};
 ghost use Rattle.std.specs.Io.KnownBytes.{ReadConsumes, Appends as WriterAppends};
 ghost use Rattle.outside_io.specs.Causes.{HasCause};
@@ -157,7 +157,9 @@ fn open_source<R: Files + Input>(rt: &R, name: &str) -> io::Result<RealSource<R:
 }
 
 /// The regular file that a source reads, if it is one.
-fn file_read<F: OpenFile, I>(source: &RealSource<F, I>) -> io::Result<Option<FileIdentity>> {
+fn file_read<F: OpenFile, I>(source: &RealSource<F, I>) -> io::Result<Option<FileIdentity>>
+    ensures known { IfOk result (λ file. KnowsFile source.now file) }
+{
     match source {
         RealSource::File(reading) => Ok(FileIdentity::of(&reading.inner.metadata()?)),
         RealSource::Stream(_) => Ok(None),
@@ -168,14 +170,20 @@ fn file_read<F: OpenFile, I>(source: &RealSource<F, I>) -> io::Result<Option<Fil
 pub fn open_known_source<R: Files + Input>(
     rt: &R,
     name: &str,
-) -> io::Result<(RealSource<R::File, R::Reader>, Option<FileIdentity>)> {
+) -> io::Result<(RealSource<R::File, R::Reader>, Option<FileIdentity>)>
+    ensures named { IfOk result (λ opened. IsSourceNamed name.now opened.0) }
+    ensures fresh { IfOk result (λ opened. source_faults opened.0 ≡ 0) }
+    ensures known { IfOk result (λ opened. KnowsFile opened.0 opened.1) }
+{
     let source = open_source(rt, name)?;
     let file = file_read(&source)?;
     Ok((source, file))
 }
 
 /// Whether a name is that of this regular file.
-pub fn is_named<R: Files>(rt: &R, name: &str, file: Option<FileIdentity>) -> bool {
+pub fn is_named<R: Files>(rt: &R, name: &str, file: Option<FileIdentity>) -> bool
+    ensures none { file ≡ None → result ≡ false }
+{
     match (fs::metadata(rt, name), file) {
         (Ok(metadata), Some(file)) => FileIdentity::of(&metadata) == Some(file),
         _ => false,

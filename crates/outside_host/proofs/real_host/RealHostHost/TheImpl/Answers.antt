@@ -1,0 +1,12 @@
+-- What the calls of the system's host say beside what any host tells.
+use Rattle.outside_host.proofs.SilentLemmas.{nothing_told}
+use Rattle.outside_host.proofs.real_host.RealHostHost.TheImpl.Goals as goal
+
+pub source-tells : goal.source-tells
+source-tells g x x' x'' x3 x4 c = record { ok = λ told. nothing_told told; err = λ told. nothing_told told; same = λ told. nothing_told told; cause = c.ensures.cause }
+
+pub sink-tells : goal.sink-tells
+sink-tells g x x' x'' x3 x4 c = record { ok = λ told. nothing_told told; fresh = c.ensures.fresh; err = λ told. nothing_told told; same = λ told. nothing_told told; cause = c.ensures.cause }
+
+pub back_source-tells : goal.back_source-tells
+back_source-tells g x x' x'' x3 x4 c = record { state = λ told. nothing_told told; same = λ told. nothing_told told; cause = c.ensures.cause }
