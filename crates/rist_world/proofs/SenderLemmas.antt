@@ -4,7 +4,7 @@ use Rattle.std.specs.Prelude.{◌==◌, ◌&&◌, nat_lt, if◌then◌else◌, u
 use Rattle.std.specs.List.{list_any}
 use Rattle.std.proofs.lemmas.Bool.{ltb-true, lt-ltb}
 use Rattle.rtcp_compound.specs.Compound.{Content}
-use Rattle.outside_net.specs.Links.{Datagram}
+use Rattle.outside_net.specs.Links.{Datagram, Quiet}
 use Rattle.rist_wire.specs.declared.session.Session.{Session}
 use Rattle.rist_wire.specs.declared.item.Item.TheVariants as items
 use Rattle.rist_wire.specs.Item.{item_of}
@@ -27,7 +27,7 @@ use Rattle.rist_world.specs.World.{WireState, WorldState, IsWorldAfter, GoesTo, 
 
 -- what a wire tells
 abbrev pub wire_line : Line WireState
-wire_line = record { taken = λ w. Some w.put; knows = λ w c. true; faults = λ w. w.faults; reads = λ w. None; ends = λ w. 0 }
+wire_line = record { taken = λ w. Some w.put; knows = λ w c. true; faults = λ w. w.faults; reads = λ w. Some (λ k. Quiet); ends = λ w. 0 }
 
 -- what follows where a call succeeds
 pub ok_then : {A E P Q : Type 0} → (r : Result A E) → IfOk r (λ done. P) → (P → Q) → IfOk r (λ done. Q)

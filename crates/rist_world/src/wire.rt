@@ -100,9 +100,11 @@ impl Wire {
 }
 
 impl Link for Wire {
-    ghost use Rattle.std.specs.Prelude.{Some, None, true};
+    ghost use Rattle.std.specs.Prelude.{Some, true};
+    ghost use Rattle.outside_net.specs.Links.{Quiet};
 
-    ghost reads = { λ wire. None };
+    // Nothing comes by itself.
+    ghost reads = { λ wire. Some (λ k. Quiet) };
 
     ghost taken = { λ wire. Some wire.put };
 
