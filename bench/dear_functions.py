@@ -1,7 +1,8 @@
 #!/usr/bin/env python3
 """Prints what took longest in the checks that rt kept below crates/: crate, function or file of proofs, seconds by the clock.
 A check writes a file as each module ends, so a module's time is that since the file before it: run `rt all check --jobs N` from
-nothing first, in which each crate is checked by one job. Words: how many lines (default 40), crates (default all)."""
+nothing first, in which each crate is checked by one job, and don't interrupt it, since a
+pause counts as time. Words: how many lines (default 40), crates (default all)."""
 import glob
 import os
 import re
