@@ -1,3 +1,4 @@
+//! One count as a line of text.
 ghost use Rattle.std.specs.Prelude.{◌≡◌, ◌≤◌, ◌+◌, ◌++◌, length, take};
 ghost use Rattle.octet_fields.specs.Writing.{KeepsFrom};
 ghost use Rattle.count_lines.specs.Lines.{line};

@@ -24,16 +24,16 @@ fn a_simulated_run_is_told_in_seven_lines(rt: HostRuntime) -> Result<(), Fail> {
 }
 
 #[test]
-fn a_run_is_told_alike_again_and_in_part_where_a_put_fails(rt: HostRuntime) -> Result<(), Fail> {
+fn a_run_is_told_alike_again_and_in_part_where_the_room_ends(rt: HostRuntime) -> Result<(), Fail> {
     let line = "drill 1 20 2 100";
     let first = written(rt.alloc(), line, b"", &NOTHING, Ending::Done)?;
     let again = written(rt.alloc(), line, b"", &NOTHING, Ending::Done)?;
     assert!(rt; first.as_slice() == again.as_slice());
-    let failing = Outside {
-        puts: &[0],
+    let narrow = Outside {
+        room: 20,
         ..NOTHING
     };
-    let part = written(rt.alloc(), line, b"", &failing, Ending::WriteFault)?;
-    assert!(rt; first.as_slice().starts_with(part.as_slice()));
+    let part = written(rt.alloc(), line, b"", &narrow, Ending::WriteFault)?;
+    assert!(rt; part.len() == 20 && first.as_slice().starts_with(part.as_slice()));
     Ok(())
 }

@@ -28,13 +28,14 @@ const C_EARLY: &[u8] = b"\0\0\0\x0D\0\0\0\0\0\0\x27\x10\x80\x21\0\x0C\0\0\x07\x0
 
 const B_LATE: &[u8] = b"\0\0\0\x0D\0\0\0\0\0\0\x4E\x20\x80\x21\0\x0B\0\0\x03\x84\x10\x20\x30\x40B";
 
-/// What a host has beside its source: where that is cut, random words, and which of the source's reads, the sink's
-/// puts, the draws of words and the host's own calls fail.
+/// What a host has beside its source: where that is cut, random words, the sink's room, and which of the source's reads, the
+/// sink's puts, the draws of words and the host's own calls fail.
 #[derive(Clone, Copy)]
 pub(crate) struct Outside<'a> {
     pub(crate) cuts: &'a [usize],
     pub(crate) reads: &'a [u64],
     pub(crate) puts: &'a [u64],
+    pub(crate) room: usize,
     pub(crate) random: &'a [u32],
     pub(crate) draws: &'a [u64],
     pub(crate) calls: &'a [u64],
@@ -44,6 +45,7 @@ pub(crate) const NOTHING: Outside<'static> = Outside {
     cuts: &[],
     reads: &[],
     puts: &[],
+    room: 1 << 16,
     random: &[],
     draws: &[],
     calls: &[],
@@ -61,7 +63,7 @@ fn host(alloc: Global, octets: &[u8], outside: &Outside<'_>) -> Result<MemHost, 
         })?;
         sinks.push(Slot {
             name: String::from_str(alloc, name)?,
-            place: Place::Here(Store8::with(alloc, 1 << 16, outside.puts)?),
+            place: Place::Here(Store8::with(alloc, outside.room, outside.puts)?),
         })?;
     }
     let mut entropies = Vec::new(alloc);

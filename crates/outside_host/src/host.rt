@@ -101,7 +101,8 @@ pub trait Host {
         ensures same { IsTrue tells → ChangesSinks (shelf self.old) (shelf self.new) }
         ensures cause { HasHostCause (faults self.old) (faults self.new) result };
 
-    /// Hands out the next source of random words: the first one asked for stands at place 0. At most 256 are handed out.
+    /// Hands out the next source of random words: the first one asked for stands at place 0. One that tells
+    /// hands out at most 256.
     fn entropy(&mut self) -> Result<Self::Random, HostBad>
         ensures ok { IsTrue tells → IfOk result (λ object. HandsOutNext (shelf self.old) (shelf self.new) object) }
         ensures next { IsTrue tells → OnOk result ((shelf self.new).next_entropy
@@ -114,7 +115,7 @@ pub trait Host {
         ensures cause { HasHostCause (faults self.old) (faults self.new) result };
 
     /// Hands out the next link, opened so: the first one asked for stands at place 0. Where it tells, it took nothing yet.
-    /// At most 256 are handed out.
+    /// One that tells hands out at most 256.
     fn link(&mut self, spec: &LinkSpec, role: Role, profile: Profile) -> Result<Self::Wire, HostBad>
         ensures ok { IsTrue tells → IfOk result (λ object. HandsOutLink (shelf self.old) (shelf self.new)
             (record { spec = spec.now; role = role; profile = profile }) object) }
@@ -124,7 +125,7 @@ pub trait Host {
         ensures same { IsTrue tells → ChangesOpening (shelf self.old) (shelf self.new) }
         ensures cause { HasHostCause (faults self.old) (faults self.new) result };
 
-    /// Hands out the next clock: the first one asked for stands at place 0. At most 256 are handed out.
+    /// Hands out the next clock: the first one asked for stands at place 0. One that tells hands out at most 256.
     fn clock(&mut self) -> Result<Self::Time, HostBad>
         ensures ok { IsTrue tells → IfOk result (λ object. HandsOutClock (shelf self.old) (shelf self.new) object) }
         ensures next { IsTrue tells → OnOk result ((shelf self.new).next_clock ≡ (shelf self.old).next_clock + 1) }

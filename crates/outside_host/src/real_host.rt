@@ -84,7 +84,7 @@ where
     fn source(&mut self, name: &str) -> Result<Self::Input, HostBad>
         ensures cause { HasHostCause self.old.faults self.new.faults result }
         ensures named { IfOk result (λ source. IsSourceNamed name.now source) }
-        // The file that is read is known until it is given back.
+        // Standard input is no file that could be told from others.
         ensures known { IfOk result (λ source. KnowsFile source self.new.read) }
         ensures stays { OnErr result (self.new.read ≡ self.old.read) }
     {

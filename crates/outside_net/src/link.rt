@@ -79,4 +79,7 @@ pub trait Link {
         ensures before { (c : Channel) → knew self.new c ≡ knew self.old c }
         ensures ends { ends self.new ≡ ends self.old }
         ensures cause { HasCause (faults self.old) (faults self.new) result };
+
+    /// Waits until a datagram is there, for about a millisecond at most, where the link can wait. It is no read.
+    fn rest(&self) {}
 }

@@ -10,10 +10,10 @@ pub struct LinkSpec {
 /// Which end of a link this is.
 #[derive(Clone, Copy, Debug, PartialEq, Eq)]
 pub enum Role {
-    /// It is bound to the address.
+    /// It is bound to the address. A read of it may wait for a datagram for about a millisecond.
     Receives,
-    /// It sends to the address.
+    /// It sends to the address. A read of it never waits: who has nothing else to do rests on it.
     Sends,
-    /// It sends to the address, and a read of it never waits for a datagram: others wait for who reads it.
+    /// It sends to the address what others bring, who wait for who reads it. A read of it never waits.
     Forwards,
 }

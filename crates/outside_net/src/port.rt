@@ -112,7 +112,8 @@ impl Port {
         }
     }
 
-    /// Sends to the peer. A datagram that the peer's machine refuses, or for which the system has no room, is lost.
+    /// Sends to the peer. A datagram that the peer's machine refuses, to which no way leads now, or for which the socket has no
+    /// room, is lost.
     pub fn send(&self, octets: &[u8]) -> Result<bool, Failed>
         ensures peer { IfOk result (λ went. went ≡ is_known self.now.peer) }
         ensures known { OnErr result (is_known self.now.peer ≡ true) }
@@ -144,11 +145,16 @@ fn quick_socket<R: Net>(rt: &R, own: SocketAddr) -> io::Result<UdpSocket> {
     Ok(socket)
 }
 
-/// Nothing is there, the system has no room, a call was interrupted, or a peer's machine refuses: none of these is a
-/// fault of the link.
+/// Nothing is there, the socket has no room, a call was interrupted, a peer's machine refuses, or no way leads there now: none
+/// of these is a fault of the link. So a path that is down for a while is used again when it is up.
 fn is_no_fault(kind: ErrorKind) -> bool {
     matches!(
         kind,
-        ErrorKind::WouldBlock | ErrorKind::Interrupted | ErrorKind::ConnectionRefused
+        ErrorKind::WouldBlock
+            | ErrorKind::Interrupted
+            | ErrorKind::ConnectionRefused
+            | ErrorKind::HostUnreachable
+            | ErrorKind::NetworkUnreachable
+            | ErrorKind::NetworkDown
     )
 }

@@ -10,7 +10,7 @@ use libc::types::pollfd;
 use outside_io::{Channel, Failed, Profile};
 use std::net::Net;
 
-/// How long a read waits for a datagram where none is there, in milliseconds.
+/// How long a read or a rest waits for a datagram where none is there, in milliseconds.
 const WAIT_MS: i32 = 1;
 
 /// A link over UDP: in the Simple Profile a socket for media and one for control, in the Main Profile one for the
@@ -18,8 +18,7 @@ const WAIT_MS: i32 = 1;
 ///
 /// A receiving link is bound to its address, and answers on each channel to whoever sent the last datagram on it that
 /// wasn't refused. A sending link sends to its address. A read looks at the socket first that gave a datagram least
-/// recently; where no socket has one it waits for 1 ms, unless the link forwards, or a datagram was written since the
-/// last read.
+/// recently; where no socket has one a receiving link waits for 1 ms, unless a datagram was written since the last read.
 #[derive(Drop)]
 pub struct UdpLink {
     media: Option<Port>,
@@ -50,7 +49,7 @@ impl UdpLink {
         ensures before { IfOk result (λ link. (c : ChannelValue) → knew_in_link link c ≡ stated_in role profile c) }
         ensures fresh { IfOk result IsUnused }
     {
-        let is_patient = role != Role::Forwards;
+        let is_patient = role == Role::Receives;
         match profile {
             Profile::Simple => {
                 let Some(control) = spec.port.checked_add(1) else {
@@ -135,8 +134,8 @@ impl UdpLink {
         self.look_at(second, buf)
     }
 
-    /// Looks at the sockets, and once more after a wait, unless the link forwards or a datagram was written since the
-    /// last read.
+    /// Looks at the sockets, and once more after a wait where the link receives and no datagram was written since the last
+    /// read.
     fn look_or_wait(&mut self, buf: &mut [u8; 2048]) -> Option<Got>
         ensures within { IfSome result IsWithin }
         ensures going { IfSome result (λ got. has_come_to_end got ≡ false) }
@@ -270,5 +269,9 @@ impl Link for UdpLink {
             self.faults = self.faults.saturating_add(1);
         }
         sent
+    }
+
+    fn rest(&self) {
+        self.wait();
     }
 }

@@ -135,6 +135,7 @@ fn next<L: Link>(link: &mut L, block: &mut [u8; 2048]) -> Got {
         if got != Got::Quiet {
             return got;
         }
+        link.rest();
     }
     Got::Quiet
 }
@@ -237,5 +238,26 @@ fn a_quiet_read_takes_about_a_millisecond(rt: HostRuntime) -> Result<(), Failed>
         least = least.min(clock.now().saturating_sub(before));
     }
     assert!(rt; (500..=3_000).contains(&least));
+    Ok(())
+}
+
+#[test]
+fn a_sending_link_reads_at_once_and_rests_about_a_millisecond(
+    rt: HostRuntime,
+) -> Result<(), Failed> {
+    let (_receiving, mut sending) = pair(&rt, Profile::Simple)?;
+    let mut clock = ProcessClock::start(&rt)?;
+    let mut block = [0; 2048];
+    let mut read = u64::MAX;
+    let mut rest = u64::MAX;
+    for _ in 0..20 {
+        let before = clock.now();
+        assert_got(&rt, &mut sending, &mut block, Got::Quiet);
+        let between = clock.now();
+        sending.rest();
+        read = read.min(between.saturating_sub(before));
+        rest = rest.min(clock.now().saturating_sub(between));
+    }
+    assert!(rt; read < 500 && (500..=3_000).contains(&rest));
     Ok(())
 }

@@ -4,8 +4,8 @@ ghost use Rattle.std.specs.Prelude.{◌≡◌, ◌++◌, ◌∷◌, []};
 use http_server::Log;
 use std::marker::Model;
 
-/// The octets of the payloads that a sender took, one after another, as a contract sees them. It takes no memory, and
-/// nothing is done for it when it runs.
+/// The octets of the payloads that a sender took, one after another, as a contract sees them. It takes no memory; a loop over
+/// the octets, which does nothing, is left for the compiler to take away.
 #[derive(Drop)]
 pub struct Handed {
     log: Log<u8, ()>,

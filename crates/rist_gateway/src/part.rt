@@ -1,3 +1,4 @@
+//! A link of a gateway, on either side.
 use crate::side_worker::SideWorker;
 use rist_desk::Worker;
 

@@ -1,3 +1,4 @@
+//! What looks at one link that is sent on, and why it ends.
 use rist_sender::SendBad;
 
 /// Why a side worker ended.

@@ -23,7 +23,8 @@ pub(crate) struct Progress {
 
 impl Progress {
     ghost use Rattle.std.specs.Prelude.{◌≡◌, ◌≤◌, ◌<◌, ◌^◌, set, slice_index_or, true, false};
-    ghost use Rattle.rist_send.specs.Run.{no_progress, begun_at, is_due, is_over, has_ended};
+    ghost use Rattle.rist_send.specs.Run.{no_progress, begun_at, is_due, is_next_due, is_over, has_ended};
+    ghost use Rattle.rist_send.specs.Inside.Moves.{IsPlace};
 
     /// No turn was made.
     pub fn new() -> Progress
@@ -56,6 +57,18 @@ impl Progress {
         match self.start {
             Some(start) => self.moment >= start && self.moment - start >= k * gap,
             None => false,
+        }
+    }
+
+    /// Whether the source's next piece is due, if it has one.
+    pub fn is_next_due(&self, gap: u64) -> bool
+        requires gap { gap ≤ 1000000 }
+        requires at { IsPlace self.now.stage }
+        ensures value { result ≡ is_next_due gap self.now }
+    {
+        match self.stage {
+            Stage::Reading(k) => self.is_due(gap, k),
+            Stage::Ended(_) => false,
         }
     }
 

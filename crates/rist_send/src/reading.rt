@@ -158,6 +158,18 @@ fn read_link<L: Link>(
     }
 }
 
+/// Rests on the first link that is read, if there is one.
+pub(crate) fn rest<L: Link>(sender: &Sender, links: &[L], progress: &Progress)
+    requires few { length links.now ≤ MAX_LINKS }
+{
+    for link in 0..links.len() as u8 {
+        if is_read(sender, link, progress) {
+            links[usize::from(link)].rest();
+            return;
+        }
+    }
+}
+
 /// Reads each link, once, and answers what came.
 pub(crate) fn read_links<L: Link>(
     sender: &mut Sender,

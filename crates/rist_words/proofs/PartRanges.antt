@@ -14,8 +14,8 @@ use Rattle.outside_io.specs.declared.profile.Profile.TheVariants.{Simple, Main}
 use Rattle.rist_words.specs.declared.values.Numbers.{Numbers}
 use Rattle.rist_words.specs.Values.{is_numeral, is_among, nack_of, number_at, number_in, number_of, ◌>>=◌, profile_of, phrase_of, is_set, flag_of}
 use Rattle.rist_words.specs.CommandLine.{Session, Stream, Receiver, Serving, ports, key_bits, delays, spans, restarts, flows, firsts, gaps, stores, holds, lingers, turn_counts}
-use Rattle.rist_words.specs.CommandLine.{reorders, retry_times, retry_counts, own_ssrcs, idle_times, kept_counts, udp_ports, session_of, pcap_with, stream_of, receiver_of, serving_of}
-use Rattle.rist_words.specs.Links.{colon, each_link, gate_links_of, input_counts, inputs_of, link_of, link_weights, links_of, shares_of, split_at, weights_in}
+use Rattle.rist_words.specs.CommandLine.{reorders, retry_times, retry_counts, own_ssrcs, idle_times, kept_counts, session_of, pcap_with, stream_of, receiver_of, serving_of}
+use Rattle.rist_words.specs.Links.{colon, each_link, gate_links_of, input_counts, inputs_of, link_of, link_ports, link_weights, links_of, shares_of, split_at, weights_in}
 use Rattle.rist_words.specs.Ranges.{IsInSession, IsUdpPort, IsInStream, IsInReceiver, IsInServing, IsWeight}
 
 -- a value that was read, and the rest of the reading
@@ -114,7 +114,7 @@ session_range rows s e =
       full = flag_simple profile.value (first_of (codes "full") rows) full.value full.is;
     })
 
-pub port_among : (profile : Profile) (n : ℕ) → IsAmong (udp_ports profile) n → IsUdpPort profile n
+pub port_among : (profile : Profile) (n : ℕ) → IsAmong (link_ports profile) n → IsUdpPort profile n
 port_among Main n a = record { some = a.least; most = a.most; even = λ is. cc }
 port_among Simple n a = record { some = omega (arith, a.least); most = omega (arith, a.most); even = λ is. a.multiple }
 
@@ -123,13 +123,13 @@ pub udp_range : (profile : Profile) (set : Bool) (text : Option Text) (pcap : Op
 udp_range profile false None pcap e = subst (λ p. IfSome p (λ port. IsUdpPort profile port)) (same_some None pcap e) tt
 udp_range profile false (Some text) pcap e = cc
 udp_range profile true None pcap e = cc
-udp_range profile true (Some text) pcap e = by_port (number_in (udp_ports profile) text) refl e
+udp_range profile true (Some text) pcap e = by_port (number_in (link_ports profile) text) refl e
   where
-    by_port : (o : Option ℕ) → number_in (udp_ports profile) text ≡ o → option_map (λ port. Some port) o ≡ Some pcap
+    by_port : (o : Option ℕ) → number_in (link_ports profile) text ≡ o → option_map (λ port. Some port) o ≡ Some pcap
         → IfSome pcap (λ port. IsUdpPort profile port)
     by_port None is p = cc
     by_port (Some n) is p =
-        subst (λ q. IfSome q (λ port. IsUdpPort profile port)) (same_some (Some n) pcap p) (port_among profile n (text_range (udp_ports profile) text n is))
+        subst (λ q. IfSome q (λ port. IsUdpPort profile port)) (same_some (Some n) pcap p) (port_among profile n (text_range (link_ports profile) text n is))
 
 pub first_low : (wide : Bool) (n : ℕ) → IsAmong (firsts wide) n → wide ≡ false → n < 65536
 first_low true n a is = cc

@@ -10,7 +10,7 @@ use Rattle.rist_words.specs.Commands.{faults_of, command_in}
 use Rattle.outside_net.specs.declared.link_spec.LinkSpec.{LinkSpec}
 use Rattle.request_rules.specs.declared.policy.NackKind.{NackKind}
 use Rattle.rist_words.specs.Values.{flag_of, is_set, nack_of, name_of, number_at, number_in, number_of, phrase_of, profile_of, ◌>>=◌}
-use Rattle.rist_words.specs.Links.{gate_links_of, links_of, shares_of}
+use Rattle.rist_words.specs.Links.{gate_links_of, link_ports, links_of, shares_of}
 
 -- how the datagrams of a session are made: the UDP port of media, the passphrase if there is one, the bits of its key,
 -- and whether RTP and RTCP are written as full datagrams
@@ -231,11 +231,6 @@ drill_links = record { default = 1; least = 1; most = 4; multiple_of = 1 }
 abbrev pub drill_losses : Numbers
 drill_losses = record { default = 0; least = 0; most = 1000; multiple_of = 1 }
 
--- `--udp`: a UDP port; in the Simple Profile, where RTCP has the next one, an even one
-abbrev pub udp_ports : Profile → Numbers
-udp_ports Main = record { default = 1; least = 1; most = 65535; multiple_of = 1 }
-udp_ports Simple = record { default = 2; least = 2; most = 65534; multiple_of = 2 }
-
 -- The session that a command's values give. Commands that make no datagrams have no flag for full ones.
 abbrev pub session_of : List Row → Option Session
 session_of rows = do
@@ -251,7 +246,7 @@ abbrev pub pcap_with : Profile → Bool → Option Text → Option (Option ℕ)
 pcap_with profile false None = Some None
 pcap_with profile false (Some text) = None
 pcap_with profile true None = None
-pcap_with profile true (Some text) = option_map (λ port. Some port) (number_in (udp_ports profile) text)
+pcap_with profile true (Some text) = option_map (λ port. Some port) (number_in (link_ports profile) text)
 
 -- the same of a command's values
 abbrev pub pcap_of : Profile → List Row → Option (Option ℕ)

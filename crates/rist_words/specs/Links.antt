@@ -26,7 +26,8 @@ dot = 46
 abbrev pub address_numbers : Numbers
 address_numbers = record { default = 0; least = 0; most = 255; multiple_of = 1 }
 
--- a link's port. In the Simple Profile it is that of media, an even one, and the next is that of control (VSF TR-06-1)
+-- a UDP port of a link, or of the datagrams in a pcap file. In the Simple Profile it is that of media, an even one, and the next is
+-- that of control (VSF TR-06-1)
 abbrev pub link_ports : Profile → Numbers
 link_ports Simple = record { default = 2; least = 2; most = 65534; multiple_of = 2 }
 link_ports Main = record { default = 1; least = 1; most = 65535; multiple_of = 1 }

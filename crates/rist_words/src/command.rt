@@ -2,7 +2,8 @@
 ghost use Rattle.std.specs.Prelude.{◌≡◌, IfOk, false, map};
 ghost use Rattle.clap.specs.Words.{app_of, rule_of, with_rule, with_subcommand};
 ghost use Rattle.clap.specs.declared.Command.TheViews.{out-Command as fields_of};
-ghost use Rattle.rist_words.specs.Commands.{rule_for, with_rules, session_app, with_arguments, drill_app, files_app, rist_app};
+ghost use Rattle.rist_words.specs.Commands.{rule_for, with_rules, session_app, with_arguments, replay_app, show_app, count_app, pack_app};
+ghost use Rattle.rist_words.specs.Commands.{send_app, recv_app, gate_app, drill_app, files_app, rist_app};
 
 use clap::{Arg, ArgAction, Command};
 use std::alloc::{AllocError, Global};
@@ -12,15 +13,13 @@ static SESSION: [&str; 4] = ["profile", "port", "pass", "bits"];
 
 static REPLAY: [&str; 2] = ["capture", "out"];
 
+/// The options of a replay, and of a counting.
 static REPLAY_OPTIONS: [&str; 4] = ["delay", "span", "restart", "udp"];
 
-static SHOW: [&str; 1] = ["capture"];
+/// The position of a showing, and of a counting.
+static CAPTURE: [&str; 1] = ["capture"];
 
 static SHOW_OPTIONS: [&str; 1] = ["udp"];
-
-static COUNT: [&str; 1] = ["capture"];
-
-static COUNT_OPTIONS: [&str; 4] = ["delay", "span", "restart", "udp"];
 
 /// The flags of a replay, and of a counting.
 static REPLAY_FLAGS: [&str; 2] = ["pcap", "drift"];
@@ -79,19 +78,9 @@ pub fn program<'a>(alloc: Global) -> Result<Command<'a>, AllocError>
     ensures app { IfOk result (λ r. app_of r ≡ rist_app) }
 {
     let program = over_files(alloc)?;
-    let send = session(alloc, "send")?;
-    let send = with_arguments(alloc, send, &SEND_OPTIONS, &STREAM_FLAGS, &SEND)?;
-    let send = with_all(alloc, send, Kind::Positions, &LINKS)?;
-    let program = below(program, send)?;
-    let recv = session(alloc, "recv")?;
-    let recv = with_arguments(alloc, recv, &RECEIVER_OPTIONS, &RECV_FLAGS, &RECV)?;
-    let recv = with_all(alloc, recv, Kind::Positions, &LINKS)?;
-    let program = below(program, recv)?;
-    let gate = session(alloc, "gate")?;
-    let gate = with_all(alloc, gate, Kind::Valued, &RECEIVER_OPTIONS)?;
-    let gate = with_arguments(alloc, gate, &GATE_OPTIONS, &GATE_FLAGS, &[])?;
-    let gate = with_all(alloc, gate, Kind::Positions, &LINKS)?;
-    let program = below(program, gate)?;
+    let program = below(program, send(alloc)?)?;
+    let program = below(program, recv(alloc)?)?;
+    let program = below(program, gate(alloc)?)?;
     Ok(below(program, drill(alloc)?)?)
 }
 
@@ -100,19 +89,77 @@ fn over_files<'a>(alloc: Global) -> Result<Command<'a>, AllocError>
     ensures app { IfOk result (λ r. app_of r ≡ files_app) }
 {
     let program = Command::new(alloc, "rist");
+    let program = below(program, replay(alloc)?)?;
+    let program = below(program, show(alloc)?)?;
+    let program = below(program, count(alloc)?)?;
+    Ok(below(program, pack(alloc)?)?)
+}
+
+/// The command of a replay.
+fn replay<'a>(alloc: Global) -> Result<Command<'a>, AllocError>
+    ensures app { IfOk result (λ r. app_of r ≡ replay_app) }
+    ensures local { IfOk result (λ r. (fields_of r).has_globals ≡ false) }
+{
     let replay = session(alloc, "replay")?;
-    let replay = with_arguments(alloc, replay, &REPLAY_OPTIONS, &REPLAY_FLAGS, &REPLAY)?;
-    let program = below(program, replay)?;
+    with_arguments(alloc, replay, &REPLAY_OPTIONS, &REPLAY_FLAGS, &REPLAY)
+}
+
+/// The command of a showing.
+fn show<'a>(alloc: Global) -> Result<Command<'a>, AllocError>
+    ensures app { IfOk result (λ r. app_of r ≡ show_app) }
+    ensures local { IfOk result (λ r. (fields_of r).has_globals ≡ false) }
+{
     let show = session(alloc, "show")?;
-    let show = with_arguments(alloc, show, &SHOW_OPTIONS, &SHOW_FLAGS, &SHOW)?;
-    let program = below(program, show)?;
+    with_arguments(alloc, show, &SHOW_OPTIONS, &SHOW_FLAGS, &CAPTURE)
+}
+
+/// The command of a counting.
+fn count<'a>(alloc: Global) -> Result<Command<'a>, AllocError>
+    ensures app { IfOk result (λ r. app_of r ≡ count_app) }
+    ensures local { IfOk result (λ r. (fields_of r).has_globals ≡ false) }
+{
     let count = session(alloc, "count")?;
-    let count = with_arguments(alloc, count, &COUNT_OPTIONS, &REPLAY_FLAGS, &COUNT)?;
-    let program = below(program, count)?;
+    with_arguments(alloc, count, &REPLAY_OPTIONS, &REPLAY_FLAGS, &CAPTURE)
+}
+
+/// The command of a packing.
+fn pack<'a>(alloc: Global) -> Result<Command<'a>, AllocError>
+    ensures app { IfOk result (λ r. app_of r ≡ pack_app) }
+    ensures local { IfOk result (λ r. (fields_of r).has_globals ≡ false) }
+{
     let pack = session(alloc, "pack")?;
-    let pack = with_arguments(alloc, pack, &PACK_OPTIONS, &STREAM_FLAGS, &PACK)?;
-    let program = below(program, pack)?;
-    Ok(program)
+    with_arguments(alloc, pack, &PACK_OPTIONS, &STREAM_FLAGS, &PACK)
+}
+
+/// The command of a sending, over one link or more.
+fn send<'a>(alloc: Global) -> Result<Command<'a>, AllocError>
+    ensures app { IfOk result (λ r. app_of r ≡ send_app) }
+    ensures local { IfOk result (λ r. (fields_of r).has_globals ≡ false) }
+{
+    let send = session(alloc, "send")?;
+    let send = with_arguments(alloc, send, &SEND_OPTIONS, &STREAM_FLAGS, &SEND)?;
+    with_all(alloc, send, Kind::Positions, &LINKS)
+}
+
+/// The command of a receiving, over one link or more.
+fn recv<'a>(alloc: Global) -> Result<Command<'a>, AllocError>
+    ensures app { IfOk result (λ r. app_of r ≡ recv_app) }
+    ensures local { IfOk result (λ r. (fields_of r).has_globals ≡ false) }
+{
+    let recv = session(alloc, "recv")?;
+    let recv = with_arguments(alloc, recv, &RECEIVER_OPTIONS, &RECV_FLAGS, &RECV)?;
+    with_all(alloc, recv, Kind::Positions, &LINKS)
+}
+
+/// The command of a gateway: a receiver's options, its own, and its links.
+fn gate<'a>(alloc: Global) -> Result<Command<'a>, AllocError>
+    ensures app { IfOk result (λ r. app_of r ≡ gate_app) }
+    ensures local { IfOk result (λ r. (fields_of r).has_globals ≡ false) }
+{
+    let gate = session(alloc, "gate")?;
+    let gate = with_all(alloc, gate, Kind::Valued, &RECEIVER_OPTIONS)?;
+    let gate = with_arguments(alloc, gate, &GATE_OPTIONS, &GATE_FLAGS, &[])?;
+    with_all(alloc, gate, Kind::Positions, &LINKS)
 }
 
 /// The command of a simulated run, of positions alone.
@@ -120,7 +167,7 @@ fn drill<'a>(alloc: Global) -> Result<Command<'a>, AllocError>
     ensures app { IfOk result (λ r. app_of r ≡ drill_app) }
     ensures local { IfOk result (λ r. (fields_of r).has_globals ≡ false) }
 {
-    Ok(with_all(alloc, Command::new(alloc, "drill"), Kind::Position, &DRILL)?)
+    with_all(alloc, Command::new(alloc, "drill"), Kind::Position, &DRILL)
 }
 
 /// A command that speaks of a session.
@@ -128,7 +175,7 @@ fn session<'a>(alloc: Global, name: &'a str) -> Result<Command<'a>, AllocError>
     ensures app { IfOk result (λ r. app_of r ≡ session_app name.entry.now) }
     ensures local { IfOk result (λ r. (fields_of r).has_globals ≡ false) }
 {
-    Ok(with_all(alloc, Command::new(alloc, name), Kind::Valued, &SESSION)?)
+    with_all(alloc, Command::new(alloc, name), Kind::Valued, &SESSION)
 }
 
 /// The command with these options, flags and positions.

@@ -123,9 +123,11 @@ fn link_of(profile: Profile, text: &str) -> Option<LinkSpec>
     Some(LinkSpec { address, port })
 }
 
-/// The ports that a link can have.
-fn link_ports(profile: Profile) -> Numbers
-    ensures { result ≡ link_ports profile }
+/// The ports that a link can have: in the Simple Profile even ones, since RTCP has the next one.
+pub fn link_ports(profile: Profile) -> Numbers
+    ensures value { result ≡ link_ports profile }
+    ensures step { 0 < result.multiple_of }
+    ensures most { result.most ≤ 65535 }
 {
     match profile {
         Profile::Simple => Numbers {

@@ -1,10 +1,10 @@
--- One link more.
+-- One object more: a link or a clock.
 use Rattle.std.specs.Prelude.{◌≡◌, ◌<◌, ℕ, List, [], ◌∷◌, ◌++◌, length}
 use Rattle.outside_host.specs.Shelf.{HandsOut}
 use Rattle.outside_host.specs.declared.host.Place.{Place}
 use Rattle.host_links.specs.Opening.{AreAsTheyWere, AreOut}
 
--- the link behind these was handed out
+-- the object behind these was handed out
 pub record IsNextOut {L : Type 0} (old new : ℕ → Place L) (had has : List L) : Type 0 where
   pub link : L
   pub more : has ≡ had ++ link ∷ []
