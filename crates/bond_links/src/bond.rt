@@ -45,7 +45,7 @@ impl Bond {
     }
 
     /// Each packet goes on one link, and of packets that follow one another each link takes as many as its
-    /// weight says: one weight for each of 1 to 16 links, each 1 to 100.
+    /// weight says: one weight for each of 1 to 16 links, each 1 to 255.
     pub fn share(weights: &[u8]) -> Bond
         requires some { 1 ≤ length weights.now }
         requires few { length weights.now ≤ MAX_LINKS }

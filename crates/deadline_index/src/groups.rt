@@ -7,7 +7,7 @@ use crate::levels::{first_by, least_of, set_entry};
 use std::alloc::{AllocError, Global};
 use std::marker::Model;
 
-/// A fixed number of ticks. With up to 65,000 a change of one looks at eight entries a level at most, and a search at
+/// A fixed number of ticks. With up to 64,000 a change of one looks at eight entries a level at most, and a search at
 /// sixteen.
 #[derive(Drop)]
 pub struct Groups {

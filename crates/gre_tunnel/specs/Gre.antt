@@ -1,5 +1,5 @@
 -- GRE headers in UDP (RFC 2784, section 2; RFC 2890, section 2; RFC 8086, section 3), and which octets
--- begin with one. No checksum stands in a header that is taken.
+-- begin with one. No checksum stands in a header that is taken (this profile).
 use Rattle.std.specs.Prelude.{◌≡◌, ◌⊎◌, ℕ, ◌+◌, ◌*◌, ◌^◌, ◌<◌, List, [], ◌++◌, Option, Some, None, is_some, IfSome, IsSome}
 use Rattle.std.specs.Int.{w16, w32, to_be_bytes, from_bool}
 
@@ -26,7 +26,7 @@ pub record Header : Type 0 where
   pub sequence : Option ℕ
   pub protocol : ℕ
 
--- A key stands only with a sequence number, and the protocol is one of the three.
+-- A key stands only with a sequence number, and the protocol is one of the three (this profile).
 pub record IsHeader (header : Header) : Type 0 where
   pub key : IfSome header.key (λ key. key < 2 ^ 32)
   pub sequence : IfSome header.sequence (λ sequence. sequence < 2 ^ 32)

@@ -53,7 +53,7 @@ abbrev pub is_known_protocol : ℕ → Bool
 is_known_protocol protocol =
     (protocol == keepalive_protocol) || ((protocol == datagram_protocol) || (protocol == full_protocol))
 
--- the tests in their order
+-- The tests in their order. No checksum is taken, and no key without a sequence number (this profile).
 unfoldable pub reading_of : List ℕ → Result Gre GreBad
 reading_of octets =
     if nat_lt (length octets) 4 then Err Short

@@ -21,11 +21,11 @@ pub enum GreBad {
     Short,
     /// A version other than 0.
     Version,
-    /// The flag of a checksum is set.
+    /// The flag of a checksum is set (this profile).
     Checksum,
     /// A bit that must be 0 is set.
     Reserved,
-    /// The flag of a key is set, and that of a sequence number isn't.
+    /// The flag of a key is set, and that of a sequence number isn't (this profile).
     KeyedNoSequence,
     /// The protocol is none of the tunnel's three.
     Protocol,

@@ -28,7 +28,7 @@ fn put_number(out: &mut [u8], at: usize, number: Option<u32>) -> usize
 }
 
 /// Writes a header at the front of `out`, and says how many octets it has. `long` says that the key has
-/// 32 octets.
+/// 32 octets (this profile).
 pub fn write(
     key: Option<u32>,
     sequence: Option<u32>,

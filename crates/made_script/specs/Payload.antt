@@ -1,4 +1,5 @@
--- The payloads of a made script (this profile): seven transport packets of 188 octets (ISO/IEC 13818-1, 2.4.3.2).
+-- The payloads of a made script (this profile): seven transport packets of 188 octets (ISO/IEC 13818-1, section
+-- 2.4.3.2).
 use Rattle.std.specs.Prelude.{ℕ, ◌+◌, ◌/◌, ◌%◌, ◌==◌, List, map, Bool, if◌then◌else◌}
 use Rattle.std.specs.List.{range_with_len}
 

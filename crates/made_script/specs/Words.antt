@@ -1,4 +1,5 @@
--- The words of a number (this profile): those of ChaCha with eight rounds under a key of 32 octets.
+-- The words of a number (this profile): those of ChaCha (RFC 8439, section 2.3) with eight rounds in place of twenty
+-- and a counter of 64 bits, under a key of 32 octets.
 use Rattle.std.specs.Prelude.{ℕ, ◌^◌, ◌%◌, ◌==◌, List, [], ◌++◌, map, replicate, if◌then◌else◌}
 use Rattle.std.specs.List.{range_with_len}
 use Rattle.std.specs.Int.{w64, to_be_bytes}

@@ -1,5 +1,6 @@
 //! The parts of a made script: the payloads that it sends, and the datagrams that the words of its generator lose and
-//! delay (this profile). The words are those of ChaCha with eight rounds, so that anyone can make the script again.
+//! delay (this profile). The words are those of ChaCha (RFC 8439, section 2.3) with eight rounds in place of twenty and
+//! a counter of 64 bits, so that anyone can make the script again.
 #![tactic(auto)]
 
 mod draws;

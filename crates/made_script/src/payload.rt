@@ -29,7 +29,7 @@ fn octet_of(payload: u32, packet: usize, place: usize) -> u8
     }
 }
 
-/// The payload of a number: seven transport packets of 188 octets.
+/// The payload of a number: seven transport packets of 188 octets (this profile).
 pub fn payload_of(payload: u32) -> [u8; PAYLOAD_LEN]
     ensures value { result ≡ made_payload payload }
 {

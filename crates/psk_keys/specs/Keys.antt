@@ -1,5 +1,5 @@
--- The keys of a session (this profile): what PBKDF2 (RFC 8018) derives from its passphrase and the four octets of a
--- nonce.
+-- The keys of a session (this profile): what PBKDF2 (RFC 8018, section 5.2) derives from its passphrase and the four
+-- octets of a nonce.
 use Rattle.std.specs.Prelude.{◌≡◌, ℕ, ◌-◌, ◌/◌, ◌⊎◌, List, [], ◌∷◌, take, if◌then◌else◌, ◌==◌}
 use Rattle.psk_keys.specs.declared.cached.TheConstants.{CACHED_KEYS}
 use Rattle.psk_keys.specs.Pbkdf2.{pbkdf2}

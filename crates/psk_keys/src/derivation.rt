@@ -6,7 +6,7 @@ ghost use Rattle.psk_keys.specs.Pbkdf2.{pbkdf2};
 
 use crate::mac::Mac;
 
-/// A key of 32 octets from a passphrase and a salt, after so many rounds.
+/// A key of 32 octets from a passphrase and a salt, after so many rounds (RFC 8018, section 5.2).
 pub fn pbkdf2(pass: &[u8], salt: &[u8], rounds: u32) -> [u8; 32]
     requires rounds { 1 ≤ rounds }
     ensures key { result ≡ pbkdf2 pass.now salt.now rounds }

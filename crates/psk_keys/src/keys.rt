@@ -28,7 +28,8 @@ fn key_from(octets: [u8; 32], bits: u16) -> Key
     Key::Short(front)
 }
 
-/// The key of a nonce, derived anew: 1,024 rounds.
+/// The key of a nonce, derived anew by PBKDF2 (RFC 8018, section 5.2): the nonce is the salt, with 1,024 rounds (this
+/// profile).
 #[tactic(auto, unfolding(crate::specs::Keys::key_of))]
 pub fn derived_key(pass: &[u8], bits: u16, nonce: [u8; 4]) -> Key
     requires bits { IsKeyLength bits }

@@ -1,5 +1,5 @@
-//! Keys from a passphrase: HMAC (RFC 2104) and PBKDF2 (RFC 8018) over SHA-256, and a session's keys by nonce (this
-//! profile).
+//! Keys from a passphrase: HMAC (RFC 2104, section 2) and PBKDF2 (RFC 8018, section 5.2) over SHA-256, and a session's
+//! keys by nonce (this profile).
 #![tactic(auto)]
 
 mod cached;

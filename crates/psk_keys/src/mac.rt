@@ -12,7 +12,7 @@ const INNER_PAD: u8 = 0x36;
 
 const OUTER_PAD: u8 = 0x5c;
 
-/// The keyed hash of a text, in 32 octets.
+/// The keyed hash of a text, in 32 octets (RFC 2104, section 2).
 pub fn hmac(key: &[u8], text: &[u8]) -> [u8; 32]
     ensures code { result ≡ hmac key.now text.now }
 {

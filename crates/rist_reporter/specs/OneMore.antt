@@ -24,12 +24,12 @@ use Rattle.rist_reporter.specs.Reporter.{ReporterState, IsReporterAfter, setting
 
 -- ---- what was made
 
--- the datagrams that were made, in their order
+-- the second of a pair of datagrams, which may be absent
 abbrev pub second_of : Option OutOf → List OutOf
 second_of None = []
 second_of (Some out) = out ∷ []
 
--- the same of a pair of datagrams, of which the second may be absent
+-- the datagrams that were made, in their order
 abbrev pub outs_of : Outs → List OutOf
 outs_of outs = outs.first ∷ second_of outs.second
 

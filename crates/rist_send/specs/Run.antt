@@ -58,11 +58,12 @@ is_due_from gap (Some start) now k = nat_le (start + k * gap) now
 abbrev pub is_due : ℕ → Progress → ℕ → Bool
 is_due gap progress k = is_due_from gap progress.start progress.moment k
 
--- the next piece is due, if the source has one
+-- the piece that is next at a stage is due; once the source has ended none is
 abbrev pub is_stage_due : ℕ → Progress → Stage → Bool
 is_stage_due gap progress (Reading k) = is_due gap progress k
 is_stage_due gap progress (Ended moment) = false
 
+-- the next piece is due, if the source has one
 abbrev pub is_next_due : ℕ → Progress → Bool
 is_next_due gap progress = is_stage_due gap progress progress.stage
 

@@ -104,9 +104,10 @@ fn turn<S: Source, L: Link, C: Clock>(
 
 /// Sends a source, piece after piece, onto links. A turn takes one moment of the clock, and the first one's is the
 /// start; reads and sends the next piece, where its time has come: piece k's is k gaps after the start; reads each link
-/// once that is up and gave no end and no failure, and answers what came; and lets the sender tick. Where the next piece isn't
-/// due yet it rests on a link before the next turn. A turn stops where the sender refuses, and so does the run. The run is over after a turn whose moment is `linger` or more after that of
-/// the turn in which the source ended. Where all turns were made before, it is `Ok` if the source had ended.
+/// once that is up and gave no end and no failure, and answers what came; and lets the sender tick. Where the next
+/// piece isn't due yet it rests on a link before the next turn. A turn stops where the sender refuses, and so does the
+/// run. The run is over after a turn whose moment is `linger` or more after that of the turn in which the source ended.
+/// Where all turns were made before, it is `Ok` if the source had ended.
 pub fn send<S: Source, L: Link, C: Clock>(
     settings: &SendSettings,
     sender: &mut Sender,

@@ -113,7 +113,7 @@ after_copy tick pair message link answer work =
 abbrev pub is_settled : Bool → ℕ → Answer → Work → Bool
 is_settled one link answer work = one && (not (is_down work.history link) && not (is_failed answer))
 
--- the datagram on one link after another, up to the first that took it where one is enough
+-- the datagram on one link after another; where one is enough, up to the first write that doesn't fail
 abbrev pub Spreads : Bool → ℕ → Option Pair → Message → List ℕ → Work → Work → Type 0
 Spreads one tick pair message [] from to = to ≡ from
 Spreads one tick pair message (link ∷ links) from to =

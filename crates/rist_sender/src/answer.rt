@@ -5,7 +5,7 @@ ghost use Rattle.rist_sender.specs.Links.{is_failed};
 /// What became of a datagram that was written on a link.
 #[derive(Clone, Copy, Debug, PartialEq, Eq)]
 pub enum Answer {
-    /// The link took it.
+    /// The link took the datagram.
     Took,
     /// The link knows no peer yet, and took nothing.
     NoPeer,

@@ -46,8 +46,8 @@ impl Sender {
         self.store.put(sent);
     }
 
-    // Writes the datagram of a payload on a link, unless that is down. True where one link is enough and this one took
-    // it.
+    // Writes the datagram of a payload on a link, unless that is down. True where one link is enough, this one is up
+    // and the write didn't fail.
     fn copy_on<L: Link>(
         &mut self,
         one: bool,
@@ -73,7 +73,7 @@ impl Sender {
         one && !is_failed(answer)
     }
 
-    // The same on links between two, up to the first that took it where one is enough.
+    // The same on links between two; where one is enough, up to the first write that doesn't fail.
     fn spread_over<L: Link>(
         &mut self,
         one: bool,

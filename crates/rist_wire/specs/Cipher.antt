@@ -1,5 +1,5 @@
 -- How datagrams of a session with a passphrase are enciphered (this profile): AES (FIPS 197) in counter mode
--- (NIST SP 800-38A) under a key that PBKDF2 (RFC 8018) derives.
+-- (NIST SP 800-38A, section 6.5) under a key that PBKDF2 (RFC 8018, section 5.2) derives.
 use Rattle.std.specs.Prelude.{ℕ, List, ◌++◌, replicate, Option, Some, None, unwrap_or}
 use Rattle.std.specs.Int.{w32, to_be_bytes}
 use Rattle.psk_keys.specs.Keys.{KeysState, key_of}

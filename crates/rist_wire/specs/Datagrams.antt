@@ -1,4 +1,4 @@
--- The datagrams of messages, in the tunnel or without it.
+-- The datagrams of messages, in the tunnel (this profile) or without it (VSF TR-06-1).
 use Rattle.std.specs.Prelude.{◌≡◌, ℕ, ◌+◌, Bool, true, false, ◌&&◌, List, ◌++◌, ◌==◌, Option, Some, is_some}
 use Rattle.std.specs.Int.{w16, to_be_bytes}
 use Rattle.outside_io.specs.declared.channel.Channel.{Channel}
@@ -37,7 +37,7 @@ protocol_for full KeepaliveKind = keepalive_protocol
 abbrev pub header_for : Bool → Option Pair → Kind → Header
 header_for full pair kind = header_with (nonce_of pair) (sequence_of pair) (protocol_for full kind)
 
--- an ignored bit says that the key has 32 octets
+-- an ignored bit says that the key has 32 octets (this profile)
 abbrev pub is_long : ℕ → Option Pair → Bool
 is_long bits pair = is_some pair && (bits == 256)
 

@@ -1,4 +1,4 @@
--- The RTP packets of media.
+-- The RTP packets of media (RFC 3550, section 5.1).
 use Rattle.std.specs.Prelude.{ℕ, ◌+◌, ◌/◌, ◌%◌, ◌^◌, ◌||◌, List, if◌then◌else◌, Option, Some, None, is_some}
 use Rattle.std.specs.Int.{from_bool}
 use Rattle.seq_unwrap.specs.declared.width.Width.{Width}

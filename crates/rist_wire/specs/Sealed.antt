@@ -1,5 +1,5 @@
--- Enciphered datagrams of the tunnel (this profile): AES (FIPS 197) in counter mode (NIST SP 800-38A) behind a GRE
--- header with a key and a sequence number (RFC 2890).
+-- Enciphered datagrams of the tunnel (this profile): AES (FIPS 197) in counter mode (NIST SP 800-38A, section 6.5)
+-- behind a GRE header with a key and a sequence number (RFC 2890, section 2).
 use Rattle.std.specs.Prelude.{◌≡◌, ℕ, List, drop, Option, Some, Ok}
 use Rattle.std.specs.Int.{w32, to_be_bytes}
 use Rattle.gre_tunnel.specs.declared.gre.Gre.{Gre}

@@ -1,4 +1,4 @@
-//! Keys and counter blocks of enciphered datagrams.
+//! Keys and counter blocks of enciphered datagrams (this profile).
 ghost use Rattle.std.specs.Prelude.{◌≡◌, None};
 ghost use Rattle.psk_keys.specs.Keys.{IsKeyLength};
 ghost use Rattle.rist_wire.specs.Cipher.{key_by, ciphered, ciphered_under, first_counter_block, key_under, secret_of};

@@ -7,22 +7,22 @@ use rtcp_compound::Compound;
 /// What a datagram says, a view of its octets.
 #[derive(Debug, Drop)]
 pub enum Item<'a> {
-    /// An RTP packet of a flow.
+    /// An RTP packet of a flow (RFC 3550, section 5.1).
     Media(Media<'a>),
-    /// An RTCP compound.
+    /// An RTCP compound (RFC 3550, section 6.1).
     Control(Compound<'a>),
-    /// A keepalive of the tunnel.
+    /// A keepalive of the tunnel (this profile).
     Keepalive(Keepalive),
 }
 
 /// What follows a datagram's headers.
 #[derive(Clone, Copy, Debug, PartialEq, Eq)]
 pub enum Kind {
-    /// An RTP packet.
+    /// An RTP packet (RFC 3550, section 5.1).
     Media,
-    /// An RTCP compound.
+    /// An RTCP compound (RFC 3550, section 6.1).
     Control,
-    /// A keepalive message.
+    /// A keepalive message (this profile).
     Keepalive,
 }
 

@@ -10,15 +10,15 @@ use ts_nulls::{Strip, put_back};
 /// Media of a flow, a view of the octets of its datagram.
 #[derive(Debug, Drop)]
 pub struct Media<'a> {
-    /// The flow: the SSRC with its lowest bit cleared.
+    /// The flow: the SSRC with its lowest bit cleared (VSF TR-06-1).
     pub flow: u32,
-    /// Whether it is a retransmission: the lowest bit of the SSRC.
+    /// Whether it is a retransmission: the lowest bit of the SSRC (VSF TR-06-1).
     pub again: bool,
     /// How many bits of the number were sent.
     pub width: Width,
     /// These bits.
     pub word: u32,
-    /// The RTP timestamp, in ticks of 1/90,000 s.
+    /// The RTP timestamp, in ticks of 1/90,000 s (RFC 3551, section 6).
     pub stamp: u32,
     pub(crate) strip: Option<Strip>,
     pub(crate) payload: &'a [u8],

@@ -1,4 +1,4 @@
-//! The RTP packets of media.
+//! The RTP packets of media (RFC 3550, section 5.1).
 ghost use Rattle.std.specs.Prelude.{◌≡◌, ◌+◌, ◌%◌, ◌≤◌, ◌<◌, Ok, Some, true, length, take, is_none};
 ghost use Rattle.rist_wire.specs.declared.item.Kind.TheVariants.{Media as MediaKind};
 ghost use Rattle.rist_wire.specs.declared.item.Item.TheVariants.{Media as MediaItem};

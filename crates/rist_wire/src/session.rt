@@ -11,7 +11,7 @@ pub struct Session {
     pub port: u16,
     /// The passphrase, where datagrams are enciphered.
     pub pass: Option<Phrase>,
-    /// The bits of a key: 128 or 256.
+    /// The bits of a key of AES: 128 or 256 (FIPS 197, section 5).
     pub bits: u16,
     /// Whether null packets are deleted where datagrams are written.
     pub nulls: bool,

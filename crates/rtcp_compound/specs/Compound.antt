@@ -79,7 +79,8 @@ pub record Holds (kind count : ℕ) (body : List ℕ) : Type 0 where
   pub application : kind ≡ 204 → 8 ≤ length body
   pub feedback : (kind ≡ 205) ⊎ (kind ≡ 206) → 8 ≤ length body
 
--- a packet of whole words: its header's fields fit, its padding counts itself, and its body is whole
+-- a packet of whole words: its header's fields fit, its type is 192 to 223 (this profile), its padding counts itself,
+-- and its body is whole
 pub record IsWire (w : Wire) : Type 0 where
   pub count : w.count < 32
   pub low : 192 ≤ w.kind

@@ -59,7 +59,8 @@ has_body kind count body =
     else (if kind == 204 || (kind == 205 || kind == 206) then nat_le 8 (length body)
     else true))))
 
--- the first test that the packet at the front fails; the first packet of all is to be a report
+-- the first test that the packet at the front fails; types are 192 to 223 (this profile), and the first packet of all
+-- is to be a report
 abbrev pub fault_at : Bool → List ℕ → Option RtcpWhy
 fault_at first octets =
     if nat_lt (length octets) 4 then Some Short

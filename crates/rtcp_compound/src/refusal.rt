@@ -10,7 +10,7 @@ pub enum RtcpWhy {
     Short,
     /// The version isn't 2.
     Version,
-    /// The packet type is below 192 or above 223.
+    /// The packet type is below 192 or above 223 (this profile).
     Kind,
     /// The first packet is neither a sender's nor a receiver's report.
     First,

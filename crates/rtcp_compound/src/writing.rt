@@ -12,7 +12,7 @@ use std::marker::Model;
 /// The most octets of a compound that is written (this profile).
 pub const OUT_LEN: usize = 1400;
 
-// The item CNAME, `rist`, the zero octet that ends the items, and one of fill.
+// The item CNAME, `rist` (this profile), the zero octet that ends the items, and one of fill.
 const NAME_ITEM: [u8; 8] = [1, 4, b'r', b'i', b's', b't', 0, 0];
 
 /// A compound that is being written.
@@ -139,7 +139,7 @@ impl CompoundOut {
         self.put(0, 201, &[ssrc], &[], &[])
     }
 
-    /// Puts a source description with one chunk, whose CNAME is `rist`. `Full` where it doesn't fit.
+    /// Puts a source description with one chunk, whose CNAME is `rist` (this profile). `Full` where it doesn't fit.
     pub fn put_sdes(&mut self, ssrc: u32) -> Result<(), Full>
         requires { 0 < length self.old.octets }
         ensures ok { OnOk result (Gains self.old self.new

@@ -6,11 +6,11 @@ ghost use Rattle.stream_pieces.specs.Reading.{ReadsPiece, front_of, piece_fault}
 use crate::PieceFault;
 use outside_io::{Source, read_full};
 
-/// Octets of a whole piece: seven transport stream packets of 188 octets (ISO/IEC 13818-1, 2.4.3.2), as many as
-/// TR-06-1 has in one RTP packet.
+/// Octets of a whole piece: seven transport stream packets of 188 octets (ISO/IEC 13818-1, section 2.4.3.2), as many as
+/// VSF TR-06-1 has in one RTP packet.
 pub const PIECE_LEN: usize = 1316;
 
-/// Octets of the longest source.
+/// Octets of the longest source (this profile).
 pub const MAX_LEN: u64 = 1 << 40;
 
 /// Reads piece k, or what the source has left of it, to the front of a block, and one octet past the longest source at
