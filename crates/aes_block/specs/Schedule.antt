@@ -20,7 +20,7 @@ power_of_x (suc n) = times_x (power_of_x n)
 abbrev pub round_constant : ℕ → List ℕ
 round_constant j = power_of_x (j - 1) ∷ 0 ∷ 0 ∷ 0 ∷ []
 
--- what is added to the word `length_of_key` places before to make word i: the word before it, which
+-- what is added to the word `key_words` places before to make word i: the word before it, which
 -- is transformed at each multiple of the key's length, and in a key of more than six words also in
 -- the middle between two
 abbrev pub step_word : ℕ → ℕ → List ℕ → List ℕ
