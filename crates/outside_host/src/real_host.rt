@@ -6,6 +6,8 @@ ghost use Rattle.outside_io.specs.Told.{IsEmpty};
 ghost use Rattle.outside_host.specs.Shelf.{nowhere, HasHostCause};
 
 use crate::{Host, HostBad, Reception};
+use libc::net::{POLLIN, poll};
+use libc::types::pollfd;
 use outside_io::{
     FileIdentity, Profile, RealEntropy, RealSink, RealSource, create_sink, is_named,
     open_known_source,
@@ -17,6 +19,12 @@ use std::marker::Model;
 use std::net::Net;
 use std::random::RandomSource;
 use std::time::Clock;
+
+/// The descriptor of standard input.
+const STANDARD_INPUT: i32 = 0;
+
+/// What `poll` takes for no limit of time.
+const NO_LIMIT: i32 = -1;
 
 /// The system's files, its standard streams under the name `-`, links over UDP, the process clock and the system's random
 /// source. A file that is read as the source isn't opened as the sink: that would empty it. All clocks have one start.
@@ -90,6 +98,9 @@ where
     {
         match open_known_source(self.rt, name) {
             Ok((source, file)) => {
+                if name == "-" {
+                    await_input();
+                }
                 self.read = file;
                 Ok(source)
             }
@@ -161,4 +172,16 @@ where
         // A line that can't be written changes no answer.
         let _ = eprintln!(self.rt; "rist: {reception}");
     }
+}
+
+/// Waits until standard input gives something or has ended. So the time of what is read from it begins with its first octets,
+/// however late these come.
+fn await_input() {
+    let mut input = [pollfd {
+        fd: STANDARD_INPUT,
+        events: POLLIN,
+        revents: 0,
+    }];
+    // Where it fails, the first read waits.
+    let _ = poll(&mut input, NO_LIMIT);
 }
