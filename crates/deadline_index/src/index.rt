@@ -57,6 +57,7 @@ impl DeadlineIndex {
     }
 
     /// Gives a place another tick, or `NEVER`.
+    #[inline(always)]
     pub fn set(&mut self, place: usize, tick: u64)
         requires { place < length self.old }
         ensures value { self.new ≡ slice_set self.old place tick }

@@ -116,6 +116,7 @@ impl Ring {
 
     /// Whether a packet that waits is due at a tick, or any waits, without a tick. Mostly the first is due, or none is: then
     /// no place but the first's is looked at.
+    #[inline(always)]
     pub fn is_any_due(&self, until: Option<u64>) -> bool
         requires { ForSome until (λ t. t < 2 ^ 61) }
         ensures { result ≡ list_any (is_past_deadline (moment_of until)) self.now.packets }
