@@ -1,0 +1,67 @@
+#!/bin/sh
+# A live encoder that begins three seconds after `rist send -`: ffmpeg makes ten seconds of a test picture and a tone in real time, a
+# transport stream of 4 Mbit/s, which `rist recv -` gives to a decoder, ffmpeg once more. Straight, and through relay.py with 4 per cent
+# of the datagrams lost each way. What came has to be what was sent, but for 20 pieces at the end at most, none of which may be missing
+# in the straight run, and the decoder has to find no error. It takes half a minute, needs ffmpeg and python3, uses 127.0.0.1 alone and
+# writes only below a new folder in /tmp. Where a tool isn't there it says so and ends with status 3, without `recv` with status 4.
+set -eu
+here=$(cd "$(dirname "$0")" && pwd)
+top=$(dirname "$here")
+. "$here/recv_common.sh"
+need ffmpeg python3 timeout
+work=$(mktemp -d /tmp/encoder_live.XXXXXX)
+started=
+trap 'kill $started 2> /dev/null || true; rm -rf "$work"' EXIT
+need_recv
+
+# encode: the stream, to the standard output.
+encode() {
+    sleep 3
+    ffmpeg -nostdin -loglevel error -re -f lavfi -i testsrc2=size=640x360:rate=25 \
+        -re -f lavfi -i sine=frequency=440:sample_rate=48000 -t 10 \
+        -c:v mpeg2video -b:v 3M -maxrate 3M -bufsize 1M -g 25 -c:a mp2 -b:a 128k -f mpegts -muxrate 4M -
+}
+
+# decode: what `recv` gives, to nowhere; it is kept too.
+decode() {
+    timeout 60 "$top/bin/rist" recv - 127.0.0.1:5000 --idle 6000 2> "$work/log" | tee "$work/came" \
+        | ffmpeg -nostdin -loglevel error -f mpegts -i - -f null - 2> "$work/decoder"
+}
+
+# try NAME TO LEAST RELAY: the stream to port TO, through a relay with the words RELAY, if any; LEAST pieces may be missing at the end.
+try() {
+    name=$1 to=$2 least=$3 relay=$4
+    echo "$name"
+    started=
+    if [ -n "$relay" ]; then
+        timeout 60 python3 "$here/relay.py" $relay > "$work/relay" &
+        started="$!"
+        await_ready "$work/relay"
+    fi
+    decode &
+    decoder=$!
+    started="$started $decoder"
+    sleep 0.5
+    encode | tee "$work/source" | timeout 60 "$top/bin/rist" send - "127.0.0.1:$to" --gap 2500
+    wait $decoder || true
+    cat "$work/log"
+    if [ -n "$relay" ]; then
+        wait ${started%% *} || true
+        grep relay: "$work/relay"
+    fi
+    started=
+    echo "lines from the decoder: $(wc -l < "$work/decoder")"
+    python3 - "$work/source" "$work/came" "$least" <<'PY'
+import sys
+source, came, least = open(sys.argv[1], 'rb').read(), open(sys.argv[2], 'rb').read(), int(sys.argv[3])
+missing = len(source) - len(came)
+print(f'{len(came)} of {len(source)} octets came', '' if source.startswith(came) else ', and not the first ones', sep='')
+sys.exit(not source or not source.startswith(came) or missing > least * 1316)
+PY
+    [ ! -s "$work/decoder" ]
+}
+
+bad=0
+try 'straight' 5000 0 '' || bad=1
+try '4 per cent lost each way' 7000 20 '--lose 4 --lose-back 4 --delay 5 --seed 7 --whole 20 --quiet 6 7000:5000' || bad=1
+exit $bad
