@@ -2,7 +2,7 @@
 # A live encoder that begins three seconds after `rist send -`: ffmpeg makes ten seconds of a test picture and a tone in real time, a
 # transport stream of 4 Mbit/s, which `rist recv -` gives to a decoder, ffmpeg once more. Straight, and through relay.py with 4 per cent
 # of the datagrams lost each way. What came has to be what was sent, but for 20 pieces at the end at most, none of which may be missing
-# in the straight run, and the decoder has to find no error. It takes half a minute, needs ffmpeg and python3, uses 127.0.0.1 alone and
+# in the straight run, and the decoder has to find no error. It takes a minute, needs ffmpeg and python3, uses 127.0.0.1 alone and
 # writes only below a new folder in /tmp. Where a tool isn't there it says so and ends with status 3, without `recv` with status 4.
 set -eu
 here=$(cd "$(dirname "$0")" && pwd)
