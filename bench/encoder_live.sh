@@ -1,7 +1,7 @@
 #!/bin/sh
 # A live encoder that begins three seconds after `rist send -`: ffmpeg makes ten seconds of a test picture and a tone in real time, a
 # transport stream of 4 Mbit/s, which `rist recv -` gives to a decoder, ffmpeg once more. Straight, and through relay.py with 4 per cent
-# of the datagrams lost each way. What came has to be what was sent, but for 20 pieces at the end at most, none of which may be missing
+# of the datagrams lost each way, in the Simple Profile and enciphered in the tunnel. What came has to be what was sent, but for 20 pieces at the end at most, none of which may be missing
 # in the straight run, and the decoder has to find no error. It takes a minute, needs ffmpeg and python3, uses 127.0.0.1 alone and
 # writes only below a new folder in /tmp. Where a tool isn't there it says so and ends with status 3, without `recv` with status 4.
 set -eu
@@ -22,15 +22,17 @@ encode() {
         -c:v mpeg2video -b:v 3M -maxrate 3M -bufsize 1M -g 25 -c:a mp2 -b:a 128k -f mpegts -muxrate 4M -
 }
 
-# decode: what `recv` gives, to nowhere; it is kept too.
+# decode SESSION: what `recv` gives in a session of these words, to nowhere; it is kept too.
 decode() {
-    timeout 60 "$top/bin/rist" recv - 127.0.0.1:5000 --idle 6000 2> "$work/log" | tee "$work/came" \
+    timeout 60 "$top/bin/rist" recv - 127.0.0.1:5000 --idle 6000 "$@" 2> "$work/log" | tee "$work/came" \
         | ffmpeg -nostdin -loglevel error -f mpegts -i - -f null - 2> "$work/decoder"
 }
 
-# try NAME TO LEAST RELAY: the stream to port TO, through a relay with the words RELAY, if any; LEAST pieces may be missing at the end.
+# try NAME TO LEAST RELAY SESSION..: the stream to port TO, through a relay with the words RELAY, if any, in a session of these words;
+# LEAST pieces may be missing at the end.
 try() {
     name=$1 to=$2 least=$3 relay=$4
+    shift 4
     echo "$name"
     started=
     if [ -n "$relay" ]; then
@@ -38,11 +40,11 @@ try() {
         started="$!"
         await_ready "$work/relay"
     fi
-    decode &
+    decode "$@" &
     decoder=$!
     started="$started $decoder"
     sleep 0.5
-    encode | tee "$work/source" | timeout 60 "$top/bin/rist" send - "127.0.0.1:$to" --gap 2500
+    encode | tee "$work/source" | timeout 60 "$top/bin/rist" send - "127.0.0.1:$to" --gap 2500 "$@"
     wait $decoder || true
     cat "$work/log"
     if [ -n "$relay" ]; then
@@ -63,5 +65,7 @@ PY
 
 bad=0
 try 'straight' 5000 0 '' || bad=1
-try '4 per cent lost each way' 7000 20 '--lose 4 --lose-back 4 --delay 5 --seed 7 --whole 20 --quiet 6 7000:5000' || bad=1
+lossy='--lose 4 --lose-back 4 --delay 5 --seed 7 --whole 20 --quiet 6'
+try '4 per cent lost each way' 7000 20 "$lossy 7000:5000" || bad=1
+try 'enciphered, 4 per cent lost each way' 7000 20 "$lossy --one-port 7000:5000" --profile main --pass secret || bad=1
 exit $bad
