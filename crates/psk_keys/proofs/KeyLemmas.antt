@@ -1,79 +1,279 @@
--- The keys that are cached, and their nonces.
-use Rattle.std.proofs.Common.{◌≡◌, ◌⊎◌, ℕ, zero, suc, ◌<◌, ◌≤◌, List, [], ◌∷◌, cond, true, false, length, take, get_or, remove, Contains, refl, ap, subst, inl, inr, arith, nat_eq}
+-- The places of keys, and the nonces in them.
+use Rattle.std.proofs.Common.{◌≡◌, ◌⊎◌, ℕ, zero, suc, ◌+◌, ◌-◌, ◌<◌, ◌≤◌, List, [], ◌∷◌, Bool, cond, true, false, Option, Some, None, length, take, slice_get, get_or, Contains, IfSome, IsSome, OnOk, IsOk, Result, Ok, Err, refl, sym, ap, subst, ◌∙◌, inl, inr, arith, nat_eq, add-one}
 use Rattle.std.specs.Int.{w32, to_be_bytes}
+use Rattle.std.specs.List.{IsDistinct, AllByRecursion}
+use Rattle.std.specs.Map.{keys_of, lookup, lookup_entry, remove_entry}
+use Rattle.std.specs.Option.{option_map_or}
+use Rattle.std.proofs.lemmas.List.{length-take, take_all}
 use Rattle.std.proofs.lemmas.Bool.Decides.{nat_tests}
-use Rattle.psk_keys.specs.Keys.{key_of, without}
-use Rattle.psk_keys.specs.Inside.Cached.{AreDerived, nonces_of, place_of}
+use Rattle.lru.proofs.CallerLemmas.{Contains-lookup_entry, Contains-remove_entry, Contains-take}
+use Rattle.lru.specs.LruCache.{LruCache, lru_cache, put_entries, promoted, last_entry}
+use Rattle.psk_keys.specs.Keys.{KeysState, after_use, key_of, without}
+use Rattle.psk_keys.specs.Inside.Cached.{AreKept, AreFilledFromFront, nonces_of, has_key_of, place_of, empty_places}
 use Rattle.psk_keys.specs.declared.cached.Cached.{Cached}
 
--- the nonces without the one whose key is taken out
-pub removed : (n : ℕ) (cs : List Cached) → nonces_of (remove cs (place_of n (nonces_of cs))) ≡ without n (nonces_of cs)
-removed n [] = refl
-removed n (c ∷ cs) = elim (nat_eq n c.nonce) as (λ y. nonces_of (remove (c ∷ cs) (cond y 0 (suc (place_of n (nonces_of cs))))) ≡ cond y (nonces_of cs) (c.nonce ∷ without n (nonces_of cs))) [
-  | true ↦ refl
-  | false ↦ ap (λ l. c.nonce ∷ l) (removed n cs)
-]
+-- ---- numbers of places
 
-at_front : (n x : ℕ) (xs : List ℕ) (k : ℕ) → nat_eq n x ≡ true → ((i : ℕ) → i < k → get_or (x ∷ xs) i 0 ≡ n → ⊥) → 0 ≡ k
-at_front n x xs zero t before = refl
-at_front n x xs (suc k) t before = absurd (before 0 (omega arith) (grind (arith, nat_tests)))
+mirrored : (p q : ℕ) → nat_eq q p ≡ false → nat_eq p q ≡ false
+mirrored p q is = grind (arith, nat_tests)
 
-not_front : (n x : ℕ) (xs : List ℕ) → nat_eq n x ≡ false → (0 < length (x ∷ xs) → get_or (x ∷ xs) 0 0 ≡ n) → ⊥
-not_front n x xs t here =
-    let same : x ≡ n = here (omega arith) in
-    grind (arith, nat_tests)
+itself : (p q : ℕ) → q ≡ p → nat_eq p q ≡ true
+itself p q is = grind (arith, nat_tests)
 
--- the first place where a nonce stands
-pub place_is : (n : ℕ) (xs : List ℕ) (k : ℕ) → k ≤ length xs → ((i : ℕ) → i < k → get_or xs i 0 ≡ n → ⊥)
-    → (k < length xs → get_or xs k 0 ≡ n) → place_of n xs ≡ k
-place_is n [] k within before here = omega arith
-place_is n (x ∷ xs) zero within before here = (elim (nat_eq n x) as (λ y. nat_eq n x ≡ y → cond y 0 (suc (place_of n xs)) ≡ 0) [
-  | true ↦ λ t. refl
-  | false ↦ λ t. absurd (not_front n x xs t here)
-]) refl
-place_is n (x ∷ xs) (suc k) within before here = (elim (nat_eq n x) as (λ y. nat_eq n x ≡ y → cond y 0 (suc (place_of n xs)) ≡ suc k) [
-  | true ↦ λ t. at_front n x xs (suc k) t before
-  | false ↦ λ t. ap suc (place_is n xs k (omega arith) (λ i low. before (suc i) (omega arith)) (λ low. here (omega arith)))
-]) refl
+-- where the key of a nonce lies further on, it lies in another place
+other_place : (q n p : ℕ) (es : List (ℕ × Option Cached)) → AllByRecursion (λ y. nat_eq q y ≡ false) (keys_of es)
+    → place_of n es ≡ Some p → nat_eq q p ≡ false
+other_place q n p [] all is = cc
+other_place q n p (e ∷ es) all is = (elim (has_key_of n e.1) as (λ y. cond y (Some e.0) (place_of n es) ≡ Some p → nat_eq q p ≡ false) [
+  | true ↦ λ here. let same : e.0 ≡ p = cc in subst (λ k. nat_eq q k ≡ false) same all.0
+  | false ↦ λ on. other_place q n p es all.1 on
+]) is
 
--- it stands there, unless it is none of them
-pub place_stands : (n : ℕ) (cs : List Cached) (d : Cached) → place_of n (nonces_of cs) < length cs
-    → (get_or cs (place_of n (nonces_of cs)) d).nonce ≡ n
-place_stands n [] d low = absurd (omega arith)
-place_stands n (c ∷ cs) d low = (elim (nat_eq n c.nonce) as (λ y. nat_eq n c.nonce ≡ y → cond y 0 (suc (place_of n (nonces_of cs))) < length (c ∷ cs)
-    → (get_or (c ∷ cs) (cond y 0 (suc (place_of n (nonces_of cs)))) d).nonce ≡ n) [
-      | true ↦ λ t _. grind (arith, nat_tests)
-      | false ↦ λ t low. place_stands n cs d (omega arith)
-    ]) refl low
+-- ---- a key that is cached
 
--- nothing is without a nonce that is none of them
-pub all_stay : (n : ℕ) (cs : List Cached) → length cs ≤ place_of n (nonces_of cs) → nonces_of cs ≡ without n (nonces_of cs)
-all_stay n [] high = refl
-all_stay n (c ∷ cs) high = (elim (nat_eq n c.nonce) as (λ y. nat_eq n c.nonce ≡ y → length (c ∷ cs) ≤ cond y 0 (suc (place_of n (nonces_of cs)))
-    → nonces_of (c ∷ cs) ≡ cond y (nonces_of cs) (c.nonce ∷ without n (nonces_of cs))) [
-      | true ↦ λ t high. absurd (omega arith)
-      | false ↦ λ t high. ap (λ l. c.nonce ∷ l) (all_stay n cs (omega arith))
-    ]) refl high
+pub record IsHit (n p : ℕ) (es : List (ℕ × Option Cached)) : Type 0 where
+  pub key : Cached
+  pub found : lookup_entry (nat_eq p) es ≡ Some (p, Some key)
+  pub nonce : key.nonce ≡ n
+  pub rest : nonces_of (remove_entry (nat_eq p) es) ≡ without n (nonces_of es)
+  pub one_less : length (remove_entry (nat_eq p) es) + 1 ≡ length es
 
-first_or_later : (c : Cached) (cs : List Cached) (x : Cached) (k : ℕ) → k < length (c ∷ cs) → get_or (c ∷ cs) k x ≡ x → (c ≡ x) ⊎ Contains cs x
-first_or_later c cs x zero low is = inl is
-first_or_later c cs x (suc k) low is = inr (k, omega arith, is)
-
-in_front : (n : ℕ) (cs : List Cached) (x : Cached) → Contains (take n cs) x → Contains cs x
-in_front zero cs x there = absurd (let low = there.1 in omega arith)
-in_front (suc n) [] x there = there
-in_front (suc n) (c ∷ cs) x there = elim (first_or_later c (take n cs) x there.0 there.1 there.2) [
-  | inl is ↦ (0, omega arith, is)
-  | inr on ↦ let later = in_front n cs x on in let low = later.1 in (suc later.0, omega arith, later.2)
-]
-
--- a key that is the one of its nonce goes before those that are still cached
-pub front_derived : (pass : List ℕ) (bits n : ℕ) (front : Cached) (old new : List Cached) → AreDerived pass bits old
-    → ((c : Cached) → Contains new c → Contains old c) → front.cipher ≡ key_of pass bits (to_be_bytes w32 front.nonce)
-    → AreDerived pass bits (front ∷ take n new)
-front_derived pass bits n front old new derived kept is = record {
-  each = λ c there. elim (first_or_later front (take n new) c there.0 there.1 there.2) [
-    | inl same ↦ subst (λ (x : Cached). x.cipher ≡ key_of pass bits (to_be_bytes w32 x.nonce)) same is
-    | inr on ↦ derived.each c (kept c (in_front n new c on))
-  ];
+empty_before : (n p q : ℕ) (es : List (ℕ × Option Cached)) → nat_eq p q ≡ false → IsHit n p es → IsHit n p ((q, None) ∷ es)
+empty_before n p q es apart h = record {
+  key = h.key;
+  found = rw apart h.found;
+  nonce = h.nonce;
+  rest = rw apart h.rest;
+  one_less = rw apart (omega (arith, h.one_less));
 }
+
+other_before : (n p q : ℕ) (c : Cached) (es : List (ℕ × Option Cached)) → nat_eq p q ≡ false → nat_eq n c.nonce ≡ false
+    → IsHit n p es → IsHit n p ((q, Some c) ∷ es)
+other_before n p q c es apart other h = record {
+  key = h.key;
+  found = rw apart h.found;
+  nonce = h.nonce;
+  rest = rw (apart, other) (ap (λ l. c.nonce ∷ l) h.rest);
+  one_less = rw apart (omega (arith, h.one_less));
+}
+
+here : (n p q : ℕ) (c : Cached) (es : List (ℕ × Option Cached)) → q ≡ p → nat_eq n c.nonce ≡ true → IsHit n p ((q, Some c) ∷ es)
+here n p q c es same is = let test = itself p q same in record {
+  key = c;
+  found = rw test (ap (λ k. Some (k, Some c)) same);
+  nonce = grind (arith, nat_tests);
+  rest = rw (test, is);
+  one_less = rw test (omega arith);
+}
+
+pub hit : (n p : ℕ) (es : List (ℕ × Option Cached)) → IsDistinct nat_eq (keys_of es) → place_of n es ≡ Some p → IsHit n p es
+unfolding IsDistinct
+hit n p [] apart is = cc
+hit n p ((q, None) ∷ es) apart is =
+    empty_before n p q es (mirrored p q (other_place q n p es apart.0 is)) (hit n p es apart.1 is)
+hit n p ((q, Some c) ∷ es) apart is = (elim (nat_eq n c.nonce) as (λ y. nat_eq n c.nonce ≡ y → cond y (Some q) (place_of n es) ≡ Some p → IsHit n p ((q, Some c) ∷ es)) [
+  | true ↦ λ t first. here n p q c es (let same : q ≡ p = cc in same) t
+  | false ↦ λ t on. other_before n p q c es (mirrored p q (other_place q n p es apart.0 on)) t (hit n p es apart.1 on)
+]) refl is
+
+-- ---- the order of the places
+
+-- what is taken from the back goes to the front: one place that isn't filled has none behind it
+none_filled : (es : List (ℕ × Option Cached)) → nonces_of es ≡ [] → AreFilledFromFront es
+none_filled [] none = tt
+none_filled ((q, None) ∷ es) none = none
+none_filled ((q, Some c) ∷ es) none = cc
+
+none_left : (test : ℕ → Bool) (es : List (ℕ × Option Cached)) → nonces_of es ≡ [] → nonces_of (remove_entry test es) ≡ []
+none_left test [] none = refl
+none_left test ((q, None) ∷ es) none = elim (test q) as (λ y. nonces_of (cond y es ((q, None) ∷ remove_entry test es)) ≡ []) [
+  | true ↦ none
+  | false ↦ none_left test es none
+]
+none_left test ((q, Some c) ∷ es) none = cc
+
+pub filled_without : (test : ℕ → Bool) (es : List (ℕ × Option Cached)) → AreFilledFromFront es → AreFilledFromFront (remove_entry test es)
+filled_without test [] filled = tt
+filled_without test ((q, None) ∷ es) filled = elim (test q) as (λ y. AreFilledFromFront (cond y es ((q, None) ∷ remove_entry test es))) [
+  | true ↦ none_filled es filled
+  | false ↦ none_left test es filled
+]
+filled_without test ((q, Some c) ∷ es) filled = elim (test q) as (λ y. AreFilledFromFront (cond y es ((q, Some c) ∷ remove_entry test es))) [
+  | true ↦ filled
+  | false ↦ filled_without test es filled
+]
+
+none_in_front : (m : ℕ) (es : List (ℕ × Option Cached)) → nonces_of es ≡ [] → nonces_of (take m es) ≡ []
+none_in_front zero es none = refl
+none_in_front (suc m) [] none = refl
+none_in_front (suc m) ((q, None) ∷ es) none = none_in_front m es none
+none_in_front (suc m) ((q, Some c) ∷ es) none = cc
+
+pub filled_in_front : (m : ℕ) (es : List (ℕ × Option Cached)) → AreFilledFromFront es → AreFilledFromFront (take m es)
+filled_in_front zero es filled = tt
+filled_in_front (suc m) [] filled = tt
+filled_in_front (suc m) ((q, None) ∷ es) filled = none_in_front m es filled
+filled_in_front (suc m) ((q, Some c) ∷ es) filled = filled_in_front m es filled
+
+pub nonces_in_front : (m : ℕ) (es : List (ℕ × Option Cached)) → AreFilledFromFront es → nonces_of (take m es) ≡ take m (nonces_of es)
+nonces_in_front zero es filled = refl
+nonces_in_front (suc m) [] filled = refl
+nonces_in_front (suc m) ((q, None) ∷ es) filled = none_in_front m es filled ∙ sym (ap (λ l. take (suc m) l) filled)
+nonces_in_front (suc m) ((q, Some c) ∷ es) filled = ap (λ l. c.nonce ∷ l) (nonces_in_front m es filled)
+
+pub no_more_nonces : (es : List (ℕ × Option Cached)) → length (nonces_of es) ≤ length es
+no_more_nonces [] = omega arith
+no_more_nonces ((q, None) ∷ es) = omega (arith, no_more_nonces es)
+no_more_nonces ((q, Some c) ∷ es) = omega (arith, no_more_nonces es)
+
+-- ---- a key that isn't cached
+
+pub all_stay : (n : ℕ) (es : List (ℕ × Option Cached)) → place_of n es ≡ None → without n (nonces_of es) ≡ nonces_of es
+all_stay n [] is = refl
+all_stay n ((q, None) ∷ es) is = all_stay n es is
+all_stay n ((q, Some c) ∷ es) is = (elim (nat_eq n c.nonce) as (λ y. cond y (Some q) (place_of n es) ≡ None → cond y (nonces_of es) (c.nonce ∷ without n (nonces_of es)) ≡ c.nonce ∷ nonces_of es) [
+  | true ↦ λ first. cc
+  | false ↦ λ on. ap (λ l. c.nonce ∷ l) (all_stay n es on)
+]) is
+
+-- the number of a place isn't that of one further on
+later_place : (q k : ℕ) (e : ℕ × Option Cached) (es : List (ℕ × Option Cached)) → AllByRecursion (λ y. nat_eq q y ≡ false) (keys_of es)
+    → slice_get es k ≡ Some e → nat_eq q e.0 ≡ false
+later_place q k e [] all is = cc
+later_place q zero e (f ∷ es) all is = let same : f ≡ e = cc in subst (λ (x : ℕ × Option Cached). nat_eq q x.0 ≡ false) same all.0
+later_place q (suc k) e (f ∷ es) all is = later_place q k e es all.1 is
+
+pub record IsLast (e : ℕ × Option Cached) (k : ℕ) (es : List (ℕ × Option Cached)) : Type 0 where
+  pub found : lookup_entry (nat_eq e.0) es ≡ Some e
+  pub there : IsSome (lookup (nat_eq e.0) es)
+  pub rest : remove_entry (nat_eq e.0) es ≡ take k es
+
+one_before : (e f : ℕ × Option Cached) (k : ℕ) (es : List (ℕ × Option Cached)) → nat_eq e.0 f.0 ≡ false → IsLast e k es → IsLast e (suc k) (f ∷ es)
+one_before e f k es apart l = record {
+  found = rw apart l.found;
+  there = rw apart l.there;
+  rest = rw apart (ap (λ (r : List (ℕ × Option Cached)). f ∷ r) l.rest);
+}
+
+alone : (e f : ℕ × Option Cached) → f ≡ e → IsLast e 0 (f ∷ [])
+alone e f same = let test = itself e.0 f.0 (ap (λ (x : ℕ × Option Cached). x.0) same) in record {
+  found = rw test (ap Some same);
+  there = rw test refl;
+  rest = rw test;
+}
+
+pub last_is : (e : ℕ × Option Cached) (k : ℕ) (es : List (ℕ × Option Cached)) → IsDistinct nat_eq (keys_of es)
+    → slice_get es k ≡ Some e → length es ≡ suc k → IsLast e k es
+unfolding IsDistinct
+last_is e k [] apart is long = cc
+last_is e zero (f ∷ []) apart is long = alone e f (let same : f ≡ e = cc in same)
+last_is e zero (f ∷ g ∷ es) apart is long = absurd (omega arith)
+last_is e (suc k) (f ∷ es) apart is long =
+    one_before e f k es (mirrored e.0 f.0 (later_place f.0 k e es apart.0 is)) (last_is e k es apart.1 is (omega arith))
+
+not_none : (k : ℕ) (es : List (ℕ × Option Cached)) → k < length es → slice_get es k ≡ None → ⊥
+not_none k [] low none = omega arith
+not_none zero (e ∷ es) low none = cc
+not_none (suc k) (e ∷ es) low none = not_none k es (omega arith) none
+
+pub some_last : (es : List (ℕ × Option Cached)) → 0 < length es → last_entry es ≡ None → ⊥
+some_last [] some none = omega arith
+some_last (e ∷ es) some none = not_none (length es) (e ∷ es) (omega arith) (subst (λ k. slice_get (e ∷ es) k ≡ None) (let same : length (e ∷ es) - 1 ≡ length es = omega arith in same) none)
+
+-- an answer that is none of memory holds
+pub on_ok : {T E : Type 0} (r : Result T E) (P : Type 0) → IsOk r → OnOk r P → P
+on_ok (Ok x) P ok is = is
+on_ok (Err x) P ok is = cc
+
+pub put_last : (e : ℕ × Option Cached) (k : ℕ) (cache : LruCache ℕ (Option Cached)) (v : Option Cached) → IsLast e k cache.entries
+    → put_entries nat_eq cache e.0 v ≡ (e.0, v) ∷ take k cache.entries
+put_last e k cache v l = rw (l.found, l.rest)
+
+-- ---- places without keys
+
+pub none_empty : (m : ℕ) (test : ℕ → Bool) → ((q : ℕ) → q < m → test q ≡ false) → lookup_entry test (empty_places m) ≡ None
+none_empty zero test fails = refl
+none_empty (suc m) test fails = rw (fails m (omega arith)) (none_empty m test (λ q low. fails q (omega arith)))
+
+pub length_empty : (m : ℕ) → length (empty_places m) ≡ m
+length_empty zero = refl
+length_empty (suc m) = omega (arith, length_empty m)
+
+-- one more
+pub one_more : (m : ℕ) → m < 4 → put_entries nat_eq (lru_cache (empty_places m) 4) m None ≡ empty_places (m + 1)
+one_more m low =
+    let none = none_empty m (nat_eq m) (λ q below. grind (arith, nat_tests)) in
+    rw (none, add-one) (ap (λ (l : List (ℕ × Option Cached)). (m, None) ∷ l) (take_all 3 (empty_places m) (omega (arith, length_empty m))))
+
+-- ---- what holds of a session's places
+
+Contains-cons : (p : ℕ × Option Cached) (es : List (ℕ × Option Cached)) (e : ℕ × Option Cached) → Contains (p ∷ es) e → (p ≡ e) ⊎ Contains es e
+Contains-cons p es e (zero, low, is) = inl is
+Contains-cons p es e (suc k, low, is) = inr (k, omega arith, is)
+
+-- a filled place that goes to the front
+front_kept : (pass : List ℕ) (bits p : ℕ) (c : Cached) (old rest : List (ℕ × Option Cached)) → AreKept pass bits old
+    → ((e : ℕ × Option Cached) → Contains rest e → Contains old e) → AreFilledFromFront rest → length rest + 1 ≡ length old
+    → c.cipher ≡ key_of pass bits (to_be_bytes w32 c.nonce) → AreKept pass bits ((p, Some c) ∷ rest)
+front_kept pass bits p c old rest kept from filled long is = record {
+  derived = record {
+    each = λ e there. elim (Contains-cons (p, Some c) rest e there) [
+      | inl same ↦ subst (λ (x : ℕ × Option Cached). IfSome x.1 (λ k. k.cipher ≡ key_of pass bits (to_be_bytes w32 k.nonce))) same is
+      | inr on ↦ kept.derived.each e (from e on)
+    ];
+  };
+  filled = filled;
+  four = omega (arith, long, kept.four);
+}
+
+pub record Turns (pass : List ℕ) (bits n : ℕ) (old new : List (ℕ × Option Cached)) : Type 0 where
+  pub kept : AreKept pass bits new
+  pub order : nonces_of new ≡ n ∷ take 3 (without n (nonces_of old))
+
+pub turn_on_hit : (pass : List ℕ) (bits n p : ℕ) (old : List (ℕ × Option Cached)) → AreKept pass bits old
+    → IsDistinct nat_eq (keys_of old) → place_of n old ≡ Some p → Turns pass bits n old (promoted (nat_eq p) old)
+turn_on_hit pass bits n p old kept apart is =
+    let h = hit n p old apart is in
+    let there = (Contains-lookup_entry (nat_eq p) old (p, Some h.key) h.found).0 in
+    let few : length (without n (nonces_of old)) ≤ 3 =
+    subst (λ (l : List ℕ). length l ≤ 3) h.rest (omega (arith, no_more_nonces (remove_entry (nat_eq p) old), h.one_less, kept.four)) in
+    rw h.found (record {
+      kept = front_kept pass bits p h.key old (remove_entry (nat_eq p) old) kept (Contains-remove_entry (nat_eq p) old)
+          (filled_without (nat_eq p) old kept.filled) h.one_less (kept.derived.each (p, Some h.key) there);
+      order = ap (λ l. h.key.nonce ∷ l) h.rest ∙ ap (λ k. k ∷ without n (nonces_of old)) h.nonce ∙ ap (λ l. n ∷ l) (sym (take_all 3 (without n (nonces_of old)) few));
+    })
+
+pub turn_on_miss : (pass : List ℕ) (bits p : ℕ) (c : Cached) (old : List (ℕ × Option Cached)) → AreKept pass bits old
+    → place_of c.nonce old ≡ None → c.cipher ≡ key_of pass bits (to_be_bytes w32 c.nonce)
+    → Turns pass bits c.nonce old ((p, Some c) ∷ take 3 old)
+turn_on_miss pass bits p c old kept none is = record {
+  kept = front_kept pass bits p c old (take 3 old) kept (Contains-take 3 old) (filled_in_front 3 old kept.filled)
+      (omega (arith, length-take 3 old, kept.four)) is;
+  order = ap (λ l. c.nonce ∷ l) (nonces_in_front 3 old kept.filled ∙ ap (λ (l : List ℕ). take 3 l) (sym (all_stay c.nonce old none)));
+}
+
+pub turned : (pass : List ℕ) (bits n : ℕ) (old new : List (ℕ × Option Cached)) → Turns pass bits n old new
+    → record { phrase = pass; bits = bits; cached = nonces_of new } ≡ after_use n (record { phrase = pass; bits = bits; cached = nonces_of old })
+turned pass bits n old new t = ap (λ (l : List ℕ). let k : KeysState = record { phrase = pass; bits = bits; cached = l } in k) t.order
+
+-- the latest key is that of the latest nonce
+pub latest_is : (pass : List ℕ) (bits p : ℕ) (c : Cached) (es : List (ℕ × Option Cached)) → AreKept pass bits es → slice_get es 0 ≡ Some (p, Some c)
+    → c.cipher ≡ key_of pass bits (to_be_bytes w32 (get_or (nonces_of es) 0 0))
+latest_is pass bits p c [] kept is = cc
+latest_is pass bits p c (e ∷ es) kept is =
+    let same : e ≡ (p, Some c) = cc in
+    kept.derived.each (p, Some c) (subst (λ (x : ℕ × Option Cached). Contains (x ∷ es) (p, Some c)) (sym same) (0, omega arith, refl))
+    ∙ ap (λ (x : ℕ × Option Cached). key_of pass bits (to_be_bytes w32 (get_or (nonces_of (x ∷ es)) 0 0))) (sym same)
+
+apart : (c : Cached) → Some c ≡ None → ⊥
+apart c is = cc
+
+-- where some key is cached, the latest place has one
+pub some_latest : (p : ℕ) (es : List (ℕ × Option Cached)) → AreFilledFromFront es → slice_get es 0 ≡ Some (p, None) → 0 < length (nonces_of es) → ⊥
+some_latest p [] filled is some = cc
+some_latest p ((q, None) ∷ es) filled is some = omega (arith, ap (λ (l : List ℕ). length l) filled)
+some_latest p ((q, Some c) ∷ es) filled is some = apart c (ap (λ (o : Option (ℕ × Option Cached)). option_map_or (λ (x : ℕ × Option Cached). x.1) o None) is)
+
+pub some_place : (es : List (ℕ × Option Cached)) → slice_get es 0 ≡ None → 0 < length (nonces_of es) → ⊥
+some_place [] is some = omega arith
+some_place (e ∷ es) is some = cc

@@ -1,11 +1,16 @@
-//! Keys that are cached, the latest first.
+//! Keys that are cached, in four places that are ordered by their last use.
 
-ghost use Rattle.std.specs.Prelude.{◌≡◌, ◌+◌, ◌-◌, ◌≤◌, ◌<◌, ◌∷◌, length, take, Contains, IfSome};
-ghost use Rattle.std.specs.Vec.{vec_capacity};
-ghost use Rattle.psk_keys.specs.Keys.{without};
-ghost use Rattle.psk_keys.specs.Inside.Cached.{nonces_of, place_of};
+ghost use Rattle.std.specs.Prelude.{◌≡◌, ◌-◌, ◌∷◌, ◌<◌, ℕ, nat_eq, length, take, IfOk};
+ghost use Rattle.std.specs.List.{IsDistinct};
+ghost use Rattle.std.specs.Map.{keys_of};
+ghost use Rattle.std.specs.NonZero.{non_zero_usize_get};
+ghost use Rattle.lru.specs.LruCache.{lru_cache, promoted};
+ghost use Rattle.psk_keys.specs.Inside.Cached.{nonces_of, empty_places, place_of};
 
 use aes_block::Aes;
+use lru::LruCache;
+use std::alloc::{AllocError, Global};
+use std::num::NonZeroUsize;
 
 /// How many keys are cached (this profile).
 pub const CACHED_KEYS: usize = 4;
@@ -17,41 +22,71 @@ pub(crate) struct Cached {
     pub(crate) cipher: Aes,
 }
 
-// At which place the key of a nonce stands; behind the last where it is none.
-fn place_of(cached: &[Cached], nonce: u32) -> usize
-    ensures place { result ≡ place_of nonce (nonces_of cached.now) }
-    ensures within { result ≤ length cached.now }
+// Places by number, the one that was used last first. All of them are there from the beginning, so that no use of one
+// takes memory.
+pub(crate) type Places = LruCache<usize, Option<Cached>>;
+
+fn place_count() -> NonZeroUsize
+    ensures count { non_zero_usize_get result ≡ CACHED_KEYS }
 {
-    for place in 0..cached.len() {
-        if cached[place].nonce == nonce {
-            return place;
+    NonZeroUsize::new(CACHED_KEYS).unwrap()
+}
+
+// Places without a key.
+pub(crate) fn empty_places(alloc: Global) -> Result<Places, AllocError>
+    ensures places { IfOk result (λ places. places ≡ lru_cache (empty_places CACHED_KEYS) CACHED_KEYS) }
+{
+    let mut places = LruCache::new(alloc, place_count())?;
+    for place in 0..CACHED_KEYS {
+        places.put(place, None)?;
+    }
+    Ok(places)
+}
+
+// The place that has the key of a nonce, where it is cached.
+pub(crate) fn place_of(places: &Places, nonce: u32) -> Option<usize>
+    ensures place { result ≡ place_of nonce places.now.entries }
+{
+    for (place, kept) in places {
+        if let Some(cached) = kept
+            && cached.nonce == nonce
+        {
+            return Some(*place);
         }
     }
-    cached.len()
+    None
 }
 
-// Takes the key of a nonce out, where it is one.
-pub(crate) fn taken(cached: &mut Vec<Cached>, nonce: u32) -> Option<Cached>
-    ensures nonce { IfSome result (λ c. c.nonce ≡ nonce) }
-    ensures there { IfSome result (λ c. Contains cached.old.items c) }
-    ensures rest { nonces_of cached.new.items ≡ without nonce (nonces_of cached.old.items) }
-    ensures kept { (c : Cached) → Contains cached.new.items c → Contains cached.old.items c }
-    ensures room { vec_capacity cached.new ≡ vec_capacity cached.old }
+// Makes a place the latest.
+pub(crate) fn promote(places: &mut Places, place: usize)
+    ensures places { places.new ≡ lru_cache (promoted (nat_eq place) places.old.entries) places.old.cap }
 {
-    let place = place_of(cached, nonce);
-    if place < cached.len() {
-        Some(cached.remove(place))
-    } else {
-        None
+    places.promote(&place);
+}
+
+// Puts a key into the place that was used longest ago, which becomes the latest.
+pub(crate) fn put_latest(places: &mut Places, latest: Cached)
+    requires some { 0 < length places.old.entries }
+    requires distinct { IsDistinct nat_eq (keys_of places.old.entries) }
+    ensures places { (place : ℕ) × (places.new
+        ≡ lru_cache ((place, Some latest) ∷ take (length places.old.entries - 1) places.old.entries) places.old.cap) }
+{
+    if let Some((place, _)) = places.peek_lru() {
+        let place = *place;
+        let _ = places.put(place, Some(latest));
     }
 }
 
-// Puts a key before the others, of which the last makes room where there are four.
-pub(crate) fn put_first(cached: &mut Vec<Cached>, front: Cached)
-    requires room { CACHED_KEYS ≤ vec_capacity cached.old }
-    ensures items { cached.new.items ≡ front ∷ take (CACHED_KEYS - 1) cached.old.items }
-    ensures room { CACHED_KEYS ≤ vec_capacity cached.new }
+// How many places have a key.
+pub(crate) fn filled_places(places: &Places) -> usize
+    requires four { length places.now.entries ≡ CACHED_KEYS }
+    ensures count { result ≡ length (nonces_of places.now.entries) }
 {
-    cached.truncate(CACHED_KEYS - 1);
-    let _ = cached.insert(0, front);
+    let mut count = 0;
+    for (_, kept) in places {
+        if kept.is_some() {
+            count += 1;
+        }
+    }
+    count
 }

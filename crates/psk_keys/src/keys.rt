@@ -5,7 +5,9 @@ ghost use Rattle.std.specs.Int.{w32, to_be_bytes, from_be_bytes};
 ghost use Rattle.aes_block.specs.Cipher.{key_octets};
 ghost use Rattle.psk_keys.specs.Keys.{IsKeyLength, KeysState, key_of, after_use};
 
-use crate::cached::{CACHED_KEYS, Cached, put_first, taken};
+use crate::cached::{
+    CACHED_KEYS, Cached, Places, empty_places, filled_places, place_of, promote, put_latest,
+};
 use crate::{Phrase, pbkdf2};
 use aes_block::{Aes, Key};
 use outside_io::NoMemory;
@@ -53,22 +55,18 @@ fn number_of(nonce: [u8; 4]) -> u32
 pub struct Keys {
     phrase: Phrase,
     bits: u16,
-    cached: Vec<Cached>,
+    places: Places,
 }
 
 impl Model for Keys {
-    ghost use Rattle.std.specs.Prelude.{◌≤◌, length};
-    ghost use Rattle.std.specs.Vec.{vec_capacity};
     ghost use Rattle.psk_keys.specs.Keys.{IsKeyLength, KeysState};
-    ghost use Rattle.psk_keys.specs.Inside.Cached.{AreDerived, nonces_of};
-    ghost use Rattle.psk_keys.specs.declared.cached.TheConstants.{CACHED_KEYS};
+    ghost use Rattle.psk_keys.specs.Inside.Cached.{AreKept, nonces_of};
 
     ghost Value = { KeysState };
 
-    ghost view = { λ k. record { phrase = k.phrase; bits = k.bits; cached = nonces_of k.cached.items } };
+    ghost view = { λ k. record { phrase = k.phrase; bits = k.bits; cached = nonces_of k.places.entries } };
 
-    ghost invariant = { λ k. AreDerived k.phrase k.bits k.cached.items × (length k.cached.items ≤ CACHED_KEYS)
-        × (CACHED_KEYS ≤ vec_capacity k.cached) × IsKeyLength k.bits };
+    ghost invariant = { λ k. AreKept k.phrase k.bits k.places.entries × IsKeyLength k.bits };
 }
 
 impl Keys {
@@ -80,7 +78,7 @@ impl Keys {
         Ok(Keys {
             phrase,
             bits,
-            cached: Vec::with_capacity(alloc, CACHED_KEYS)?,
+            places: empty_places(alloc)?,
         })
     }
 
@@ -91,14 +89,20 @@ impl Keys {
         ensures some { 0 < length self.new.cached }
     {
         let number = number_of(nonce);
-        let front = match taken(&mut self.cached, number) {
-            Some(front) => front,
-            None => Cached {
-                nonce: number,
-                cipher: Aes::new(&derived_key(self.phrase.octets(), self.bits, nonce)),
-            },
-        };
-        put_first(&mut self.cached, front);
+        prove!(self.places.len() == CACHED_KEYS);
+        match place_of(&self.places, number) {
+            Some(place) => promote(&mut self.places, place),
+            None => {
+                let cipher = Aes::new(&derived_key(self.phrase.octets(), self.bits, nonce));
+                put_latest(
+                    &mut self.places,
+                    Cached {
+                        nonce: number,
+                        cipher,
+                    },
+                );
+            }
+        }
     }
 
     /// The latest key with its round keys.
@@ -107,7 +111,11 @@ impl Keys {
         ensures key { result.now
             ≡ key_of self.now.phrase self.now.bits (to_be_bytes w32 (slice_index self.now.cached 0)) }
     {
-        &self.cached[0].cipher
+        match self.places.peek_mru() {
+            Some((_, Some(latest))) => &latest.cipher,
+            Some((_, None)) => unreachable!(),
+            None => unreachable!(),
+        }
     }
 
     /// The key of a nonce, which becomes the latest.
@@ -124,6 +132,6 @@ impl Keys {
         ensures value { result ≡ length self.now.cached }
         ensures within { length self.now.cached ≤ CACHED_KEYS }
     {
-        self.cached.len()
+        filled_places(&self.places)
     }
 }
