@@ -3,7 +3,7 @@ ghost use Rattle.outside_io.specs.declared.profile.Profile.TheVariants.{Main};
 ghost use Rattle.rist_wire.specs.Session.{IsSession};
 
 use outside_io::{Channel, Words};
-use psk_keys::Phrase;
+use psk_keys::{Keys, Phrase};
 use psk_seal::{Sealer, Spent};
 use rist_wire::{Item, Kind, Media, Opener, Profile, Session, Shutter, WireBad};
 use seq_unwrap::Width;
@@ -359,6 +359,22 @@ fn what_is_enciphered_is_taken_under_its_passphrase(rt: HostRuntime) -> Result<(
     for octets in &KEYED {
         assert_media_a(&rt, &mut opener, octets);
     }
+    Ok(())
+}
+
+#[test]
+fn six_datagrams_under_six_nonces_leave_four_keys_cached(rt: HostRuntime) -> Result<(), Fail> {
+    let mut opener = opener_of(rt.alloc(), &secret_session(128))?;
+    let mut keys = Keys::with(rt.alloc(), Phrase::of(b"secret"), 128)?;
+    for octets in &KEYED {
+        assert_media_a(&rt, &mut opener, octets);
+        let [_, _, _, _, a, b, c, d, ..] = *octets;
+        keys.turn_to([a, b, c, d]);
+    }
+    assert!(rt; keys.cached() == 4);
+    // The first datagram again, whose key is derived anew, and the last, whose key is cached.
+    assert_media_a(&rt, &mut opener, &KEYED[0]);
+    assert_media_a(&rt, &mut opener, &KEYED[5]);
     Ok(())
 }
 
