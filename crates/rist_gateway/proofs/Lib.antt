@@ -1,5 +1,4 @@
 mod GatherLemmas
-mod HandedLemmas
 mod LendLemmas
 mod MoveLemmas
 mod OnwardLemmas
