@@ -4,3 +4,4 @@ pub mod CipherLemmas
 pub mod BackLemmas
 pub mod MediaLemmas
 pub mod StripLemmas
+pub mod AmongLemmas

@@ -4,6 +4,7 @@ pub mod Cipher
 pub mod Messages
 pub mod Tunnel
 pub mod Item
+pub mod Among
 pub mod Sealed
 pub mod Writing
 pub mod Packets

@@ -1,20 +1,25 @@
 //! What the definitions of items and of datagrams mean.
-ghost use Rattle.std.specs.Prelude.{◌≡◌, ◌≤◌, ◌<◌, ◌+◌, ℕ, List, All, Option, Some, Ok, true, false, is_some, length};
+ghost use Rattle.std.specs.Prelude.{◌≡◌, ◌≤◌, ◌<◌, ◌+◌, ◌≢◌, ◌⊎◌, ◌↔◌, ℕ, List, All, Option, Some, Ok, Err, true, false, is_some, length};
 ghost use Rattle.aes_ctr.specs.Ctr.{counter_block};
 ghost use Rattle.psk_seal.specs.declared.sealer.Pair.{Pair};
 ghost use Rattle.psk_seal.specs.Nonces.{AreNonces};
 ghost use Rattle.psk_seal.specs.Pairs.{pair_at};
 ghost use Rattle.ts_nulls.specs.Nulls.{stripping_of, blanking_of};
 ghost use Rattle.ts_nulls.specs.Shape.{Shape};
+ghost use Rattle.outside_io.specs.declared.channel.Channel.{Channel};
 ghost use Rattle.outside_io.specs.declared.channel.Channel.TheVariants.{Tunnel as OnTunnel};
 ghost use Rattle.outside_io.specs.declared.profile.Profile.TheVariants.{Main};
 ghost use Rattle.rist_wire.specs.declared.session.Session.{Session};
+ghost use Rattle.rist_wire.specs.declared.bad.WireBad.{WireBad};
+ghost use Rattle.rist_wire.specs.declared.bad.WireBad.TheVariants.{Port};
+ghost use Rattle.rist_wire.specs.declared.item.Item.{Item};
 ghost use Rattle.rist_wire.specs.declared.item.Item.TheVariants.{Media as MediaItem};
 ghost use Rattle.rist_wire.specs.declared.item.Kind.{Kind};
 ghost use Rattle.rist_wire.specs.Session.{IsSession};
 ghost use Rattle.rist_wire.specs.Cipher.{first_counter_block};
 ghost use Rattle.rist_wire.specs.Media.{can_restore, restored_payload};
 ghost use Rattle.rist_wire.specs.Item.{item_of};
+ghost use Rattle.rist_wire.specs.Among.{ArePorts, IsForAnother, item_among, session_at};
 ghost use Rattle.rist_wire.specs.Writing.{IsPair, MediaOut};
 ghost use Rattle.rist_wire.specs.Packets.{media_value};
 ghost use Rattle.rist_wire.specs.Datagrams.{datagram_of};
@@ -68,4 +73,24 @@ pub fn no_counter_block_is_used_twice()
         → (pair_at nonces p).nonce ≡ (pair_at nonces q).nonce
         → counter_block (first_counter_block (pair_at nonces p).sequence) j
         ≡ counter_block (first_counter_block (pair_at nonces q).sequence) k → (p ≡ q) × (j ≡ k) }
+{}
+
+/// Of several sessions in one tunnel the one whose port a datagram names takes it, and each other one refuses the port.
+/// A keepalive, which names none, is told at the first place, and each session would take it. What is refused is refused
+/// by each, and for its port exactly where each session refuses the port.
+pub fn a_datagram_is_one_sessions()
+    ensures own { (session : Session) (ports : List ℕ) (channel : Channel) (octets : List ℕ) (place : ℕ) (item : Item)
+        → ArePorts ports → item_among ports session channel octets ≡ Ok (place, item)
+        → (place < length ports) × (item_of (session_at ports place session) channel octets ≡ Ok item) }
+    ensures others { (session : Session) (ports : List ℕ) (channel : Channel) (octets : List ℕ) (place v : ℕ)
+        (item : Item) → ArePorts ports → session.profile ≡ Main → item_among ports session channel octets ≡ Ok (place, item)
+        → v < length ports → v ≢ place
+        → IsForAnother place item (item_of (session_at ports v session) channel octets) }
+    ensures refused { (session : Session) (ports : List ℕ) (channel : Channel) (octets : List ℕ) (v : ℕ) (bad : WireBad)
+        → ArePorts ports → session.profile ≡ Main → item_among ports session channel octets ≡ Err bad
+        → v < length ports → (item_of (session_at ports v session) channel octets ≡ Err bad)
+        ⊎ (item_of (session_at ports v session) channel octets ≡ Err Port) }
+    ensures port { (session : Session) (ports : List ℕ) (channel : Channel) (octets : List ℕ)
+        → ArePorts ports → session.profile ≡ Main → item_among ports session channel octets ≡ Err Port
+        ↔ ((v : ℕ) → v < length ports → item_of (session_at ports v session) channel octets ≡ Err Port) }
 {}

@@ -4,6 +4,7 @@
 //! session.
 #![tactic(auto)]
 
+mod among;
 mod bad;
 mod cipher;
 mod item;

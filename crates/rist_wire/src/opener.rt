@@ -3,7 +3,9 @@ ghost use Rattle.rist_wire.specs.Session.{IsSession};
 ghost use Rattle.rist_wire.specs.Cipher.{secret_of, secret_with};
 ghost use Rattle.rist_wire.specs.Tunnel.{message_at, LiesIn};
 ghost use Rattle.rist_wire.specs.Item.{message_of, plain_of, item_of};
+ghost use Rattle.rist_wire.specs.Among.{ArePorts, item_among, message_among, placed, placed_message, place_among, session_at};
 
+use crate::among::tunnel_part_among;
 use crate::bad::WireBad;
 use crate::item::{Item, Kind, Part};
 use crate::session::Session;
@@ -67,6 +69,32 @@ fn message_part(
     }
 }
 
+// The same in a tunnel with several sessions. Outside the tunnel no port is read.
+#[tactic(auto, unfolding(crate::specs::Item::message_of, crate::specs::Item::plain_of, crate::specs::Among::place_among, crate::specs::Among::message_among))]
+fn part_among(
+    session: &Session,
+    keys: &mut Option<Keys>,
+    ports: &[u16],
+    channel: Channel,
+    octets: &mut [u8],
+) -> Result<(u8, Part), WireBad>
+    requires session { IsSession session.now }
+    requires keys { secret_of keys.old ≡ secret_with session.now.pass session.now.bits }
+    requires ports { ArePorts ports.now }
+    ensures keys { secret_of keys.new ≡ secret_of keys.old }
+    ensures message { placed_message octets.new result ≡ message_among ports.now session.now channel octets.old }
+    ensures within { IfOk result (λ found. LiesIn found.1 octets.new) }
+    ensures octets { octets.new ≡ plain_of session.now channel octets.old }
+{
+    if session.profile == Profile::Main && channel == Channel::Tunnel {
+        return tunnel_part_among(session, keys, ports, octets);
+    }
+    match message_part(session, keys, channel, octets) {
+        Ok(part) => Ok((0, part)),
+        Err(bad) => Err(bad),
+    }
+}
+
 // The keys of a session with a passphrase.
 fn keys_of(alloc: Global, session: &Session) -> Result<Option<Keys>, NoMemory>
     requires session { IsSession session.now }
@@ -113,6 +141,45 @@ impl Opener {
     {
         match self.open(channel, octets) {
             Ok(part) => part.item(octets),
+            Err(bad) => Err(bad),
+        }
+    }
+
+    /// Does what `open` does, in a tunnel with several sessions that differ in their ports alone: says also at which
+    /// place among the ports the message is. That is the place of the port that the datagram names, or whose next one it
+    /// names. A keepalive, which names none, is at place 0, and what is for none of the ports is refused as it is there.
+    pub fn open_any(
+        &mut self,
+        ports: &[u16],
+        channel: Channel,
+        octets: &mut [u8],
+    ) -> Result<(u8, Part), WireBad>
+        requires ports { ArePorts ports.now }
+        ensures message { placed_message octets.new result ≡ message_among ports.now self.old channel octets.old }
+        ensures within { IfOk result (λ found. LiesIn found.1 octets.new) }
+        ensures octets { octets.new ≡ plain_of self.old channel octets.old }
+        ensures same { self.new ≡ self.old }
+    {
+        part_among(&self.session, &mut self.keys, ports, channel, octets)
+    }
+
+    /// Takes a datagram of one of several sessions in one tunnel, which differ in their ports alone: its item and the
+    /// place of its port, or the first test that fails. It is deciphered once, as `open_any` does.
+    pub fn take_any<'a>(
+        &mut self,
+        ports: &[u16],
+        channel: Channel,
+        octets: &'a mut [u8],
+    ) -> Result<(u8, Item<'a>), WireBad>
+        requires ports { ArePorts ports.now }
+        ensures value { result ≡ item_among ports.now self.old channel octets.entry.now }
+        ensures same { self.new ≡ self.old }
+    {
+        match self.open_any(ports, channel, octets) {
+            Ok((place, part)) => match part.item(octets) {
+                Ok(item) => Ok((place, item)),
+                Err(bad) => Err(bad),
+            },
             Err(bad) => Err(bad),
         }
     }

@@ -17,7 +17,7 @@ use octet_fields::u16_at;
 use psk_keys::Keys;
 
 // Whether the header may stand in a datagram of the session.
-fn cipher_fault(session: &Session, gre: &Gre) -> Option<WireBad>
+pub(crate) fn cipher_fault(session: &Session, gre: &Gre) -> Option<WireBad>
     ensures value { result ≡ cipher_fault session.now gre.now }
 {
     let sealed = gre.key.is_some();
@@ -96,7 +96,8 @@ fn full_part(port: u16, from: usize, octets: &[u8]) -> Result<Part, WireBad>
     }
 }
 
-fn text_part(port: u16, gre: &Gre, octets: &[u8]) -> Result<Part, WireBad>
+// The message of a text.
+pub(crate) fn text_part(port: u16, gre: &Gre, octets: &[u8]) -> Result<Part, WireBad>
     requires port { port ≤ 65534 }
     requires within { gre.now.rest ≤ length octets.now }
     ensures message { message_at octets.now result
