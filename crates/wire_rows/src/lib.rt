@@ -2,4 +2,6 @@
 #![tactic(auto)]
 
 #[cfg(test)]
+mod among;
+#[cfg(test)]
 mod tests;

@@ -27,7 +27,7 @@ fn simple_session() -> Session
     }
 }
 
-fn main_session(pass: Option<Phrase>, bits: u16, width: Width) -> Session
+pub(crate) fn main_session(pass: Option<Phrase>, bits: u16, width: Width) -> Session
     requires { (bits ≡ 128) ⊎ (bits ≡ 256) }
     ensures session { IsSession result }
     ensures profile { result.profile ≡ Main }
@@ -62,7 +62,7 @@ fn full_session(pass: Option<Phrase>) -> Session
 }
 
 // A session with the passphrase `secret` and a key of so many bits.
-fn secret_session(bits: u16) -> Session
+pub(crate) fn secret_session(bits: u16) -> Session
     requires { (bits ≡ 128) ⊎ (bits ≡ 256) }
     ensures session { IsSession result }
     ensures profile { result.profile ≡ Main }
@@ -71,7 +71,7 @@ fn secret_session(bits: u16) -> Session
     main_session(Some(Phrase::of(b"secret")), bits, Width::W16)
 }
 
-fn opener_of(alloc: Global, session: &Session) -> Result<Opener, Fail>
+pub(crate) fn opener_of(alloc: Global, session: &Session) -> Result<Opener, Fail>
     requires { IsSession session.now }
 {
     match Opener::with(alloc, session) {
