@@ -1,0 +1,4 @@
+pub mod History
+pub mod Inside
+pub mod Passes
+pub mod Turns
