@@ -19,7 +19,8 @@ fn laid<E, X: Turned<E>>(
 ) -> Result<(TurnLock<E, X>, Seat<Option<X>, View<E>>), X>
     requires stands { X.stands value [] }
     requires few { passes ≤ 32 }
-    ensures ok { IfOk result (λ r. (r.0.table.shared.key ≡ passes) × (r.1.table_id ≡ r.0.table.shared.table_id) × (r.1.me ≡ (opener passes, []))) }
+    ensures ok { IfOk result (λ r. (r.0.table.shared.key ≡ passes)
+        × (r.1.table_id ≡ r.0.table.shared.table_id) × (r.1.me ≡ (opener passes, []))) }
     ensures err { IfErr result (λ x. x ≡ value) }
 {
     let mut slots = Vec::new(alloc);

@@ -36,7 +36,8 @@ impl<E, X: Turned<E>> TurnLock<E, X> {
         requires own { seat.old.table_id ≡ self.now.table.shared.table_id }
         requires ready { (seat.old.me.0.stage ≡ Idle) × (0 < seat.old.me.0.left) × (length seat.old.me.0.owns ≡ 1) }
         ensures own { seat.new.table_id ≡ seat.old.table_id }
-        ensures drew { seat.new.me ≡ (record seat.old.me.0 { stage = Waits result; left = seat.old.me.0.left - 1 }, seat.old.me.1) }
+        ensures drew { seat.new.me
+            ≡ (record seat.old.me.0 { stage = Waits result; left = seat.old.me.0.left - 1 }, seat.old.me.1) }
     {
         self.table.shared.fetch_add::<Draw>(seat, 0, 1)
     }
@@ -61,7 +62,8 @@ impl<E, X: Turned<E>> TurnLock<E, X> {
     // Waits for its turn, and takes the value.
     fn take<R: Wait>(&self, rt: &R, seat: &mut Seat<Option<X>, View<E>>) -> X
         requires own { seat.old.table_id ≡ self.now.table.shared.table_id }
-        requires ready { (seat.old.me.0.stage ≡ Idle) × (0 < seat.old.me.0.left) × (length seat.old.me.0.owns ≡ 1) × (seat.old.me.1 ≡ []) }
+        requires ready { (seat.old.me.0.stage ≡ Idle) × (0 < seat.old.me.0.left)
+            × (length seat.old.me.0.owns ≡ 1) × (seat.old.me.1 ≡ []) }
         ensures own { seat.new.table_id ≡ seat.old.table_id }
         ensures turn { HasTurn X.stands seat.old.me.0 seat.new.me result }
     {
