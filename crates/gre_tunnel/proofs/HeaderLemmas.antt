@@ -1,5 +1,5 @@
 -- The header that stands in octets, from a spelling and back to it.
-use Rattle.std.proofs.Common.{◌≡◌, ◌⊎◌, ℕ, ◌+◌, ◌*◌, ◌/◌, ◌%◌, ◌^◌, ◌<◌, ◌≤◌, Bool, true, false, cond, ltb, List, ◌++◌, length, drop, Option, Some, None, Result, Ok, Err, refl, sym, ap, subst, ◌∙◌, append_assoc, arith, inl, inr}
+use Rattle.std.proofs.Common.{◌≡◌, ℕ, ◌+◌, ◌*◌, ◌/◌, ◌%◌, ◌^◌, ◌<◌, ◌≤◌, Bool, true, false, cond, ltb, List, ◌++◌, length, drop, Option, Some, None, Result, Ok, Err, refl, sym, ap, subst, ◌∙◌, append_assoc, arith, inl, inr}
 use Rattle.std.specs.Prelude.{IfSome, IfOk, IsSome, is_some, ◌==◌, ◌&&◌, ◌||◌, not}
 use Rattle.std.specs.Int.{w16, from_be_bytes, to_be_bytes, from_bool}
 use Rattle.std.proofs.lemmas.Bool.{eq-eqb, le-ltb, ltb-false, eqb-true, not-false, or_parts, or_from, or_left, or_right, or_cases, false≢true}
@@ -9,6 +9,8 @@ use Rattle.gre_tunnel.specs.declared.gre.GreBad.{GreBad}
 use Rattle.gre_tunnel.specs.declared.gre.GreBad.TheVariants.{Short, Version, Checksum, Reserved, KeyedNoSequence, Protocol}
 use Rattle.gre_tunnel.specs.Gre.{Header, IsHeader, IsProtocol, flags_word, optional_word, spelling, Spells}
 use Rattle.gre_tunnel.specs.Reading.{flags_of, protocol_of, is_set, has_key, has_sequence, has_reserved, header_len, number_at, gre_in, is_known_protocol, reading_of, value_of}
+use Rattle.gre_tunnel.specs.declared.tunnel.Tunnel.{Tunnel}
+use Rattle.gre_tunnel.specs.declared.tunnel.Tunnel.TheVariants.{Own, Librist}
 use Rattle.gre_tunnel.specs.Writing.{header_with, ignored_with}
 use Rattle.octet_fields.proofs.OctetLemmas.{AreOctets}
 use Rattle.octet_fields.proofs.NumberLemmas.{u16-back, u16-fits, u32-back, u32-fits}
@@ -247,18 +249,22 @@ found_from octets (Ok value) are e = reading-spells octets value are (sym e)
 found_from octets (Err bad) are e = tt
 
 -- ---- what is written is read
-pub ignored-few : (long : Bool) → ignored_with long < 128
-ignored-few true = omega arith
-ignored-few false = omega arith
+pub ignored-few : (tunnel : Tunnel) (key : Option ℕ) (long : Bool) → ignored_with tunnel key long < 128
+ignored-few Own key true = omega arith
+ignored-few Own key false = omega arith
+ignored-few Librist None true = omega arith
+ignored-few Librist None false = omega arith
+ignored-few Librist (Some key) true = omega arith
+ignored-few Librist (Some key) false = omega arith
 
-pub reading-written : (key sequence : Option ℕ) (long : Bool) (protocol : ℕ) (all more : List ℕ)
+pub reading-written : (tunnel : Tunnel) (key sequence : Option ℕ) (long : Bool) (protocol : ℕ) (all more : List ℕ)
     → IfSome key (λ n. n < 2 ^ 32) → IfSome sequence (λ n. n < 2 ^ 32) → (IsSome key → IsSome sequence)
-    → IsProtocol protocol → all ≡ spelling (header_with key sequence protocol) (ignored_with long)
+    → IsProtocol protocol → all ≡ spelling (header_with key sequence protocol) (ignored_with tunnel key long)
     → reading_of (all ++ more) ≡ Ok (value_of (header_with key sequence protocol))
-reading-written key sequence long protocol all more keyed numbered paired known whole =
+reading-written tunnel key sequence long protocol all more keyed numbered paired known whole =
     reading-spelled (header_with key sequence protocol) more (all ++ more) (record {
       fits = record { key = keyed; sequence = numbered; paired = paired; protocol = known };
-      ignored = ignored_with long;
-      ignored_fits = ignored-few long;
+      ignored = ignored_with tunnel key long;
+      ignored_fits = ignored-few tunnel key long;
       whole = ap (λ (x : List ℕ). x ++ more) whole;
     })

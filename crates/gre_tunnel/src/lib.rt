@@ -5,8 +5,10 @@
 mod gre;
 pub mod laws;
 mod reading;
+mod tunnel;
 mod writing;
 
 pub use gre::{Gre, GreBad};
 pub use reading::{DATAGRAM, FULL, KEEPALIVE};
+pub use tunnel::Tunnel;
 pub use writing::write;

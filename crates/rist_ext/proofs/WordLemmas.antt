@@ -74,7 +74,7 @@ strip-spelled (Some shape) first second size unread has units-are e fits lt =
     (λ i. cond (has i) (Some (record { units = units_in first; long = bit_at second 7 == 1; nulls = nulls_in (units_in first) second })) None)
     ∙ (λ i. Some (record { units = units-are i; long = long-is i; nulls = nulls-are i }))
 
-upper-spelled : (upper : Option ℕ) (first unread : ℕ) → (bit_at first 6 == 1) ≡ is_some upper → IfSome upper (λ u. u < 2 ^ 16)
+pub upper-spelled : (upper : Option ℕ) (first unread : ℕ) → (bit_at first 6 == 1) ≡ is_some upper → IfSome upper (λ u. u < 2 ^ 16)
     → upper_in first (to_be_bytes w16 (upper_of upper unread)) ≡ upper
 upper-spelled None first unread has fits = λ i. cond (has i) (Some (from_be_bytes w16 (to_be_bytes w16 unread))) None
 upper-spelled (Some upper) first unread has fits =

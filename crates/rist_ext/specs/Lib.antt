@@ -1,3 +1,4 @@
 pub mod Extension
 pub mod Reading
+pub mod Counted
 pub mod Text

@@ -2,6 +2,7 @@
 //! the number. A contract sees the word as these two.
 #![tactic(auto)]
 
+mod counted;
 mod ext_word;
 pub mod laws;
 mod reading;

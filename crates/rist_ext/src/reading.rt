@@ -24,7 +24,8 @@ fn nulls_in(units: u8, second: u8) -> u8
     kept_bits(units, second)
 }
 
-fn strip_in(first: u8, second: u8) -> Option<Strip>
+/// What was deleted, by the first two octets, where they say of how many packets.
+pub(crate) fn strip_in(first: u8, second: u8) -> Option<Strip>
     requires { has_strip first ≡ true → 0 < units_in first }
     ensures { result ≡ strip_in first second }
 {
@@ -40,7 +41,8 @@ fn strip_in(first: u8, second: u8) -> Option<Strip>
     })
 }
 
-fn upper_in(first: u8, high: u8, low: u8) -> Option<u16>
+/// The upper half of the number, where the first octet says that it is there.
+pub(crate) fn upper_in(first: u8, high: u8, low: u8) -> Option<u16>
     ensures { result ≡ upper_in first (high ∷ low ∷ []) }
 {
     if is_set(u16::from(first), 6) {

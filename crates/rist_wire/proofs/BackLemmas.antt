@@ -12,6 +12,7 @@ use Rattle.ipv4_udp.proofs.WholeLemmas.{reading-spelled as ip-reading-spelled}
 use Rattle.ipv4_udp.proofs.WritingLemmas.{spelling-spells}
 use Rattle.gre_tunnel.specs.Gre.{Spells, IsProtocol}
 use Rattle.gre_tunnel.specs.Reading.{reading_of as gre_reading_of, value_of as gre_value_of}
+use Rattle.gre_tunnel.specs.declared.tunnel.Tunnel.{Tunnel}
 use Rattle.gre_tunnel.specs.Writing.{ignored_with}
 use Rattle.gre_tunnel.proofs.HeaderLemmas.{ignored-few, reading-spelled, rest-spelled}
 use Rattle.outside_io.specs.declared.profile.Profile.{Profile}
@@ -93,12 +94,12 @@ known full MediaKind = known-carried full
 known full ControlKind = known-carried full
 known full KeepaliveKind = inl refl
 
-spelled : (bits : ℕ) (full : Bool) (pair : Option Pair) (kind : Kind) (rest : List ℕ) → IsPair pair
-    → Spells (header_for full pair kind) rest (header_octets bits full pair kind ++ rest)
-spelled bits full pair kind rest fits = record {
+spelled : (tunnel : Tunnel) (bits : ℕ) (full : Bool) (pair : Option Pair) (kind : Kind) (rest : List ℕ) → IsPair pair
+    → Spells (header_for full pair kind) rest (header_octets tunnel bits full pair kind ++ rest)
+spelled tunnel bits full pair kind rest fits = record {
   fits = record { key = fits.nonce; sequence = fits.sequence; paired = pairs pair; protocol = known full kind };
-  ignored = ignored_with (is_long bits pair);
-  ignored_fits = ignored-few (is_long bits pair);
+  ignored = ignored_with tunnel (nonce_of pair) (is_long bits pair);
+  ignored_fits = ignored-few tunnel (nonce_of pair) (is_long bits pair);
   whole = refl;
 }
 
@@ -129,7 +130,7 @@ tunnel-back session full pair kind octets legal fits paired carries =
     let rest = sealed_text session pair text in
     let all = tunnel_octets (record session { full = full }) pair kind octets in
     let header = header_for full pair kind in
-    let spells = spelled session.bits full pair kind rest fits in
+    let spells = spelled session.tunnel session.bits full pair kind rest fits in
     let read : gre_reading_of all ≡ Ok (gre_value_of header) = reading-spelled header rest all spells in
     let behind : drop (gre_value_of header).rest all ≡ rest = rest-spelled header rest all spells in
     let plain : text_in session (gre_value_of header) all ≡ text =
@@ -159,18 +160,18 @@ message-back session pair kind octets legal fits paired main carries = message-o
 pub item-back : (session : Session) (pair : Option Pair) (kind : Kind) (octets : List ℕ) → IsSession session → (session.profile ≡ Main → IsPair pair)
     → (session.profile ≡ Main → is_some pair ≡ is_some session.pass) → (kind ≡ KeepaliveKind → session.profile ≡ Main)
     → (session.full ≡ true → IsCarried octets)
-    → item_of session (channel_of session kind) (datagram_of session pair kind octets) ≡ item_by kind octets
+    → item_of session (channel_of session kind) (datagram_of session pair kind octets) ≡ item_by session.tunnel kind octets
 unfolding item_of
-item-back session pair kind octets legal fits paired main carries = ap item_in (message-back session pair kind octets legal fits paired main carries)
+item-back session pair kind octets legal fits paired main carries = ap (item_in session.tunnel) (message-back session pair kind octets legal fits paired main carries)
 
 -- the item of either form is that of the message
 form-back : (session : Session) (full : Bool) (pair : Option Pair) (kind : Kind) (octets : List ℕ) → IsSession session → session.profile ≡ Main → IsPair pair
     → is_some pair ≡ is_some session.pass → IsCarried octets
-    → item_of session OnTunnel (datagram_of (record session { full = full }) pair kind octets) ≡ item_by kind octets
+    → item_of session OnTunnel (datagram_of (record session { full = full }) pair kind octets) ≡ item_by session.tunnel kind octets
 unfolding item_of message_of
 form-back session full pair kind octets legal main fits paired carries =
-    (λ i. item_in (message_on (main i) OnTunnel session (datagram_on (main i) (record session { full = full }) pair kind octets)))
-    ∙ ap item_in (tunnel-back session full pair kind octets legal fits paired (λ is. carries))
+    (λ i. item_in session.tunnel (message_on (main i) OnTunnel session (datagram_on (main i) (record session { full = full }) pair kind octets)))
+    ∙ ap (item_in session.tunnel) (tunnel-back session full pair kind octets legal fits paired (λ is. carries))
 
 pub forms-same : (session : Session) (pair : Option Pair) (kind : Kind) (octets : List ℕ) → IsSession session → session.profile ≡ Main → IsPair pair
     → is_some pair ≡ is_some session.pass → length octets ≤ 1560 → All (λ octet. octet < 256) octets
@@ -191,7 +192,7 @@ sealed-by session pass pair kind octets is fits =
     let rest = sealed_text session (Some pair) text in
     let all = tunnel_octets session (Some pair) kind octets in
     let header = header_for session.full (Some pair) kind in
-    let spells = spelled session.bits session.full (Some pair) kind rest fits in
+    let spells = spelled session.tunnel session.bits session.full (Some pair) kind rest fits in
     record {
       given = pair;
       is_given = refl;
@@ -222,6 +223,6 @@ datagram-from session pair kind message way datagram legal fits paired main carr
 }
 
 -- ---- a compound
-pub compound-item : (packets : List Content) (octets : List ℕ) → IsCompound packets octets → item_by ControlKind octets ≡ Ok (ControlItem packets)
-compound-item packets octets spells =
+pub compound-item : (tunnel : Tunnel) (packets : List Content) (octets : List ℕ) → IsCompound packets octets → item_by tunnel ControlKind octets ≡ Ok (ControlItem packets)
+compound-item tunnel packets octets spells =
     ap (rtcp_item octets) (compound_accepted packets octets spells) ∙ ap (λ (x : List Content). Ok (ControlItem x)) (compound_packets packets octets spells)

@@ -12,8 +12,13 @@ use Rattle.seq_unwrap.specs.declared.width.Width.TheVariants.{W16, W32}
 use Rattle.seq_unwrap.specs.Nearest.{cycle_of}
 use Rattle.ts_nulls.specs.Shape.{Shape, IsShape}
 use Rattle.rist_ext.specs.declared.ext_word.ExtWord.{ExtWord}
+use Rattle.rist_ext.specs.declared.ext_word.ExtBad.{ExtBad}
+use Rattle.rist_ext.specs.Reading.{reading_of as extension_reading_of}
 use Rattle.rist_ext.specs.Extension.{IsWord, spelling as extension_spelling, unread_in, nothing_unread, Spells as ExtSpells}
 use Rattle.rist_ext.proofs.WordLemmas.{reading-spelled as extension-spelled}
+use Rattle.rist_ext.proofs.CountedLemmas.{counted-same}
+use Rattle.gre_tunnel.specs.declared.tunnel.Tunnel.{Tunnel}
+use Rattle.gre_tunnel.specs.declared.tunnel.Tunnel.TheVariants.{Own, Librist}
 use Rattle.rtp_packet.specs.declared.bad.RtpBad.{RtpBad}
 use Rattle.rtp_packet.specs.declared.bad.RtpBad.TheVariants.{Long}
 use Rattle.rtp_packet.specs.Rtp.{Spells, IsExtension, extension_octets, spelling as rtp_spelling}
@@ -38,7 +43,7 @@ use Rattle.rist_wire.specs.Cipher.{key_by, ciphered, ciphered_under}
 use Rattle.rist_wire.specs.Cipher.{first_counter_block}
 use Rattle.rist_wire.specs.Media.{MediaValue, can_restore, is_again, width_by, word_by}
 use Rattle.rist_nack.specs.Requests.{flow_of}
-use Rattle.rist_wire.specs.Messages.{word_in, known_word, media_with, tested_media, media_by, rtp_item, item_by}
+use Rattle.rist_wire.specs.Messages.{extension_word, word_in, known_word, media_with, tested_media, media_by, rtp_item, item_by}
 use Rattle.rist_wire.specs.Item.{item_of}
 use Rattle.rist_wire.specs.Session.{IsSession}
 use Rattle.rist_wire.specs.Writing.{MediaOut, IsPair, nonce_of, sequence_of}
@@ -75,17 +80,26 @@ extension-fits word = fits (is_some word.strip || is_some word.upper)
     fits true = record { profile = omega arith; words = record { whole = refl; few = omega arith } }
     fits false = tt
 
-read-back : (word : ExtWord) → IsWord word → word_in (extension-if true word) ≡ Ok word
-read-back word fits = ap known_word (extension-spelled word (extension_spelling word nothing_unread) (word-spelled word fits)).0
+either-read : (tunnel : Tunnel) (left : ℕ) (words : List ℕ) (word : ExtWord) → extension_reading_of 0x5249 words ≡ Ok word
+    → extension_word tunnel left 0x5249 words ≡ Ok word
+either-read Own left words word is = is
+either-read Librist left words word is = counted-same left 0x5249 words word is
 
-back-with : (strip : Option Shape) (upper : Option ℕ) → IsWord (record { strip = strip; upper = upper })
-    → word_in (extension_for (record { strip = strip; upper = upper })) ≡ Ok (record { strip = strip; upper = upper })
-back-with None None fits = refl
-back-with None (Some upper) fits = read-back (record { strip = None; upper = Some upper }) fits
-back-with (Some shape) upper fits = read-back (record { strip = Some shape; upper = upper }) fits
+either-spelled : (tunnel : Tunnel) (left : ℕ) (word : ExtWord) → IsWord word → extension_word tunnel left 0x5249 (extension_spelling word nothing_unread) ≡ Ok word
+either-spelled tunnel left word fits =
+    either-read tunnel left (extension_spelling word nothing_unread) word (extension-spelled word (extension_spelling word nothing_unread) (word-spelled word fits)).0
 
-word-back : (word : ExtWord) → IsWord word → word_in (extension_for word) ≡ Ok word
-word-back word fits = back-with word.strip word.upper fits
+read-back : (tunnel : Tunnel) (left : ℕ) (word : ExtWord) → IsWord word → word_in tunnel left (extension-if true word) ≡ Ok word
+read-back tunnel left word fits = ap known_word (either-spelled tunnel left word fits)
+
+back-with : (tunnel : Tunnel) (left : ℕ) (strip : Option Shape) (upper : Option ℕ) → IsWord (record { strip = strip; upper = upper })
+    → word_in tunnel left (extension_for (record { strip = strip; upper = upper })) ≡ Ok (record { strip = strip; upper = upper })
+back-with tunnel left None None fits = refl
+back-with tunnel left None (Some upper) fits = read-back tunnel left (record { strip = None; upper = Some upper }) fits
+back-with tunnel left (Some shape) upper fits = read-back tunnel left (record { strip = Some shape; upper = upper }) fits
+
+word-back : (tunnel : Tunnel) (left : ℕ) (word : ExtWord) → IsWord word → word_in tunnel left (extension_for word) ≡ Ok word
+word-back tunnel left word fits = back-with tunnel left word.strip word.upper fits
 
 -- ---- the packet
 again-back : (flow : ℕ) (again : Bool) → flow % 2 ≡ 0 → (flow_of (flow + from_bool again) ≡ flow) × (is_again (flow + from_bool again) ≡ again)
@@ -125,14 +139,13 @@ packet-fits width media legal = record {
 tested : (media : MediaValue) → can_restore media.strip media.payload ≡ true → tested_media media ≡ Ok (MediaItem media)
 tested media whole = λ i. cond (whole i) (Ok (MediaItem media)) (Err (NoNulls BadShape))
 
-media-item : (width : Width) (media : MediaOut) → IsMediaOut media → item_by MediaKind (media_octets width media) ≡ Ok (MediaItem (media_value width media))
-media-item width media legal =
-    let packet = packet_for width media in
-    let word = word_for width media.number media.strip in
-    let read : rtp_reading_of (media_octets width media) ≡ Ok (value_of packet) =
-    packet-spelled packet (media_octets width media) (packet-fits width media legal) ∙ not-long (length media.payload) (value_of packet) legal.payload in
-    let source = again-back media.flow media.again legal.even in
-    let same : media_with (value_of packet) word ≡ media_value width media = λ i. record {
+-- the media of a packet with these headers and this word
+worded-item : (width : Width) (media : MediaOut) (extension : Option (ℕ × List ℕ)) → media.flow % 2 ≡ 0 → can_restore media.strip media.payload ≡ true
+    → tested_media (media_with (value_of (packet_with (head_for media) extension media.payload)) (word_for width media.number media.strip))
+    ≡ Ok (MediaItem (media_value width media))
+worded-item width media extension even whole =
+    let source = again-back media.flow media.again even in
+    let same : media_with (value_of (packet_with (head_for media) extension media.payload)) (word_for width media.number media.strip) ≡ media_value width media = λ i. record {
       flow = source.0 i;
       again = source.1 i;
       width = width-back width media.number i;
@@ -141,8 +154,28 @@ media-item width media legal =
       strip = media.strip;
       payload = media.payload;
     } in
-    ap rtp_item read ∙ ap (media_by (value_of packet)) (word-back word (word-fits width media.number media.strip legal.strip))
-    ∙ ap tested_media same ∙ tested (media_value width media) legal.whole
+    ap tested_media same ∙ tested (media_value width media) whole
+
+media-item : (tunnel : Tunnel) (width : Width) (media : MediaOut) → IsMediaOut media → item_by tunnel MediaKind (media_octets width media) ≡ Ok (MediaItem (media_value width media))
+media-item tunnel width media legal =
+    let packet = packet_for width media in
+    let word = word_for width media.number media.strip in
+    let read : rtp_reading_of (media_octets width media) ≡ Ok (value_of packet) =
+    packet-spelled packet (media_octets width media) (packet-fits width media legal) ∙ not-long (length media.payload) (value_of packet) legal.payload in
+    ap (rtp_item tunnel) read ∙ ap (media_by (value_of packet)) (word-back tunnel (length media.payload) word (word-fits width media.number media.strip legal.strip))
+    ∙ worded-item width media (extension_for word) legal.even legal.whole
+
+-- the same of what was read of a packet and of the words of its extension
+pub packet-item : (tunnel : Tunnel) (width : Width) (media : MediaOut) (words all : List ℕ) → media.flow % 2 ≡ 0 → can_restore media.strip media.payload ≡ true
+    → extension_reading_of 0x5249 words ≡ Ok (word_for width media.number media.strip)
+    → rtp_reading_of all ≡ Ok (value_of (packet_with (head_for media) (Some (0x5249, words)) media.payload))
+    → item_by tunnel MediaKind all ≡ Ok (MediaItem (media_value width media))
+packet-item tunnel width media words all even whole is read =
+    let word = word_for width media.number media.strip in
+    ap (rtp_item tunnel) read
+    ∙ ap (λ (x : Result ExtWord ExtBad). media_by (value_of (packet_with (head_for media) (Some (0x5249, words)) media.payload)) (known_word x))
+    (either-read tunnel (length media.payload) words word is)
+    ∙ worded-item width media (Some (0x5249, words)) even whole
 
 -- ---- its length
 word-len : (extension : Option (ℕ × List ℕ)) → IfSome extension (λ e. length e.1 ≡ 4) → length (extension_octets extension) ≤ 8
@@ -217,7 +250,7 @@ media-taken session pair media legal fits paired is are =
     let kept : MediaKind ≡ KeepaliveKind → session.profile ≡ Main = λ e. cc in
     item-back session pair MediaKind (media_octets session.width media) legal fits (λ main. paired) kept
     (λ full. media-carried session.width media is (are full))
-    ∙ media-item session.width media is
+    ∙ media-item session.tunnel session.width media is
 
 ciphered-len : (key : List ℕ) (sequence : ℕ) (text : List ℕ) → length (ciphered key sequence text) ≡ length text
 unfolding ciphered
@@ -228,9 +261,9 @@ under-len : (key : Option (List ℕ)) (sequence : Option ℕ) (text : List ℕ) 
 under-len None sequence text = refl
 under-len (Some key) sequence text = ciphered-len key (unwrap_or sequence 0) text
 
-header-len : (bits : ℕ) (full : Bool) (pair : Option Pair) (kind : Kind) → length (header_octets bits full pair kind) ≤ 12
-header-len bits full None kind = omega arith
-header-len bits full (Some pair) kind = omega arith
+header-len : (tunnel : Tunnel) (bits : ℕ) (full : Bool) (pair : Option Pair) (kind : Kind) → length (header_octets tunnel bits full pair kind) ≤ 12
+header-len tunnel bits full None kind = omega arith
+header-len tunnel bits full (Some pair) kind = omega arith
 
 -- how many octets stand before a message that goes to a port
 abbrev before : Bool → ℕ
@@ -253,9 +286,9 @@ datagram-len Main session pair octets =
     let sealed = under-len (key_by session.pass session.bits (nonce_of pair)) (sequence_of pair) text in
     omega (
       arith,
-      length-append (header_octets session.bits session.full pair MediaKind) (sealed_text session pair text),
+      length-append (header_octets session.tunnel session.bits session.full pair MediaKind) (sealed_text session pair text),
       sealed,
-      header-len session.bits session.full pair MediaKind,
+      header-len session.tunnel session.bits session.full pair MediaKind,
       carried-len session.full session.port octets,
     )
 

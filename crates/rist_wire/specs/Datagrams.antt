@@ -3,6 +3,7 @@ use Rattle.std.specs.Prelude.{◌≡◌, ℕ, ◌+◌, Bool, true, false, ◌&&�
 use Rattle.std.specs.Int.{w16, to_be_bytes}
 use Rattle.outside_io.specs.declared.channel.Channel.{Channel}
 use Rattle.outside_io.specs.declared.channel.Channel.TheVariants.{Media as OnMedia, Control as OnControl, Tunnel as OnTunnel}
+use Rattle.gre_tunnel.specs.declared.tunnel.Tunnel.{Tunnel}
 use Rattle.gre_tunnel.specs.Gre.{Header, keepalive_protocol, datagram_protocol, full_protocol, spelling as gre_spelling}
 use Rattle.gre_tunnel.specs.Writing.{header_with, ignored_with}
 use Rattle.ipv4_udp.specs.declared.writing.IpHead.{IpHead}
@@ -42,8 +43,9 @@ abbrev pub is_long : ℕ → Option Pair → Bool
 is_long bits pair = is_some pair && (bits == 256)
 
 -- its octets
-abbrev pub header_octets : ℕ → Bool → Option Pair → Kind → List ℕ
-header_octets bits full pair kind = gre_spelling (header_for full pair kind) (ignored_with (is_long bits pair))
+abbrev pub header_octets : Tunnel → ℕ → Bool → Option Pair → Kind → List ℕ
+header_octets tunnel bits full pair kind =
+    gre_spelling (header_for full pair kind) (ignored_with tunnel (nonce_of pair) (is_long bits pair))
 
 -- before RTP and RTCP stand a source port, written as the destination, and the destination
 abbrev pub ports_octets : ℕ → List ℕ
@@ -76,7 +78,7 @@ sealed_text session pair text = ciphered_by session.pass session.bits (nonce_of 
 -- the datagram of a message in the tunnel
 abbrev pub tunnel_octets : Session → Option Pair → Kind → List ℕ → List ℕ
 tunnel_octets session pair kind octets =
-    header_octets session.bits session.full pair kind
+    header_octets session.tunnel session.bits session.full pair kind
     ++ sealed_text session pair (text_for session.full session.port kind octets)
 
 -- ---- the whole
@@ -107,7 +109,7 @@ pub record IsDatagram (session : Session) (pair : Option Pair) (kind : Kind) (me
     (way : Channel) (datagram : List ℕ) : Type 0 where
   pub channel : way ≡ channel_of session kind
   pub octets : datagram ≡ datagram_of session pair kind message
-  pub item : item_of session way datagram ≡ item_by kind message
+  pub item : item_of session way datagram ≡ item_by session.tunnel kind message
   pub sealed : (pass : List ℕ) → session.pass ≡ Some pass
       → IsSealed pass session.bits pair (protocol_for session.full kind)
       (text_for session.full session.port kind message) datagram

@@ -2,6 +2,7 @@
 use Rattle.std.specs.Prelude.{ℕ, List, Result, Ok, Err}
 use Rattle.outside_io.specs.declared.channel.Channel.{Channel}
 use Rattle.outside_io.specs.declared.channel.Channel.TheVariants.{Media as OnMedia, Control as OnControl, Tunnel as OnTunnel}
+use Rattle.gre_tunnel.specs.declared.tunnel.Tunnel.{Tunnel}
 use Rattle.gre_tunnel.specs.Reading.{reading_of as gre_reading_of}
 use Rattle.outside_io.specs.declared.profile.Profile.{Profile}
 use Rattle.outside_io.specs.declared.profile.Profile.TheVariants.{Simple, Main}
@@ -40,10 +41,10 @@ unfoldable pub plain_of : Session → Channel → List ℕ → List ℕ
 plain_of session channel octets = plain_on session.profile channel session octets
 
 -- the item of a message, where there is one
-abbrev pub item_in : Result Message WireBad → Result Item WireBad
-item_in (Ok message) = item_by message.kind message.octets
-item_in (Err bad) = Err bad
+abbrev pub item_in : Tunnel → Result Message WireBad → Result Item WireBad
+item_in tunnel (Ok message) = item_by tunnel message.kind message.octets
+item_in tunnel (Err bad) = Err bad
 
 -- the item of a datagram, or the first test that fails
 unfoldable pub item_of : Session → Channel → List ℕ → Result Item WireBad
-item_of session channel octets = item_in (message_of session channel octets)
+item_of session channel octets = item_in session.tunnel (message_of session channel octets)

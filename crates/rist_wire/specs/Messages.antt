@@ -1,5 +1,7 @@
 -- Messages, without the headers of the tunnel, and the item that each says.
-use Rattle.std.specs.Prelude.{ℕ, List, if◌then◌else◌, Option, Some, None, Result, Ok, Err}
+use Rattle.std.specs.Prelude.{ℕ, List, length, if◌then◌else◌, Option, Some, None, Result, Ok, Err}
+use Rattle.gre_tunnel.specs.declared.tunnel.Tunnel.{Tunnel}
+use Rattle.gre_tunnel.specs.declared.tunnel.Tunnel.TheVariants.{Own, Librist}
 use Rattle.keepalive_msg.specs.declared.keepalive.Keepalive.{Keepalive}
 use Rattle.keepalive_msg.specs.declared.keepalive.KeepBad.{KeepBad}
 use Rattle.keepalive_msg.specs.Reading.{reading_of as keepalive_reading_of}
@@ -12,6 +14,7 @@ use Rattle.rist_ext.specs.declared.ext_word.ExtWord.{ExtWord}
 use Rattle.rist_ext.specs.declared.ext_word.ExtBad.{ExtBad}
 use Rattle.rist_ext.specs.declared.ext_word.ExtBad.TheVariants.{Profile as OtherProfile, Length as OtherLength, Size}
 use Rattle.rist_ext.specs.Reading.{reading_of as extension_reading_of}
+use Rattle.rist_ext.specs.Counted.{counted_reading_of}
 use Rattle.ts_nulls.specs.declared.nulls.NullBad.TheVariants.{Shape as BadShape}
 use Rattle.rist_wire.specs.declared.bad.WireBad.{WireBad}
 use Rattle.rist_wire.specs.declared.bad.WireBad.TheVariants.{Keepalive as NoKeepalive, Rtp as NoRtp, Rtcp as NoRtcp, Ext as NoExt, Nulls as NoNulls}
@@ -39,10 +42,16 @@ known_word (Err OtherProfile) = Ok no_word
 known_word (Err OtherLength) = Ok no_word
 known_word (Err Size) = Err Size
 
--- the word of a packet by its extension, if it has one
-abbrev pub word_in : Option (ℕ × List ℕ) → Result ExtWord ExtBad
-word_in None = Ok no_word
-word_in (Some extension) = known_word (extension_reading_of extension.0 extension.1)
+-- what is read of an extension: in librist's tunnel it may not say how many packets there were, and then that follows
+-- from how many octets are left of the payload
+abbrev pub extension_word : Tunnel → ℕ → ℕ → List ℕ → Result ExtWord ExtBad
+extension_word Own left profile octets = extension_reading_of profile octets
+extension_word Librist left profile octets = counted_reading_of left profile octets
+
+-- the word of a packet with so many octets of payload by its extension, if it has one
+abbrev pub word_in : Tunnel → ℕ → Option (ℕ × List ℕ) → Result ExtWord ExtBad
+word_in tunnel left None = Ok no_word
+word_in tunnel left (Some extension) = known_word (extension_word tunnel left extension.0 extension.1)
 
 -- the media of an RTP packet with this word
 abbrev pub media_with : RtpValue → ExtWord → MediaValue
@@ -66,9 +75,9 @@ media_by rtp (Ok word) = tested_media (media_with rtp word)
 media_by rtp (Err bad) = Err (NoExt bad)
 
 -- the item of what is read as RTP
-abbrev pub rtp_item : Result RtpValue RtpBad → Result Item WireBad
-rtp_item (Ok rtp) = media_by rtp (word_in rtp.extension)
-rtp_item (Err bad) = Err (NoRtp bad)
+abbrev pub rtp_item : Tunnel → Result RtpValue RtpBad → Result Item WireBad
+rtp_item tunnel (Ok rtp) = media_by rtp (word_in tunnel (length rtp.payload) rtp.extension)
+rtp_item tunnel (Err bad) = Err (NoRtp bad)
 
 -- ---- control and keepalives
 
@@ -85,7 +94,7 @@ keepalive_item (Err bad) = Err (NoKeepalive bad)
 -- ---- the whole
 
 -- the item of a message of this kind, or the first test that fails
-abbrev pub item_by : Kind → List ℕ → Result Item WireBad
-item_by MediaKind octets = rtp_item (rtp_reading_of octets)
-item_by ControlKind octets = rtcp_item octets (fault_of octets)
-item_by KeepaliveKind octets = keepalive_item (keepalive_reading_of octets)
+abbrev pub item_by : Tunnel → Kind → List ℕ → Result Item WireBad
+item_by tunnel MediaKind octets = rtp_item tunnel (rtp_reading_of octets)
+item_by tunnel ControlKind octets = rtcp_item octets (fault_of octets)
+item_by tunnel KeepaliveKind octets = keepalive_item (keepalive_reading_of octets)

@@ -31,7 +31,8 @@ pub enum WireBad {
     Rtp(RtpBad),
     /// No RTCP compound.
     Rtcp(RtcpBad),
-    /// A RIST extension whose size is 0 where null packets were deleted.
+    /// A RIST extension that says that null packets were deleted, and not of how many: its size is 0. In librist's tunnel
+    /// only where the payload and the bits don't say it either.
     Ext(ExtBad),
     /// A payload that isn't the packets that were kept.
     Nulls(NullBad),

@@ -1,6 +1,7 @@
 use crate::bad::WireBad;
 use crate::media::Media;
 use crate::reading::item_in;
+use gre_tunnel::Tunnel;
 use keepalive_msg::Keepalive;
 use rtcp_compound::Compound;
 
@@ -42,12 +43,12 @@ impl Part {
     ghost use Rattle.rist_wire.specs.Tunnel.{LiesIn};
     ghost use Rattle.rist_wire.specs.Messages.{item_by};
 
-    /// The item that the message of this datagram says, or the first test that fails.
-    pub fn item<'a>(&self, octets: &'a [u8]) -> Result<Item<'a>, WireBad>
+    /// The item that the message of this datagram says in this tunnel, or the first test that fails.
+    pub fn item<'a>(&self, tunnel: Tunnel, octets: &'a [u8]) -> Result<Item<'a>, WireBad>
         requires within { LiesIn self.now octets.now }
         ensures value { result
-            ≡ item_by self.now.kind (take (self.now.end - self.now.from) (drop self.now.from octets.now)) }
+            ≡ item_by tunnel self.now.kind (take (self.now.end - self.now.from) (drop self.now.from octets.now)) }
     {
-        item_in(self.kind, &octets[self.from..self.end])
+        item_in(tunnel, self.kind, &octets[self.from..self.end])
     }
 }

@@ -19,6 +19,7 @@ mod shutter;
 mod tunnel;
 
 pub use bad::WireBad;
+pub use gre_tunnel::Tunnel;
 pub use item::{Item, Kind, Part};
 pub use media::Media;
 pub use opener::Opener;

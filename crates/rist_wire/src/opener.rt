@@ -140,7 +140,7 @@ impl Opener {
         ensures same { self.new ≡ self.old }
     {
         match self.open(channel, octets) {
-            Ok(part) => part.item(octets),
+            Ok(part) => part.item(self.session.tunnel, octets),
             Err(bad) => Err(bad),
         }
     }
@@ -175,8 +175,9 @@ impl Opener {
         ensures value { result ≡ item_among ports.now self.old channel octets.entry.now }
         ensures same { self.new ≡ self.old }
     {
+        let tunnel = self.session.tunnel;
         match self.open_any(ports, channel, octets) {
-            Ok((place, part)) => match part.item(octets) {
+            Ok((place, part)) => match part.item(tunnel, octets) {
                 Ok(item) => Ok((place, item)),
                 Err(bad) => Err(bad),
             },

@@ -1,4 +1,5 @@
 //! The RTP packets of media (RFC 3550, section 5.1).
+ghost use Rattle.gre_tunnel.specs.declared.tunnel.Tunnel.{Tunnel};
 ghost use Rattle.std.specs.Prelude.{◌≡◌, ◌+◌, ◌%◌, ◌≤◌, ◌<◌, Ok, Some, true, length, take, is_none};
 ghost use Rattle.rist_wire.specs.declared.item.Kind.TheVariants.{Media as MediaKind};
 ghost use Rattle.rist_wire.specs.declared.item.Item.TheVariants.{Media as MediaItem};
@@ -37,7 +38,7 @@ pub(crate) fn put_media(
     requires whole { can_restore strip payload.now ≡ true }
     ensures octets { take result out.new
         ≡ media_octets width (media_out flow again number stamp strip payload.now) }
-    ensures item { item_by MediaKind (take result out.new)
+    ensures item { (tunnel : Tunnel) → item_by tunnel MediaKind (take result out.new)
         ≡ Ok (MediaItem (media_value width (media_out flow again number stamp strip payload.now))) }
     ensures within { result ≤ 1548 }
 {

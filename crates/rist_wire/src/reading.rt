@@ -1,15 +1,16 @@
 //! Messages, read as items.
-ghost use Rattle.std.specs.Prelude.{◌≡◌, ◌<◌, ◌-◌, ◌%◌};
+ghost use Rattle.std.specs.Prelude.{◌≡◌, ◌<◌, ◌-◌, ◌%◌, length};
 ghost use Rattle.rtp_packet.specs.Reading.{extension_shown, reading_of as rtp_reading_of};
 ghost use Rattle.rtcp_compound.specs.Reading.{fault_of};
 ghost use Rattle.keepalive_msg.specs.Reading.{reading_of as keepalive_reading_of};
 ghost use Rattle.seq_unwrap.specs.Nearest.{cycle_of};
 ghost use Rattle.rist_wire.specs.Media.{can_restore, width_by, word_by};
-ghost use Rattle.rist_wire.specs.Messages.{word_in, media_with, tested_media, rtp_item, rtcp_item, keepalive_item, item_by};
+ghost use Rattle.rist_wire.specs.Messages.{extension_word, word_in, media_with, tested_media, rtp_item, rtcp_item, keepalive_item, item_by};
 
 use crate::bad::WireBad;
 use crate::item::{Item, Kind};
 use crate::media::Media;
+use gre_tunnel::Tunnel;
 use rist_ext::{ExtBad, ExtWord};
 use rist_nack::flow;
 use rtcp_compound::Compound;
@@ -22,14 +23,29 @@ const NO_WORD: ExtWord = ExtWord {
     upper: None,
 };
 
-// The RIST extension: that of a packet without one where the extension has another profile word or count.
-fn word_in(extension: Option<(u16, &[u8])>) -> Result<ExtWord, ExtBad>
-    ensures value { result ≡ word_in (extension_shown extension.entry) }
+fn extension_word(
+    tunnel: Tunnel,
+    left: usize,
+    profile: u16,
+    words: &[u8],
+) -> Result<ExtWord, ExtBad>
+    ensures value { result ≡ extension_word tunnel left profile words.now }
+{
+    match tunnel {
+        Tunnel::Own => ExtWord::read(profile, words),
+        Tunnel::Librist => ExtWord::read_counted(left, profile, words),
+    }
+}
+
+// The RIST extension of a packet with so many octets of payload: that of a packet without one where the extension has
+// another profile word or count.
+fn word_in(tunnel: Tunnel, left: usize, extension: Option<(u16, &[u8])>) -> Result<ExtWord, ExtBad>
+    ensures value { result ≡ word_in tunnel left (extension_shown extension.entry) }
 {
     let Some((profile, words)) = extension else {
         return Ok(NO_WORD);
     };
-    match ExtWord::read(profile, words) {
+    match extension_word(tunnel, left, profile, words) {
         Ok(word) => Ok(word),
         Err(ExtBad::Profile) => Ok(NO_WORD),
         Err(ExtBad::Length) => Ok(NO_WORD),
@@ -85,14 +101,14 @@ fn tested_media<'a>(rtp: &Rtp<'a>, word: ExtWord) -> Result<Item<'a>, WireBad>
     }))
 }
 
-fn media_in<'a>(octets: &'a [u8]) -> Result<Item<'a>, WireBad>
-    ensures value { result ≡ rtp_item (rtp_reading_of octets.now) }
+fn media_in<'a>(tunnel: Tunnel, octets: &'a [u8]) -> Result<Item<'a>, WireBad>
+    ensures value { result ≡ rtp_item tunnel (rtp_reading_of octets.now) }
 {
     let rtp = match Rtp::read(octets) {
         Ok(rtp) => rtp,
         Err(bad) => return Err(WireBad::Rtp(bad)),
     };
-    match word_in(rtp.extension()) {
+    match word_in(tunnel, rtp.payload().len(), rtp.extension()) {
         Ok(word) => tested_media(&rtp, word),
         Err(bad) => Err(WireBad::Ext(bad)),
     }
@@ -117,11 +133,11 @@ fn keepalive_in<'a>(octets: &'a [u8]) -> Result<Item<'a>, WireBad>
 }
 
 /// The item of a message.
-pub(crate) fn item_in<'a>(kind: Kind, octets: &'a [u8]) -> Result<Item<'a>, WireBad>
-    ensures value { result ≡ item_by kind octets.now }
+pub(crate) fn item_in<'a>(tunnel: Tunnel, kind: Kind, octets: &'a [u8]) -> Result<Item<'a>, WireBad>
+    ensures value { result ≡ item_by tunnel kind octets.now }
 {
     match kind {
-        Kind::Media => media_in(octets),
+        Kind::Media => media_in(tunnel, octets),
         Kind::Control => control_in(octets),
         Kind::Keepalive => keepalive_in(octets),
     }

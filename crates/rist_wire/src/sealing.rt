@@ -13,7 +13,7 @@ use crate::cipher::cipher_under;
 use crate::item::Kind;
 use crate::session::Session;
 use aes_block::Aes;
-use gre_tunnel::{DATAGRAM, FULL, KEEPALIVE};
+use gre_tunnel::{DATAGRAM, FULL, KEEPALIVE, Tunnel};
 use ipv4_udp::{IpHead, MAX_PAYLOAD};
 use octet_fields::put_at;
 use outside_io::{Channel, Profile};
@@ -59,15 +59,23 @@ fn protocol_for(full: bool, kind: Kind) -> u16
 }
 
 // Writes the header of a datagram at the front, and says where it ends.
-fn put_header(bits: u16, full: bool, pair: Option<Pair>, kind: Kind, out: &mut [u8; 2048]) -> usize
+fn put_header(
+    tunnel: Tunnel,
+    bits: u16,
+    full: bool,
+    pair: Option<Pair>,
+    kind: Kind,
+    out: &mut [u8; 2048],
+) -> usize
     ensures fits { IsPair pair }
-    ensures octets { take result out.new ≡ header_octets bits full pair kind }
+    ensures octets { take result out.new ≡ header_octets tunnel bits full pair kind }
     ensures within { result ≤ 12 }
 {
     let mut header = [0; 12];
     let nonce = nonce_of(pair);
     let sequence = sequence_of(pair);
     let end = gre_tunnel::write(
+        tunnel,
         nonce,
         sequence,
         pair.is_some() && bits == 256,
@@ -183,7 +191,7 @@ fn put_tunnel(
     ensures octets { take result out.new ≡ tunnel_octets session.now pair kind message.now }
     ensures within { result ≤ length message.now + 40 }
 {
-    let from = put_header(session.bits, session.full, pair, kind, out);
+    let from = put_header(session.tunnel, session.bits, session.full, pair, kind, out);
     let end = put_text(out, from, session.full, session.port, kind, message);
     seal(session, key, pair, out, from, end);
     end

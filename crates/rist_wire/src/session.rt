@@ -1,3 +1,4 @@
+use gre_tunnel::Tunnel;
 use outside_io::Profile;
 use psk_keys::Phrase;
 use seq_unwrap::Width;
@@ -20,6 +21,10 @@ pub struct Session {
     /// Whether RTP and RTCP are written as full datagrams, behind IPv4 and UDP, and not behind four octets of ports. Both
     /// forms are read.
     pub full: bool,
+    /// Whose form the tunnel's datagrams have.
+    pub tunnel: Tunnel,
+    /// Whether a sender asks for the round-trip time in each of its reports.
+    pub echo: bool,
 }
 
 impl Session {
@@ -40,6 +45,8 @@ impl Session {
             nulls: self.nulls,
             width: self.width,
             full: self.full,
+            tunnel: self.tunnel,
+            echo: self.echo,
         }
     }
 }

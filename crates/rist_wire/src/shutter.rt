@@ -85,6 +85,13 @@ impl Shutter {
         }
     }
 
+    /// Whether a sender of the session asks for the round-trip time in its reports.
+    pub fn echo(&self) -> bool
+        ensures value { result ≡ self.now.session.echo }
+    {
+        self.session.echo
+    }
+
     // Writes the datagram of a message.
     fn put(
         &mut self,

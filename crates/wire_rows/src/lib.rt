@@ -4,4 +4,6 @@
 #[cfg(test)]
 mod among;
 #[cfg(test)]
+mod librist;
+#[cfg(test)]
 mod tests;

@@ -5,7 +5,7 @@ ghost use Rattle.rist_wire.specs.Session.{IsSession};
 use outside_io::{Channel, Words};
 use psk_keys::{Keys, Phrase};
 use psk_seal::{Sealer, Spent};
-use rist_wire::{Item, Kind, Media, Opener, Profile, Session, Shutter, WireBad};
+use rist_wire::{Item, Kind, Media, Opener, Profile, Session, Shutter, Tunnel, WireBad};
 use seq_unwrap::Width;
 use std::alloc::Global;
 use std::process::Abort;
@@ -24,6 +24,8 @@ fn simple_session() -> Session
         nulls: false,
         width: Width::W16,
         full: false,
+        tunnel: Tunnel::Own,
+        echo: false,
     }
 }
 
@@ -42,6 +44,8 @@ pub(crate) fn main_session(pass: Option<Phrase>, bits: u16, width: Width) -> Ses
         nulls: true,
         width,
         full: false,
+        tunnel: Tunnel::Own,
+        echo: false,
     }
 }
 
@@ -58,6 +62,8 @@ fn full_session(pass: Option<Phrase>) -> Session
         nulls: false,
         width: Width::W16,
         full: true,
+        tunnel: Tunnel::Own,
+        echo: false,
     }
 }
 
@@ -462,7 +468,9 @@ fn a_part_is_read_where_it_stands(rt: HostRuntime) -> Result<(), Fail> {
         return Err(Fail::new("no part"));
     };
     assert!(rt; (part.kind, part.from) == (Kind::Media, 16));
-    assert!(rt; matches!(part.item(&block), Ok(Item::Media(media)) if media.word() == 0));
+    assert!(rt;
+        matches!(part.item(Tunnel::Own, &block), Ok(Item::Media(media)) if media.word() == 0)
+    );
     Ok(())
 }
 

@@ -7,5 +7,5 @@ returns-clause-octets c = search rules
 
 pub returns-clause-read_back : goal.returns-clause-read_back
 returns-clause-read_back c = λ more.
-    reading-written c.args.key c.args.sequence c.args.long c.args.protocol _ more c.put_number-at.ensures.fits c.put_number.ensures.fits
+    reading-written c.args.tunnel c.args.key c.args.sequence c.args.long c.args.protocol _ more c.put_number-at.ensures.fits c.put_number.ensures.fits
     c.requires.paired c.requires.protocol (returns-clause-octets c)

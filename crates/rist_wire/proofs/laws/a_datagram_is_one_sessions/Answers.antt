@@ -3,6 +3,7 @@ use Rattle.std.proofs.Common.{◌≡◌, ◌≢◌, ◌<◌, ◌==◌, ℕ, true
 use Rattle.std.proofs.lemmas.Bool.Decides.{nat_tests}
 use Rattle.outside_io.specs.declared.channel.Channel.{Channel}
 use Rattle.outside_io.specs.declared.profile.Profile.TheVariants.{Main}
+use Rattle.gre_tunnel.specs.declared.tunnel.Tunnel.{Tunnel}
 use Rattle.keepalive_msg.specs.declared.keepalive.Keepalive.{Keepalive}
 use Rattle.keepalive_msg.specs.declared.keepalive.KeepBad.{KeepBad}
 use Rattle.keepalive_msg.specs.Reading.{reading_of as keepalive_reading_of}
@@ -32,21 +33,21 @@ kept_item : (read : Result Keepalive KeepBad) (item : Item) → keepalive_item r
 kept_item (Ok k) item is = (k, let same : KeepaliveItem k ≡ item = cc in sym same)
 kept_item (Err bad) item is = cc
 
-kept_message : (message : Message) (item : Item) → message.kind ≡ KeepaliveKind → item_in (Ok message) ≡ Ok item → (k : Keepalive) × (item ≡ KeepaliveItem k)
-kept_message message item kind is =
-    kept_item (keepalive_reading_of message.octets) item (ap (λ k. let m : Message = record { kind = k; octets = message.octets } in item_in (Ok m)) (sym kind) ∙ is)
+kept_message : (tunnel : Tunnel) → (message : Message) (item : Item) → message.kind ≡ KeepaliveKind → (item_in tunnel) (Ok message) ≡ Ok item → (k : Keepalive) × (item ≡ KeepaliveItem k)
+kept_message tunnel message item kind is =
+    kept_item (keepalive_reading_of message.octets) item (ap (λ k. let m : Message = record { kind = k; octets = message.octets } in (item_in tunnel) (Ok m)) (sym kind) ∙ is)
 
 -- the item of the message that was found, and the others'
-another : (place : ℕ) (item : Item) (message : Message) (other : Result Message WireBad) → item_in (Ok message) ≡ Ok item → AtOther place message other
-    → IsForAnother place item (item_in other)
-another place item message other is (Refuses refused) = RefusesPort (ap item_in refused)
-another place item message other is (Keeps first kind same) =
-    let k = kept_message message item kind is in TakesKeepalive k.0 k.1 first (ap item_in same ∙ is)
+another : (tunnel : Tunnel) → (place : ℕ) (item : Item) (message : Message) (other : Result Message WireBad) → (item_in tunnel) (Ok message) ≡ Ok item → AtOther place message other
+    → IsForAnother place item ((item_in tunnel) other)
+another tunnel place item message other is (Refuses refused) = RefusesPort (ap (item_in tunnel) refused)
+another tunnel place item message other is (Keeps first kind same) =
+    let k = kept_message tunnel message item kind is in TakesKeepalive k.0 k.1 first (ap (item_in tunnel) same ∙ is)
 
-other_item : (place : ℕ) (item : Item) (own other : Result Message WireBad) → item_in own ≡ Ok item → ((message : Message) → own ≡ Ok message → AtOther place message other)
-    → IsForAnother place item (item_in other)
-other_item place item (Ok message) other is at = another place item message other is (at message refl)
-other_item place item (Err bad) other is at = cc
+other_item : (tunnel : Tunnel) → (place : ℕ) (item : Item) (own other : Result Message WireBad) → (item_in tunnel) own ≡ Ok item → ((message : Message) → own ≡ Ok message → AtOther place message other)
+    → IsForAnother place item ((item_in tunnel) other)
+other_item tunnel place item (Ok message) other is at = another tunnel place item message other is (at message refl)
+other_item tunnel place item (Err bad) other is at = cc
 
 pub returns-clause-others : goal.returns-clause-others
 unfolding item_among item_of
@@ -54,7 +55,7 @@ returns-clause-others c = λ session ports channel octets place v item legal mai
     let p = place_among ports session channel octets in
     let f = found_at p place item (item_of (session_at ports p session) channel octets) is in
     subst (λ n. IsForAnother n item (item_of (session_at ports v session) channel octets)) f.place
-    (other_item p item (message_of (session_at ports p session) channel octets) (message_of (session_at ports v session) channel octets) f.is
+    (other_item session.tunnel p item (message_of (session_at ports p session) channel octets) (message_of (session_at ports v session) channel octets) f.is
     (λ message own. other_message ports session channel octets message v legal main own low (λ same. apart (same ∙ f.place))))
 
 -- ---- what is refused
@@ -62,19 +63,19 @@ returns-clause-others c = λ session ports channel octets place v item legal mai
 abbrev RefusesSo : WireBad → Result Item WireBad → Type 0
 RefusesSo bad r = (r ≡ Err bad) ⊎ (r ≡ Err Port)
 
-another_refused : (place : ℕ) (bad : WireBad) (message : Message) (other : Result Message WireBad) → item_in (Ok message) ≡ Err bad → AtOther place message other
-    → RefusesSo bad (item_in other)
-another_refused place bad message other is (Refuses refused) = inr (ap item_in refused)
-another_refused place bad message other is (Keeps first kind same) = inl (ap item_in same ∙ is)
+another_refused : (tunnel : Tunnel) → (place : ℕ) (bad : WireBad) (message : Message) (other : Result Message WireBad) → (item_in tunnel) (Ok message) ≡ Err bad → AtOther place message other
+    → RefusesSo bad ((item_in tunnel) other)
+another_refused tunnel place bad message other is (Refuses refused) = inr (ap (item_in tunnel) refused)
+another_refused tunnel place bad message other is (Keeps first kind same) = inl (ap (item_in tunnel) same ∙ is)
 
-other_refused : (place v : ℕ) (bad : WireBad) (own : ℕ → Result Message WireBad) (there : Result Message WireBad) → own place ≡ there → item_in there ≡ Err bad
+other_refused : (tunnel : Tunnel) → (place v : ℕ) (bad : WireBad) (own : ℕ → Result Message WireBad) (there : Result Message WireBad) → own place ≡ there → (item_in tunnel) there ≡ Err bad
     → ((message : Message) → own place ≡ Ok message → v ≢ place → AtOther place message (own v))
-    → ((worse : WireBad) → own place ≡ Err worse → own v ≡ Err worse) → RefusesSo bad (item_in (own v))
-other_refused place v bad own (Ok message) same is at refused = elim (v == place) as (λ y. (v == place) ≡ y → RefusesSo bad (item_in (own v))) [
-  | true ↦ λ t. let here : v ≡ place = grind (arith, nat_tests) in inl (ap (λ n. item_in (own n)) here ∙ ap item_in same ∙ is)
-  | false ↦ λ t. another_refused place bad message (own v) is (at message same (grind (arith, nat_tests)))
+    → ((worse : WireBad) → own place ≡ Err worse → own v ≡ Err worse) → RefusesSo bad ((item_in tunnel) (own v))
+other_refused tunnel place v bad own (Ok message) same is at refused = elim (v == place) as (λ y. (v == place) ≡ y → RefusesSo bad ((item_in tunnel) (own v))) [
+  | true ↦ λ t. let here : v ≡ place = grind (arith, nat_tests) in inl (ap (λ n. (item_in tunnel) (own n)) here ∙ ap (item_in tunnel) same ∙ is)
+  | false ↦ λ t. another_refused tunnel place bad message (own v) is (at message same (grind (arith, nat_tests)))
 ] refl
-other_refused place v bad own (Err worse) same is at refused = inl (ap item_in (refused worse same) ∙ is)
+other_refused tunnel place v bad own (Err worse) same is at refused = inl (ap (item_in tunnel) (refused worse same) ∙ is)
 
 refused_so : (session : Session) (ports : List ℕ) (channel : Channel) (octets : List ℕ) (v : ℕ) (bad : WireBad) → ArePorts ports → session.profile ≡ Main
     → item_among ports session channel octets ≡ Err bad → v < length ports → RefusesSo bad (item_of (session_at ports v session) channel octets)
@@ -82,7 +83,7 @@ unfolding item_among item_of
 refused_so session ports channel octets v bad legal main is low =
     let p = place_among ports session channel octets in
     let own = λ (n : ℕ). message_of (session_at ports n session) channel octets in
-    other_refused p v bad own (own p) refl (refused_at p bad (item_of (session_at ports p session) channel octets) is)
+    other_refused session.tunnel p v bad own (own p) refl (refused_at p bad (item_of (session_at ports p session) channel octets) is)
     (λ message there apart. other_message ports session channel octets message v legal main there low apart)
     (λ worse there. refused_message ports session channel octets worse v legal main there low)
 
