@@ -12,7 +12,7 @@ use psk_seal::Sealer;
 use request_rules::NackKind;
 use rist_ends::{Outcome, Outs, Receiver, Told, What, what_of};
 use rist_sender::{Sender, Settings};
-use rist_wire::{Item, Opener, Profile, Session};
+use rist_wire::{Item, Opener, Profile, Session, Tunnel};
 use seq_unwrap::Width;
 use std::alloc::Global;
 use std::test::Fail;
@@ -70,6 +70,8 @@ fn session(meeting: Meeting) -> Session
         nulls: true,
         width: meeting.width,
         full: false,
+        tunnel: Tunnel::Own,
+        echo: false,
     }
 }
 

@@ -12,7 +12,7 @@ use psk_seal::{MAX_PAIRS, Sealer};
 use receiver_rules::{Arrival, Verdict};
 use request_rules::NackKind;
 use rist_ends::{Answer, Counts, Outcome, Outs, Receiver, Settings, Told, What};
-use rist_wire::{Item, Opener, Session};
+use rist_wire::{Item, Opener, Session, Tunnel};
 use rtcp_compound::Compound;
 use seq_unwrap::Width;
 use std::alloc::Global;
@@ -165,6 +165,8 @@ fn session(profile: Profile) -> Session
         nulls: false,
         width: Width::W16,
         full: false,
+        tunnel: Tunnel::Own,
+        echo: false,
     }
 }
 
@@ -739,6 +741,8 @@ fn secret() -> Session
         nulls: false,
         width: Width::W16,
         full: false,
+        tunnel: Tunnel::Own,
+        echo: false,
     }
 }
 

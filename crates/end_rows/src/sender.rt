@@ -8,7 +8,7 @@ use bond_links::Bond;
 use outside_io::Channel;
 use outside_net::ScriptLink;
 use rist_sender::{SendBad, Sender, Settings};
-use rist_wire::{Profile, Session};
+use rist_wire::{Profile, Session, Tunnel};
 use rtcp_compound::Compound;
 use seq_unwrap::Width;
 use std::alloc::Global;
@@ -147,6 +147,8 @@ fn session(profile: Profile) -> Session
         nulls: false,
         width: Width::W16,
         full: false,
+        tunnel: Tunnel::Own,
+        echo: false,
     }
 }
 

@@ -1,4 +1,4 @@
-use gre_tunnel::{DATAGRAM, FULL, Gre, GreBad, KEEPALIVE, write};
+use gre_tunnel::{DATAGRAM, FULL, Gre, GreBad, KEEPALIVE, Tunnel, write};
 use std::test::Fail;
 
 /// Headers, and the key, the sequence number, the protocol and the length that are read of each.
@@ -65,13 +65,26 @@ fn the_first_test_that_fails_is_named(rt: HostRuntime) {
 #[test]
 fn a_header_is_written_octet_by_octet(rt: HostRuntime) -> Result<(), Fail> {
     let mut out = [0xff; 12];
-    let len = write(None, None, false, KEEPALIVE, &mut out);
+    let len = write(Tunnel::Own, None, None, false, KEEPALIVE, &mut out);
     assert!(rt; out.get(..len).ok_or("len")? == b"\x00\x00\x88\xb5".as_slice());
-    let len = write(Some(0x01020304), Some(256), true, DATAGRAM, &mut out);
+    let key = Some(0x01020304);
+    let len = write(Tunnel::Own, key, Some(256), true, DATAGRAM, &mut out);
     assert!(rt;
         out.get(..len).ok_or("len")?
             == b"\x30\x40\x88\xb6\x01\x02\x03\x04\x00\x00\x01\x00".as_slice()
     );
+    Ok(())
+}
+
+#[test]
+fn in_librists_tunnel_a_header_with_a_key_has_version_1(rt: HostRuntime) -> Result<(), Fail> {
+    let mut out = [0xff; 12];
+    let len = write(Tunnel::Librist, None, None, false, DATAGRAM, &mut out);
+    assert!(rt; out.get(..len).ok_or("len")? == b"\x00\x00\x88\xb6".as_slice());
+    for (long, first) in [(false, 0x08), (true, 0x48)] {
+        let len = write(Tunnel::Librist, Some(7), Some(0), long, DATAGRAM, &mut out);
+        assert!(rt; len == 12 && out[..2] == [0x30, first]);
+    }
     Ok(())
 }
 

@@ -56,7 +56,7 @@ down_if setup k true result from to b = down_read setup k b.reading result (reco
 down_if setup k false result from to b = down_not setup result from to b
 
 down_next : (setup : Setup) (stage : Stage) (result : Result Unit SendFault) (from to : Run) → BringsNext setup stage result from to → EndsDown setup result to
-down_next setup (Reading k) result from to b = down_if setup k (is_due setup.settings.gap from.progress k) result from to b
+down_next setup (Reading k) result from to b = down_if setup k (is_due setup.settings from.progress k) result from to b
 down_next setup (Ended moment) result from to b = down_not setup result from to b
 
 down_answers : (setup : Setup) (link : ℕ) (compound : Option (List Content)) (result : Result Unit SendFault) (from to : Run) → AnswersIf setup link compound result from to → EndsDown setup result to

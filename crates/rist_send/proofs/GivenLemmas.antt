@@ -156,7 +156,7 @@ brings_if setup octets k from to result false at g b = stays octets result from 
 
 brings_next : (setup : Setup) (octets : List ℕ) (stage : Stage) (from to : Run) (result : Result Unit SendFault) → from.progress.stage ≡ stage
     → HasGiven octets from.octets from.sent from.progress.stage → BringsNext setup stage result from to → Leaves result octets to
-brings_next setup octets (Reading k) from to result at g b = brings_if setup octets k from to result (is_due setup.settings.gap from.progress k) at g b
+brings_next setup octets (Reading k) from to result at g b = brings_if setup octets k from to result (is_due setup.settings from.progress k) at g b
 brings_next setup octets (Ended moment) from to result at g b = stays octets result from to g b
 
 -- ---- the parts that give nothing

@@ -151,7 +151,7 @@ made_if setup k true result from to made b = made_read setup k b.reading result 
 made_if setup k false result from to made b = made_stays setup result from to made b
 
 made_next : (setup : Setup) (stage : Stage) (result : Result Unit SendFault) (from to : Run) → IsMade setup from → BringsNext setup stage result from to → IsMade setup to
-made_next setup (Reading k) result from to made b = made_if setup k (is_due setup.settings.gap from.progress k) result from to made b
+made_next setup (Reading k) result from to made b = made_if setup k (is_due setup.settings from.progress k) result from to made b
 made_next setup (Ended moment) result from to made b = made_stays setup result from to made b
 
 made_answer : (setup : Setup) (link : ℕ) (compound : Option (List Content)) (result : Result Unit SendFault) (from to : Run) → IsMade setup from → AnswersIf setup link compound result from to → IsMade setup to

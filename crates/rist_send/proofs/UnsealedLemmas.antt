@@ -151,7 +151,7 @@ far_if setup k true result from to b =
 far_if setup k false result from to b = far_stays setup result from to b
 
 far_next : (setup : Setup) (stage : Stage) (result : Result Unit SendFault) (from to : Run) → BringsNext setup stage result from to → EndsFar setup result from to
-far_next setup (Reading k) result from to b = far_if setup k (is_due setup.settings.gap from.progress k) result from to b
+far_next setup (Reading k) result from to b = far_if setup k (is_due setup.settings from.progress k) result from to b
 far_next setup (Ended moment) result from to b = far_stays setup result from to b
 
 far_answers : (setup : Setup) (link : ℕ) (compound : Option (List Content)) (result : Result Unit SendFault) (from to : Run) → AnswersIf setup link compound result from to → EndsFar setup result from to

@@ -49,23 +49,23 @@ start_with moment (Some start) = start
 abbrev pub begun_at : ℕ → Progress → Progress
 begun_at moment progress = record { start = Some (start_with moment progress.start); moment = moment; stage = progress.stage; closed = progress.closed }
 
--- piece k is due from k gaps after the start on
-abbrev pub is_due_from : ℕ → Option ℕ → ℕ → ℕ → Bool
-is_due_from gap None now k = false
-is_due_from gap (Some start) now k = nat_le (start + k * gap) now
+-- piece k is due from the lead and k gaps after the start on
+abbrev pub is_due_from : SendSettings → Option ℕ → ℕ → ℕ → Bool
+is_due_from settings None now k = false
+is_due_from settings (Some start) now k = nat_le (start + settings.lead + k * settings.gap) now
 
 -- piece k is due
-abbrev pub is_due : ℕ → Progress → ℕ → Bool
-is_due gap progress k = is_due_from gap progress.start progress.moment k
+abbrev pub is_due : SendSettings → Progress → ℕ → Bool
+is_due settings progress k = is_due_from settings progress.start progress.moment k
 
 -- the piece that is next at a stage is due; once the source has ended none is
-abbrev pub is_stage_due : ℕ → Progress → Stage → Bool
-is_stage_due gap progress (Reading k) = is_due gap progress k
-is_stage_due gap progress (Ended moment) = false
+abbrev pub is_stage_due : SendSettings → Progress → Stage → Bool
+is_stage_due settings progress (Reading k) = is_due settings progress k
+is_stage_due settings progress (Ended moment) = false
 
 -- the next piece is due, if the source has one
-abbrev pub is_next_due : ℕ → Progress → Bool
-is_next_due gap progress = is_stage_due gap progress progress.stage
+abbrev pub is_next_due : SendSettings → Progress → Bool
+is_next_due settings progress = is_stage_due settings progress progress.stage
 
 -- the source has ended, and this long has passed since
 abbrev pub is_over_at : ℕ → Stage → ℕ → Bool

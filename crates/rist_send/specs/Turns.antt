@@ -79,7 +79,7 @@ pub record BringsPiece (setup : Setup) (k : ℕ) (result : Result Unit SendFault
 
 -- the next piece, where it is due
 abbrev pub BringsNext : Setup → Stage → Result Unit SendFault → Run → Run → Type 0
-BringsNext setup (Reading k) result from to = IfElse (is_due setup.settings.gap from.progress k) (BringsPiece setup k result from to) (Stays result from to)
+BringsNext setup (Reading k) result from to = IfElse (is_due setup.settings from.progress k) (BringsPiece setup k result from to) (Stays result from to)
 BringsNext setup (Ended moment) result from to = Stays result from to
 
 -- ---- the links

@@ -96,7 +96,7 @@ fn bring_due<S: Source, L: Link>(
     ensures ahead { result ≡ Err SendFault.ReadFault → S.ahead source.new ≡ [] }
     ensures cause { HasReadCause (fault_by read_fault result) (S.faults source.old) (S.faults source.new) }
 {
-    if progress.is_due(settings.gap, k) {
+    if progress.is_due(settings, k) {
         bring_piece(k, sender, source, links, progress)
     } else {
         Ok(())

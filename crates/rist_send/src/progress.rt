@@ -1,4 +1,6 @@
 //! How far a run has come.
+use crate::settings::SendSettings;
+
 /// What a source is at.
 #[derive(Clone, Copy, Debug, PartialEq, Eq)]
 pub(crate) enum Stage {
@@ -48,26 +50,29 @@ impl Progress {
         self.moment = moment;
     }
 
-    /// Whether piece k is due: its time is k gaps after the start.
-    pub fn is_due(&self, gap: u64, k: u64) -> bool
-        requires gap { gap ≤ 1000000 }
+    /// Whether piece k is due: its time is the lead and k gaps after the start.
+    pub fn is_due(&self, settings: &SendSettings, k: u64) -> bool
+        requires gap { settings.now.gap ≤ 1000000 }
         requires place { k ≤ 2 ^ 40 }
-        ensures value { result ≡ is_due gap self.now k }
+        ensures value { result ≡ is_due settings.now self.now k }
     {
-        match self.start {
-            Some(start) => self.moment >= start && self.moment - start >= k * gap,
-            None => false,
+        let Some(start) = self.start else {
+            return false;
+        };
+        if self.moment < start || self.moment - start < settings.lead {
+            return false;
         }
+        self.moment - start - settings.lead >= k * settings.gap
     }
 
     /// Whether the source's next piece is due, if it has one.
-    pub fn is_next_due(&self, gap: u64) -> bool
-        requires gap { gap ≤ 1000000 }
+    pub fn is_next_due(&self, settings: &SendSettings) -> bool
+        requires gap { settings.now.gap ≤ 1000000 }
         requires at { IsPlace self.now.stage }
-        ensures value { result ≡ is_next_due gap self.now }
+        ensures value { result ≡ is_next_due settings.now self.now }
     {
         match self.stage {
-            Stage::Reading(k) => self.is_due(gap, k),
+            Stage::Reading(k) => self.is_due(settings, k),
             Stage::Ended(_) => false,
         }
     }

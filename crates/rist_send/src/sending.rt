@@ -103,11 +103,12 @@ fn turn<S: Source, L: Link, C: Clock>(
 }
 
 /// Sends a source, piece after piece, onto links. A turn takes one moment of the clock, and the first one's is the
-/// start; reads and sends the next piece, where its time has come: piece k's is k gaps after the start; reads each link
-/// once that is up and gave no end and no failure, and answers what came; and lets the sender tick. Where the next
-/// piece isn't due yet it rests on a link before the next turn. A turn stops where the sender refuses, and so does the
-/// run. The run is over after a turn whose moment is `linger` or more after that of the turn in which the source ended.
-/// Where all turns were made before, it is `Ok` if the source had ended.
+/// start; reads and sends the next piece, where its time has come: piece k's is the lead and k gaps after the start; reads
+/// each link once that is up and gave no end and no failure, and answers what came; and lets the sender tick. So a lead
+/// lets reports go out before the first piece. Where the next piece isn't due yet it rests on a link before the next turn.
+/// A turn stops where the sender refuses, and so does the run. The run is over after a turn whose moment is `linger` or
+/// more after that of the turn in which the source ended. Where all turns were made before, it is `Ok` if the source had
+/// ended.
 pub fn send<S: Source, L: Link, C: Clock>(
     settings: &SendSettings,
     sender: &mut Sender,
@@ -155,7 +156,7 @@ pub fn send<S: Source, L: Link, C: Clock>(
         if progress.is_over(settings.linger) {
             return Ok(());
         }
-        if !progress.is_next_due(settings.gap) {
+        if !progress.is_next_due(settings) {
             rest(sender, links, &progress);
         }
         count += 1;

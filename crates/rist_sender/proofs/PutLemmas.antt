@@ -2,6 +2,7 @@
 use Rattle.std.proofs.Common.{◌≡◌, ◌∙◌, ℕ, ◌%◌, ◌^◌, ◌<◌, Bool, true, false, List, ◌∷◌, ◌++◌, set, Option, Some, refl, sym, ap, subst, arith}
 use Rattle.outside_io.specs.declared.channel.Channel.{Channel}
 use Rattle.rtcp_compound.specs.Writing.{sr_octets, sdes_octets}
+use Rattle.rist_rtt.specs.Echo.{request_octets}
 use Rattle.psk_seal.specs.declared.sealer.Pair.{Pair}
 use Rattle.std.specs.Prelude.{not, ◌&&◌}
 use Rattle.sender_rules.specs.Sendings.{Packet}
@@ -10,7 +11,7 @@ use Rattle.rist_sender.specs.declared.answer.Answer.{Answer}
 use Rattle.rist_sender.specs.declared.answer.Answer.TheVariants.{Took}
 use Rattle.rist_wire.specs.declared.session.Session.{Session}
 use Rattle.rist_sender.specs.Links.{Line, Tried, WritesOn, is_failed}
-use Rattle.rist_sender.specs.Messages.{Message, Original, message_channel, message_datagram, report_octets, seconds_of, fraction_of, rtp_time_of}
+use Rattle.rist_sender.specs.Messages.{Message, Original, message_channel, message_datagram, report_octets, told_octets, seconds_of, fraction_of, rtp_time_of}
 use Rattle.rist_sender.specs.History.{Wrote, is_down, tried_as}
 use Rattle.rist_sender.specs.Calls.{Work, Due, Rules, with_event, without_pair, written_as, after_write, after_due, after_copy, is_settled, IfElse, Spreads}
 use Rattle.rist_sender.specs.Sender.{SenderState, IsSenderAfter, StaysSet, AreGiven, Does}
@@ -95,6 +96,12 @@ status_same flow micros packets count octets total e f =
     let low : octets % 2 ^ 32 ≡ total % 2 ^ 32 = omega (arith, f) in
     ap (λ (n : ℕ). sr_octets flow (seconds_of micros) (fraction_of micros) (rtp_time_of micros) (n % 2 ^ 32) (octets % 2 ^ 32) ++ sdes_octets flow) e
     ∙ ap (λ (n : ℕ). sr_octets flow (seconds_of micros) (fraction_of micros) (rtp_time_of micros) (count % 2 ^ 32) n ++ sdes_octets flow) low
+
+-- also where the report asks for the round-trip time
+pub told_same : (asks : Bool) (flow micros packets count octets total : ℕ) → packets ≡ count → octets ≡ total % 2 ^ 32
+    → told_octets asks flow (record { micros = micros; packets = packets; octets = octets }) ≡ told_octets asks flow (record { micros = micros; packets = count; octets = total })
+told_same false flow micros packets count octets total e f = status_same flow micros packets count octets total e f
+told_same true flow micros packets count octets total e f = ap (λ (xs : List ℕ). xs ++ request_octets flow micros) (status_same flow micros packets count octets total e f)
 
 -- whatever its link answered
 pub does_some : {L : Type 0} (line : Line L) (old new : SenderState) (was is : List L) (from : Work) (tick link : ℕ) (message : Message) (a : Answer) (short : Bool)

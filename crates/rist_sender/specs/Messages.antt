@@ -9,7 +9,7 @@ use Rattle.receiver_rules.specs.Steps.{tick_of}
 use Rattle.sender_rules.specs.Sendings.{Packet}
 use Rattle.rtcp_compound.specs.Compound.{Content, sender_report, description}
 use Rattle.rtcp_compound.specs.Writing.{name_item, sr_octets, sdes_octets}
-use Rattle.rist_rtt.specs.Echo.{EchoOf, echoes_in, response, response_octets}
+use Rattle.rist_rtt.specs.Echo.{EchoOf, echoes_in, request, response, request_octets, response_octets}
 use Rattle.keepalive_msg.specs.Keepalive.{spelling as keepalive_spelling}
 use Rattle.keepalive_msg.specs.Writing.{message_of as keepalive_of}
 use Rattle.psk_seal.specs.declared.sealer.Pair.{Pair}
@@ -62,6 +62,16 @@ report_octets flow status =
     sr_octets flow (seconds_of status.micros) (fraction_of status.micros) (rtp_time_of status.micros) (status.packets % 2 ^ 32) (status.octets % 2 ^ 32)
     ++ sdes_octets flow
 
+-- a report that asks for the round-trip time has an RTT request behind it: of the flow, its stamp the moment of the call
+abbrev pub told_packets : Bool → ℕ → Status → List Content
+told_packets false flow status = report_packets flow status
+told_packets true flow status = report_packets flow status ++ request flow status.micros ∷ []
+
+-- their octets
+abbrev pub told_octets : Bool → ℕ → Status → List ℕ
+told_octets false flow status = report_octets flow status
+told_octets true flow status = report_octets flow status ++ request_octets flow status.micros
+
 -- the first RTT request of a compound
 abbrev pub first_request : List Content → Option EchoOf
 first_request compound = find (λ echo. not echo.answer) (echoes_in compound)
@@ -90,13 +100,13 @@ kind_of (Report status) = kinds.Control
 kind_of (RttAnswer status echo) = kinds.Control
 kind_of Alive = kinds.Keepalive
 
--- its octets, without the headers of the tunnel
-abbrev pub message_octets : ℕ → Width → Message → List ℕ
-message_octets flow width (Original packet) = media_octets width (media_of flow false packet)
-message_octets flow width (Retransmission packet) = media_octets width (media_of flow true packet)
-message_octets flow width (Report status) = report_octets flow status
-message_octets flow width (RttAnswer status echo) = answer_octets flow status echo
-message_octets flow width Alive = keepalive_spelling (keepalive_of flow)
+-- its octets, without the headers of the tunnel, by how many bits numbers have and whether reports ask
+abbrev pub message_octets : ℕ → Width → Bool → Message → List ℕ
+message_octets flow width asks (Original packet) = media_octets width (media_of flow false packet)
+message_octets flow width asks (Retransmission packet) = media_octets width (media_of flow true packet)
+message_octets flow width asks (Report status) = told_octets asks flow status
+message_octets flow width asks (RttAnswer status echo) = answer_octets flow status echo
+message_octets flow width asks Alive = keepalive_spelling (keepalive_of flow)
 
 -- the channel of its datagram in a session
 abbrev pub message_channel : Session → Message → Channel
@@ -104,4 +114,5 @@ message_channel session message = channel_of session (kind_of message)
 
 -- its datagram in a session, under a pair where it is enciphered
 abbrev pub message_datagram : ℕ → Session → Option Pair → Message → List ℕ
-message_datagram flow session pair message = datagram_of session pair (kind_of message) (message_octets flow session.width message)
+message_datagram flow session pair message =
+    datagram_of session pair (kind_of message) (message_octets flow session.width session.echo message)

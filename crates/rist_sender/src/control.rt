@@ -3,11 +3,11 @@
 ghost use Rattle.std.specs.Prelude.{◌≡◌, ◌<◌, ◌%◌, ◌^◌, length, option_map};
 ghost use Rattle.std.specs.List.{find};
 ghost use Rattle.rist_rtt.specs.Echo.{echo_seen};
-ghost use Rattle.rist_sender.specs.Messages.{Status, report_packets, report_octets, answer_packets, answer_octets};
+ghost use Rattle.rist_sender.specs.Messages.{Status, report_packets, report_octets, told_packets, told_octets, answer_packets, answer_octets};
 ghost use Rattle.rist_sender.specs.Messages.{first_request, seconds_of, fraction_of, rtp_time_of};
 
 use receiver_rules::tick_of;
-use rist_rtt::{Echo, echoes, put_answer};
+use rist_rtt::{Echo, echoes, put_answer, put_request};
 use rtcp_compound::{Compound, CompoundOut};
 
 fn seconds_of(micros: u64) -> u32
@@ -55,7 +55,23 @@ pub(crate) fn report_of(flow: u32, micros: u64, packets: u64, octets: u32) -> Co
     out
 }
 
-/// The same, and behind it the answer to an RTT request, without delay.
+/// The same, and behind it, where it asks for the round-trip time, an RTT request of the flow, its stamp the moment.
+pub(crate) fn told_of(asks: bool, flow: u32, micros: u64, packets: u64, octets: u32) -> CompoundOut
+    ensures packets { result.packets ≡ told_packets asks flow
+        (record { micros = micros; packets = packets; octets = octets }) }
+    ensures octets { result.octets ≡ told_octets asks flow
+        (record { micros = micros; packets = packets; octets = octets }) }
+{
+    let mut out = report_of(flow, micros, packets, octets);
+    if asks {
+        if put_request(&mut out, flow, micros).is_err() {
+            unreachable!();
+        }
+    }
+    out
+}
+
+/// A report and a source description, and behind them the answer to an RTT request, without delay.
 pub(crate) fn answer_of(
     flow: u32,
     micros: u64,

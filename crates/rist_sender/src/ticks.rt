@@ -2,7 +2,7 @@
 ghost use Rattle.std.specs.Prelude.{◌≡◌, ◌≤◌, ◌<◌, ◌^◌};
 ghost use Rattle.sender_rules.specs.Retransmissions.{has_passed};
 
-use crate::control::report_of;
+use crate::control::told_of;
 use crate::send_bad::SendBad;
 use crate::sender::Sender;
 use outside_net::Link;
@@ -41,7 +41,7 @@ impl Sender {
         self.keepalives[usize::from(link)] = Some(self.time);
     }
 
-    // Writes the report of a link that is up.
+    // Writes the report of a link that is up, which asks for the round-trip time where the session's reports do.
     fn put_report<L: Link>(&mut self, us: u64, link: u8, links: &mut [L]) -> Result<(), Spent>
         requires among { link < length links.old }
         requires few { length links.old ≤ 16 }
@@ -52,7 +52,8 @@ impl Sender {
             self.old self.new links.old links.new from (PutsOn self.old.time link
             (Report (status_at us from.history)) (is_err result) from) }
     {
-        let compound = report_of(self.flow, us, self.count, self.octets);
+        let asks = self.shutter.echo();
+        let compound = told_of(asks, self.flow, us, self.count, self.octets);
         let mut out = [0; 2048];
         let (channel, length) = match self.seal_control(compound.octets(), &mut out) {
             Ok(made) => made,

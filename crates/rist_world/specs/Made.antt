@@ -7,6 +7,7 @@ use Rattle.psk_seal.specs.Nonces.{AreNonces, GiveNonces}
 use Rattle.psk_seal.specs.Sealer.{SealerState}
 use Rattle.request_rules.specs.declared.policy.NackKind.TheVariants.{Range}
 use Rattle.sender_rules.specs.Bonding.{Duplicate}
+use Rattle.gre_tunnel.specs.declared.tunnel.Tunnel.TheVariants.{Own}
 use Rattle.rist_wire.specs.declared.session.Session.{Session}
 use Rattle.rist_ends.specs.declared.settings.Settings.{Settings as ReceiverSettings}
 use Rattle.rist_sender.specs.declared.settings.Settings.{Settings as SenderSettings}
@@ -21,7 +22,7 @@ use Rattle.rist_world.specs.Script.{IsMadeScript}
 
 -- its session: in the Main Profile, under a passphrase, with null packets deleted and numbers of 32 bits
 abbrev pub made_session : Session
-made_session = record { profile = Main; port = 1968; pass = Some (codes "drill"); bits = 128; nulls = true; width = W32; full = false }
+made_session = record { profile = Main; port = 1968; pass = Some (codes "drill"); bits = 128; nulls = true; width = W32; full = false; tunnel = Own; echo = false }
 
 -- its sender, which duplicates over so many links
 abbrev pub made_sender : ℕ → SenderSettings

@@ -14,7 +14,7 @@ use psk_seal::Sealer;
 use request_rules::NackKind;
 use rist_ends::Settings as ReceiverSettings;
 use rist_sender::Settings as SenderSettings;
-use rist_wire::Session;
+use rist_wire::{Session, Tunnel};
 use seq_unwrap::Width;
 use std::alloc::Global;
 
@@ -30,6 +30,8 @@ fn made_session() -> Session
         nulls: true,
         width: Width::W32,
         full: false,
+        tunnel: Tunnel::Own,
+        echo: false,
     }
 }
 

@@ -7,7 +7,7 @@ use outside_net::Octets;
 use request_rules::NackKind;
 use rist_ends::Settings as ReceiverSettings;
 use rist_sender::Settings as SenderSettings;
-use rist_wire::Session;
+use rist_wire::{Session, Tunnel};
 use rist_world::{Listed, Move, Report, SUMMARY_LEN, drill, drill_made, put_summary};
 use seq_unwrap::Width;
 use sha2::{Digest, Sha256};
@@ -24,6 +24,8 @@ fn played(alloc: Global, moves: &[Move]) -> Result<Report, Fail> {
         nulls: false,
         width: Width::W16,
         full: false,
+        tunnel: Tunnel::Own,
+        echo: false,
     };
     let near = SenderSettings {
         flow: 2,

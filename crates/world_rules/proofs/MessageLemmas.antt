@@ -104,7 +104,7 @@ next_is_some (Some s) = refl
 
 media_brings : (session : Session) (flows : List SentFlow) (pair : Option Pair) (flow : ℕ) (again : Bool) (packet : Packet) (us : ℕ) → IsSession session → session.full ≡ false → IsPair pair
     → is_some pair ≡ is_some session.pass → IsPacketSent session.width flows flow packet
-    → BringsCopy session.width flows (event_read us (item_of session (channel_of session MediaKind) (datagram_of session pair MediaKind (message_octets flow session.width (if again then Retransmission packet else Original packet)))))
+    → BringsCopy session.width flows (event_read us (item_of session (channel_of session MediaKind) (datagram_of session pair MediaKind (message_octets flow session.width session.echo (if again then Retransmission packet else Original packet)))))
 media_brings session flows pair flow true packet us legal reduced fits paired p =
     let taken = media-taken session pair (media_of flow true packet) legal (λ main. fits) paired (p.out true) (λ full. absurd (cc (reduced, full))) in
     subst (λ item. BringsCopy session.width flows (event_read us item)) (sym taken)
@@ -135,7 +135,7 @@ keepalive_on : (session : Session) (profile : Profile) (flows : List SentFlow) (
     → is_some pair ≡ is_some session.pass → BringsCopy session.width flows (event_read us (item_of session (channel_of session KeepaliveKind) (datagram_of session pair KeepaliveKind octets)))
 unfolding item_of message_of
 keepalive_on session Simple flows pair octets us is legal reduced fits paired =
-    subst (λ profile. BringsCopy session.width flows (event_read us (item_in (message_on profile (channel_on profile KeepaliveKind) session (datagram_of session pair KeepaliveKind octets))))) (sym is) tt
+    subst (λ profile. BringsCopy session.width flows (event_read us (item_in session.tunnel (message_on profile (channel_on profile KeepaliveKind) session (datagram_of session pair KeepaliveKind octets))))) (sym is) tt
 keepalive_on session Main flows pair octets us is legal reduced fits paired =
     subst (λ item. BringsCopy session.width flows (event_read us item))
     (sym (item-back session pair KeepaliveKind octets legal (λ main. fits) (λ main. paired) (λ e. is) (λ full. absurd (cc (reduced, full)))))
