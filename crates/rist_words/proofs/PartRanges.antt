@@ -9,11 +9,13 @@ use Rattle.std.specs.Str.Parse.{digits_value}
 use Rattle.std.proofs.lemmas.Bool.Decides.{nat_tests}
 use Rattle.clap.specs.Words.{Row, Text, first_of}
 use Rattle.outside_net.specs.declared.link_spec.LinkSpec.{LinkSpec}
+use Rattle.gre_tunnel.specs.declared.tunnel.Tunnel.{Tunnel}
+use Rattle.gre_tunnel.specs.declared.tunnel.Tunnel.TheVariants.{Own}
 use Rattle.outside_io.specs.declared.profile.Profile.{Profile}
 use Rattle.outside_io.specs.declared.profile.Profile.TheVariants.{Simple, Main}
 use Rattle.rist_words.specs.declared.values.Numbers.{Numbers}
-use Rattle.rist_words.specs.Values.{is_numeral, is_among, nack_of, number_at, number_in, number_of, ◌>>=◌, profile_of, phrase_of, is_set, flag_of}
-use Rattle.rist_words.specs.CommandLine.{Session, Stream, Receiver, Serving, ports, key_bits, delays, spans, restarts, flows, firsts, gaps, stores, holds, lingers, turn_counts}
+use Rattle.rist_words.specs.Values.{is_numeral, is_among, nack_of, number_at, number_in, number_of, ◌>>=◌, profile_of, phrase_of, is_set, flag_of, tunnel_of}
+use Rattle.rist_words.specs.CommandLine.{Session, Stream, Receiver, Serving, ports, key_bits, delays, spans, restarts, flows, firsts, gaps, leads, stores, holds, lingers, turn_counts}
 use Rattle.rist_words.specs.CommandLine.{reorders, retry_times, retry_counts, own_ssrcs, idle_times, kept_counts, session_of, pcap_with, stream_of, receiver_of, serving_of}
 use Rattle.rist_words.specs.Links.{colon, each_link, gate_links_of, input_counts, inputs_of, link_of, link_ports, link_weights, links_of, shares_of, split_at, weights_in}
 use Rattle.rist_words.specs.Ranges.{IsInSession, IsUdpPort, IsInStream, IsInReceiver, IsInServing, IsWeight}
@@ -95,6 +97,11 @@ flag_simple Simple o set e is = by_flag (is_set o) e
     by_flag true p = cc
     by_flag false p = cc
 
+pub tunnel_simple : (profile : Profile) (o : Option Text) (tunnel : Tunnel) → tunnel_of profile o ≡ Some tunnel → profile ≡ Simple → tunnel ≡ Own
+tunnel_simple profile None tunnel e is = sym (same_some Own tunnel e)
+tunnel_simple Simple (Some text) tunnel e is = cc
+tunnel_simple Main (Some text) tunnel e is = cc
+
 pub session_range : (rows : List Row) (s : Session) → session_of rows ≡ Some s → IsInSession s
 session_range rows s e =
     let profile = reads (profile_of (first_of (codes "profile") rows)) _ s e in
@@ -102,9 +109,10 @@ session_range rows s e =
     let pass = reads (phrase_of profile.value (first_of (codes "pass") rows)) _ s port.rest in
     let bits = reads (number_of key_bits (first_of (codes "bits") rows)) _ s pass.rest in
     let full = reads (flag_of profile.value (first_of (codes "full") rows)) _ s bits.rest in
+    let tunnel = reads (tunnel_of profile.value (first_of (codes "tunnel") rows)) _ s full.rest in
     let p = number_range ports (first_of (codes "port") rows) port.value (record { least = omega arith; most = omega arith; multiple = refl }) port.is in
     let b = number_range key_bits (first_of (codes "bits") rows) bits.value (record { least = omega arith; most = omega arith; multiple = refl }) bits.is in
-    subst IsInSession (same_some _ _ full.rest) (record {
+    subst IsInSession (same_some _ _ tunnel.rest) (record {
       even = p.multiple;
       low = p.least;
       high = p.most;
@@ -112,6 +120,7 @@ session_range rows s e =
       pass = phrase_length profile.value (first_of (codes "pass") rows) pass.value pass.is;
       simple = phrase_simple profile.value (first_of (codes "pass") rows) pass.value pass.is;
       full = flag_simple profile.value (first_of (codes "full") rows) full.value full.is;
+      tunnel = tunnel_simple profile.value (first_of (codes "tunnel") rows) tunnel.value tunnel.is;
     })
 
 pub port_among : (profile : Profile) (n : ℕ) → IsAmong (link_ports profile) n → IsUdpPort profile n
@@ -146,6 +155,9 @@ default_first false = record { least = omega arith; most = omega arith; multiple
 -- each default is among the option's numbers
 pub default_gap : IsAmong gaps gaps.default
 default_gap = record { least = omega arith; most = omega arith; multiple = refl }
+
+pub default_lead : IsAmong leads leads.default
+default_lead = record { least = omega arith; most = omega arith; multiple = refl }
 
 pub default_store : IsAmong stores stores.default
 default_store = record { least = omega arith; most = omega arith; multiple = refl }

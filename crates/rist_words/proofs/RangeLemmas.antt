@@ -6,13 +6,13 @@ use Rattle.clap.specs.Words.{Kinds, Row, Text, all_of, first_of}
 use Rattle.rist_words.specs.Commands.{faults_of, command_in}
 use Rattle.rist_words.specs.Values.{is_set, number_at, number_of, name_of}
 use Rattle.rist_words.specs.CommandLine.{CommandLine, Replay, Show, Count, Pack, Send, Recv, Gate, Drill, ReplayCommand, ShowCommand, CountCommand, PackCommand, SendCommand, RecvCommand, GateCommand, DrillCommand}
-use Rattle.rist_words.specs.CommandLine.{delays, spans, restarts, gaps, stores, holds, lingers, turn_counts, session_of, pcap_of, stream_of, receiver_of, serving_of}
+use Rattle.rist_words.specs.CommandLine.{delays, spans, restarts, gaps, leads, stores, holds, lingers, turn_counts, session_of, pcap_of, stream_of, receiver_of, serving_of}
 use Rattle.rist_words.specs.CommandLine.{drill_numbers, drill_counts, drill_links, drill_losses}
 use Rattle.rist_words.specs.CommandLine.{replay_of, show_of, count_of, pack_of, send_of, recv_of, gate_of, drill_of, command_line, taken_line, line_of}
 use Rattle.rist_words.specs.Links.{gate_links_of, links_of, shares_of}
 use Rattle.rist_words.specs.Ranges.{IsInReplay, IsInShow, IsInCount, IsInPack, IsInSend, IsInRecv, IsInGate, IsInDrill, IsInRange}
 use Rattle.rist_words.proofs.PartRanges.{reads, same_some, number_range, position_range, session_range, udp_range, stream_range, links_range, share_range, receiver_range, serving_range, gate_links_range}
-use Rattle.rist_words.proofs.PartRanges.{default_gap, default_store, default_hold, default_linger, default_turns}
+use Rattle.rist_words.proofs.PartRanges.{default_gap, default_lead, default_store, default_hold, default_linger, default_turns}
 
 replay_range : (rows : List Row) (c : ReplayCommand) → replay_of rows ≡ Some c → IsInReplay c
 replay_range rows c e =
@@ -89,13 +89,15 @@ send_range rows c e =
     let links = reads (links_of session.value.profile (all_of (codes "link") rows)) _ c session.rest in
     let stream = reads (stream_of session.value.profile rows) _ c links.rest in
     let gap = reads (number_of gaps (first_of (codes "gap") rows)) _ c stream.rest in
-    let store = reads (number_of stores (first_of (codes "store") rows)) _ c gap.rest in
+    let lead = reads (number_of leads (first_of (codes "lead") rows)) _ c gap.rest in
+    let store = reads (number_of stores (first_of (codes "store") rows)) _ c lead.rest in
     let hold = reads (number_of holds (first_of (codes "hold") rows)) _ c store.rest in
     let share = reads (shares_of (length links.value) (first_of (codes "share") rows)) _ c hold.rest in
     let linger = reads (number_of lingers (first_of (codes "linger") rows)) _ c share.rest in
     let turns = reads (number_of turn_counts (first_of (codes "turns") rows)) _ c linger.rest in
     let l = links_range session.value.profile (all_of (codes "link") rows) links.value links.is in
     let g = number_range gaps (first_of (codes "gap") rows) gap.value default_gap gap.is in
+    let d = number_range leads (first_of (codes "lead") rows) lead.value default_lead lead.is in
     let s = number_range stores (first_of (codes "store") rows) store.value default_store store.is in
     let h = number_range holds (first_of (codes "hold") rows) hold.value default_hold hold.is in
     let r = number_range lingers (first_of (codes "linger") rows) linger.value default_linger linger.is in
@@ -107,6 +109,7 @@ send_range rows c e =
       links = l.1;
       some_gap = g.least;
       gap = g.most;
+      lead = d.most;
       some_store = s.least;
       store = s.most;
       some_hold = h.least;

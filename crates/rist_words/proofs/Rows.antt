@@ -1,6 +1,7 @@
 -- Worked command lines.
 use Rattle.std.proofs.Common.{◌≡◌, [], ◌∷◌, Some, None, codes, false, refl, true}
 use Rattle.clap.proofs.OnLiterals.{clap_on_literals}
+use Rattle.gre_tunnel.specs.declared.tunnel.Tunnel.TheVariants.{Librist, Own}
 use Rattle.outside_io.specs.declared.profile.Profile.TheVariants.{Main, Simple}
 use Rattle.rist_words.specs.Commands.{command_in, faults_of}
 use Rattle.request_rules.specs.declared.policy.NackKind.TheVariants.{Mask, Range}
@@ -8,7 +9,7 @@ use Rattle.rist_words.specs.CommandLine.{Count, Drill, Gate, Pack, Receiver, Rec
 
 -- a session without options
 abbrev plain : Session
-plain = record { profile = Simple; port = 1968; pass = None; bits = 128; full = false }
+plain = record { profile = Simple; port = 1968; pass = None; bits = 128; full = false; tunnel = Own; echo = false }
 
 defaults : line_of (codes "rist" ∷ codes "replay" ∷ codes "a" ∷ codes "-" ∷ [])
     ≡ Some (Replay (record { capture = codes "a"; out = codes "-"; session = plain; delay = 1000; span = 2048; restart = 0; drift = false; pcap = None }))
@@ -49,13 +50,22 @@ unfolding clap_on_literals faults_of command_in
 help = refl
 
 sealed : line_of (codes "rist" ∷ codes "show" ∷ codes "a" ∷ codes "--pass=-x" ∷ codes "--profile" ∷ codes "main" ∷ codes "--bits" ∷ codes "256" ∷ codes "--port=2" ∷ [])
-    ≡ Some (Show (record { capture = codes "a"; session = record { profile = Main; port = 2; pass = Some (codes "-x"); bits = 256; full = false }; pcap = None }))
+    ≡ Some (Show (record { capture = codes "a"; session = record { profile = Main; port = 2; pass = Some (codes "-x"); bits = 256; full = false; tunnel = Own; echo = false }; pcap = None }))
 unfolding clap_on_literals faults_of command_in
 sealed = refl
 
 sealed_in_simple : line_of (codes "rist" ∷ codes "show" ∷ codes "a" ∷ codes "--pass=x" ∷ []) ≡ None
 unfolding clap_on_literals faults_of command_in
 sealed_in_simple = refl
+
+librist_in_main : line_of (codes "rist" ∷ codes "show" ∷ codes "a" ∷ codes "--tunnel" ∷ codes "librist" ∷ codes "--profile=main" ∷ [])
+    ≡ Some (Show (record { capture = codes "a"; session = record plain { profile = Main; tunnel = Librist; echo = true }; pcap = None }))
+unfolding clap_on_literals faults_of command_in
+librist_in_main = refl
+
+librist_in_simple : line_of (codes "rist" ∷ codes "show" ∷ codes "a" ∷ codes "--tunnel=librist" ∷ []) ≡ None
+unfolding clap_on_literals faults_of command_in
+librist_in_simple = refl
 
 of_the_network : line_of (codes "rist" ∷ codes "replay" ∷ codes "--pcap" ∷ codes "--udp" ∷ codes "1968" ∷ codes "-" ∷ codes "-" ∷ [])
     ≡ Some (Replay (record { capture = codes "-"; out = codes "-"; session = plain; delay = 1000; span = 2048; restart = 0; drift = false; pcap = Some 1968 }))
@@ -119,6 +129,7 @@ shared : line_of (codes "rist" ∷ codes "send" ∷ codes "-" ∷ codes "127.0.0
       session = plain;
       stream = plain_stream;
       gap = 1000;
+      lead = 0;
       store = 4096;
       hold = 20;
       share = Some (3 ∷ 1 ∷ []);
@@ -127,6 +138,23 @@ shared : line_of (codes "rist" ∷ codes "send" ∷ codes "-" ∷ codes "127.0.0
     }))
 unfolding clap_on_literals faults_of command_in
 shared = refl
+
+led : line_of (codes "rist" ∷ codes "send" ∷ codes "--echo" ∷ codes "a" ∷ codes "127.0.0.1:5000" ∷ codes "--lead=200" ∷ [])
+    ≡ Some (Send (record {
+      source = codes "a";
+      links = record { address = 127 ∷ 0 ∷ 0 ∷ 1 ∷ []; port = 5000 } ∷ [];
+      session = record plain { echo = true };
+      stream = plain_stream;
+      gap = 1000;
+      lead = 200;
+      store = 4096;
+      hold = 20;
+      share = None;
+      linger = 1000;
+      turns = 1099511627776;
+    }))
+unfolding clap_on_literals faults_of command_in
+led = refl
 
 odd_port : line_of (codes "rist" ∷ codes "send" ∷ codes "a" ∷ codes "127.0.0.1:5001" ∷ []) ≡ None
 unfolding clap_on_literals faults_of command_in

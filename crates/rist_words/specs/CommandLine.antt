@@ -3,23 +3,27 @@
 use Rattle.std.specs.Prelude.{Bool, true, false, ℕ, List, [], ◌∷◌, length, Option, Some, None, option_and_then, option_map, if◌then◌else◌, codes}
 use Rattle.std.specs.Str.{bytes_eq}
 use Rattle.clap.specs.Words.{Kinds, Row, Text, all_of, first_of}
+use Rattle.gre_tunnel.specs.declared.tunnel.Tunnel.{Tunnel}
 use Rattle.outside_io.specs.declared.profile.Profile.{Profile}
 use Rattle.outside_io.specs.declared.profile.Profile.TheVariants.{Simple, Main}
 use Rattle.rist_words.specs.declared.values.Numbers.{Numbers}
 use Rattle.rist_words.specs.Commands.{faults_of, command_in}
 use Rattle.outside_net.specs.declared.link_spec.LinkSpec.{LinkSpec}
 use Rattle.request_rules.specs.declared.policy.NackKind.{NackKind}
-use Rattle.rist_words.specs.Values.{flag_of, is_set, nack_of, name_of, number_at, number_in, number_of, phrase_of, profile_of, ◌>>=◌}
+use Rattle.rist_words.specs.Values.{echo_of, flag_of, is_set, nack_of, name_of, number_at, number_in, number_of, phrase_of, profile_of, tunnel_of, ◌>>=◌}
 use Rattle.rist_words.specs.Links.{gate_links_of, link_ports, links_of, shares_of}
 
 -- how the datagrams of a session are made: the UDP port of media, the passphrase if there is one, the bits of its key,
--- and whether RTP and RTCP are written as full datagrams
+-- whether RTP and RTCP are written as full datagrams, whose form the tunnel's datagrams have, and whether a sender's
+-- reports ask for the round-trip time
 pub record Session : Type 0 where
   pub profile : Profile
   pub port : ℕ
   pub pass : Option Text
   pub bits : ℕ
   pub full : Bool
+  pub tunnel : Tunnel
+  pub echo : Bool
 
 -- a replay of a capture, with the playout delay in milliseconds, the buffer's capacity in packets, the restart time in
 -- milliseconds, 0 for never, whether deadlines follow a clock that drifts, and the UDP port of the datagrams where the
@@ -66,15 +70,16 @@ pub record PackCommand : Type 0 where
   pub stream : Stream
   pub gap : ℕ
 
--- a stream sent on links: the time between two datagrams in microseconds; how many packets are stored, and for how many
--- milliseconds none is sent again; the links' weights, where they share the stream; for how many milliseconds requests
--- are answered after the source's end; how many turns are made at most
+-- a stream sent on links: the time between two datagrams in microseconds; the time before the first one, how many packets
+-- are stored, and for how many milliseconds none is sent again; the links' weights, where they share the stream; for how
+-- many milliseconds requests are answered after the source's end; how many turns are made at most
 pub record SendCommand : Type 0 where
   pub source : Text
   pub links : List LinkSpec
   pub session : Session
   pub stream : Stream
   pub gap : ℕ
+  pub lead : ℕ
   pub store : ℕ
   pub hold : ℕ
   pub share : Option (List ℕ)
@@ -175,6 +180,10 @@ firsts wide = record { default = 0; least = 0; most = if wide then 4294967295 el
 abbrev pub gaps : Numbers
 gaps = record { default = 1000; least = 1; most = 1000000; multiple_of = 1 }
 
+-- `--lead`, in milliseconds
+abbrev pub leads : Numbers
+leads = record { default = 0; least = 0; most = 1000; multiple_of = 1 }
+
 -- `--store`, in packets
 abbrev pub stores : Numbers
 stores = record { default = 4096; least = 1; most = 65536; multiple_of = 1 }
@@ -231,7 +240,8 @@ drill_links = record { default = 1; least = 1; most = 4; multiple_of = 1 }
 abbrev pub drill_losses : Numbers
 drill_losses = record { default = 0; least = 0; most = 1000; multiple_of = 1 }
 
--- The session that a command's values give. Commands that make no datagrams have no flag for full ones.
+-- The session that a command's values give. Commands that make no datagrams have no flag for full ones, and those that
+-- send no stream none that asks for the round-trip time.
 abbrev pub session_of : List Row → Option Session
 session_of rows = do
   profile ← profile_of (first_of (codes "profile") rows)
@@ -239,7 +249,16 @@ session_of rows = do
   pass ← phrase_of profile (first_of (codes "pass") rows)
   bits ← number_of key_bits (first_of (codes "bits") rows)
   full ← flag_of profile (first_of (codes "full") rows)
-  Some (record { profile = profile; port = port; pass = pass; bits = bits; full = full })
+  tunnel ← tunnel_of profile (first_of (codes "tunnel") rows)
+  Some (record {
+    profile = profile;
+    port = port;
+    pass = pass;
+    bits = bits;
+    full = full;
+    tunnel = tunnel;
+    echo = echo_of tunnel (is_set (first_of (codes "echo") rows));
+  })
 
 -- the UDP port of a pcap file's datagrams: `--pcap` and `--udp` are given both or neither
 abbrev pub pcap_with : Profile → Bool → Option Text → Option (Option ℕ)
@@ -311,12 +330,13 @@ send_of rows = do
   links ← links_of session.profile (all_of (codes "link") rows)
   stream ← stream_of session.profile rows
   gap ← number_of gaps (first_of (codes "gap") rows)
+  lead ← number_of leads (first_of (codes "lead") rows)
   store ← number_of stores (first_of (codes "store") rows)
   hold ← number_of holds (first_of (codes "hold") rows)
   share ← shares_of (length links) (first_of (codes "share") rows)
   linger ← number_of lingers (first_of (codes "linger") rows)
   turns ← number_of turn_counts (first_of (codes "turns") rows)
-  Some (record { source = source; links = links; session = session; stream = stream; gap = gap; store = store; hold = hold; share = share; linger = linger; turns = turns })
+  Some (record { source = source; links = links; session = session; stream = stream; gap = gap; lead = lead; store = store; hold = hold; share = share; linger = linger; turns = turns })
 
 -- what a command's values set a receiver to
 abbrev pub receiver_of : List Row → Option Receiver

@@ -19,7 +19,7 @@ with_rules kind app names = fold (λ a name. with_rule a (rule_for kind name)) a
 
 -- a command that speaks of a session
 abbrev pub session_app : Text → App
-session_app name = with_rules Valued (new_app name) (codes "profile" ∷ codes "port" ∷ codes "pass" ∷ codes "bits" ∷ [])
+session_app name = with_rules Valued (new_app name) (codes "profile" ∷ codes "port" ∷ codes "pass" ∷ codes "bits" ∷ codes "tunnel" ∷ [])
 
 -- the command with these options, flags and positions
 abbrev pub with_arguments : App → List Text → List Text → List Text → App
@@ -46,8 +46,8 @@ pack_app = with_arguments (session_app (codes "pack")) (codes "flow" ∷ codes "
 -- a sending: its options, its flags and its positions, of which the last takes one link or more
 abbrev pub send_app : App
 send_app = with_rules Positions (with_arguments (session_app (codes "send"))
-    (codes "flow" ∷ codes "first" ∷ codes "gap" ∷ codes "store" ∷ codes "hold" ∷ codes "share" ∷ codes "linger" ∷ codes "turns" ∷ [])
-    (codes "nulls" ∷ codes "wide" ∷ codes "full" ∷ []) (codes "source" ∷ [])) (codes "link" ∷ [])
+    (codes "flow" ∷ codes "first" ∷ codes "gap" ∷ codes "lead" ∷ codes "store" ∷ codes "hold" ∷ codes "share" ∷ codes "linger" ∷ codes "turns" ∷ [])
+    (codes "nulls" ∷ codes "wide" ∷ codes "full" ∷ codes "echo" ∷ []) (codes "source" ∷ [])) (codes "link" ∷ [])
 
 -- the options of a receiver and of its run
 abbrev pub receiver_options : List Text
@@ -63,7 +63,7 @@ recv_app = with_rules Positions (with_arguments (session_app (codes "recv")) rec
 abbrev pub gate_app : App
 gate_app = with_rules Positions (with_arguments (with_rules Valued (session_app (codes "gate")) receiver_options)
     (codes "flow" ∷ codes "first" ∷ codes "store" ∷ codes "hold" ∷ codes "share" ∷ codes "in" ∷ [])
-    (codes "nulls" ∷ codes "wide" ∷ codes "full" ∷ codes "drift" ∷ []) []) (codes "link" ∷ [])
+    (codes "nulls" ∷ codes "wide" ∷ codes "full" ∷ codes "drift" ∷ codes "echo" ∷ []) []) (codes "link" ∷ [])
 
 -- a simulated run: four positions, and neither options nor flags
 abbrev pub drill_app : App

@@ -1,13 +1,14 @@
 -- The ranges and combinations of a line's values (this profile).
 use Rattle.std.specs.Prelude.{◌≡◌, ◌⊎◌, ℕ, ◌+◌, ◌%◌, ◌^◌, ◌<◌, ◌≤◌, false, None, IfSome, length}
 use Rattle.std.specs.List.{All}
+use Rattle.gre_tunnel.specs.declared.tunnel.Tunnel.TheVariants.{Own}
 use Rattle.outside_io.specs.declared.profile.Profile.{Profile}
 use Rattle.outside_io.specs.declared.profile.Profile.TheVariants.{Simple}
 use Rattle.rist_words.specs.CommandLine.{CommandLine, Replay, Show, Count, Pack, Send, Recv, Gate, Drill, Session, Stream, Receiver, Serving, ReplayCommand, ShowCommand, CountCommand, PackCommand, SendCommand, RecvCommand, GateCommand, DrillCommand}
-use Rattle.rist_words.specs.CommandLine.{ports, delays, spans, restarts, gaps, stores, holds, lingers, turn_counts, reorders, retry_times, retry_counts, idle_times, kept_counts, drill_counts, drill_links, drill_losses}
+use Rattle.rist_words.specs.CommandLine.{ports, delays, spans, restarts, gaps, leads, stores, holds, lingers, turn_counts, reorders, retry_times, retry_counts, idle_times, kept_counts, drill_counts, drill_links, drill_losses}
 use Rattle.rist_words.specs.Links.{link_weights}
 
--- an even port, a key's length, and a passphrase and full datagrams in the Main Profile alone
+-- an even port, a key's length, and a passphrase, full datagrams and another tunnel in the Main Profile alone
 pub record IsInSession (s : Session) : Type 0 where
   pub even : s.port % 2 ≡ 0
   pub low : ports.least ≤ s.port
@@ -16,6 +17,7 @@ pub record IsInSession (s : Session) : Type 0 where
   pub pass : IfSome s.pass (λ p. (1 ≤ length p) × (length p ≤ 128))
   pub simple : s.profile ≡ Simple → s.pass ≡ None
   pub full : s.profile ≡ Simple → s.full ≡ false
+  pub tunnel : s.profile ≡ Simple → s.tunnel ≡ Own
 
 -- a UDP port of datagrams; in the Simple Profile, where RTCP has the next one, an even one (VSF TR-06-1)
 pub record IsUdpPort (profile : Profile) (port : ℕ) : Type 0 where
@@ -77,6 +79,7 @@ pub record IsInSend (c : SendCommand) : Type 0 where
   pub links : length c.links ≤ 16
   pub some_gap : gaps.least ≤ c.gap
   pub gap : c.gap ≤ gaps.most
+  pub lead : c.lead ≤ leads.most
   pub some_store : stores.least ≤ c.store
   pub store : c.store ≤ stores.most
   pub some_hold : holds.least ≤ c.hold

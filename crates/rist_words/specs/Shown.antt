@@ -18,7 +18,7 @@ use Rattle.rist_words.specs.CommandLine.{CommandLine, Replay, Show, Count, Pack,
 
 -- the session of a line
 abbrev pub shown_session : SessionWords → Session
-shown_session s = record { profile = s.profile; port = s.port; pass = option_map (λ p. p.now) s.pass; bits = s.bits; full = s.full }
+shown_session s = record { profile = s.profile; port = s.port; pass = option_map (λ p. p.now) s.pass; bits = s.bits; full = s.full; tunnel = s.tunnel; echo = s.echo }
 
 -- the replay that a line says
 abbrev pub shown_replay : ReplayLine → ReplayCommand
@@ -48,6 +48,7 @@ shown_send l = record {
   session = shown_session l.session;
   stream = shown_stream l.stream;
   gap = l.gap;
+  lead = l.lead;
   store = l.store;
   hold = l.hold;
   share = option_map (λ weights. weights.items) l.share;

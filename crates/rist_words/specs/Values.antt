@@ -1,5 +1,5 @@
 -- How the values of a command line read (this profile).
-use Rattle.std.specs.Prelude.{ℕ, ◌%◌, ◌==◌, ◌&&◌, Bool, false, not, nat_lt, length, Option, Some, None, if◌then◌else◌, codes}
+use Rattle.std.specs.Prelude.{ℕ, ◌%◌, ◌==◌, ◌&&◌, Bool, true, false, not, nat_lt, length, Option, Some, None, if◌then◌else◌, codes}
 use Rattle.std.specs.Char.{is_ascii_digit}
 use Rattle.std.specs.List.{list_all}
 use Rattle.std.specs.Str.{bytes_eq}
@@ -8,6 +8,8 @@ use Rattle.clap.specs.Words.{Text}
 use Rattle.rist_words.specs.declared.values.Numbers.{Numbers}
 use Rattle.outside_io.specs.declared.profile.Profile.{Profile}
 use Rattle.outside_io.specs.declared.profile.Profile.TheVariants.{Simple, Main}
+use Rattle.gre_tunnel.specs.declared.tunnel.Tunnel.{Tunnel}
+use Rattle.gre_tunnel.specs.declared.tunnel.Tunnel.TheVariants.{Own, Librist}
 use Rattle.request_rules.specs.declared.policy.NackKind.{NackKind}
 use Rattle.request_rules.specs.declared.policy.NackKind.TheVariants.{Range, Mask}
 
@@ -54,6 +56,17 @@ profile_of (Some text) = if bytes_eq text (codes "simple") then Some Simple else
 abbrev pub nack_of : Option Text → Option NackKind
 nack_of None = Some Range
 nack_of (Some text) = if bytes_eq text (codes "range") then Some Range else (if bytes_eq text (codes "mask") then Some Mask else None)
+
+-- the tunnel of the Main Profile is one of two words
+abbrev pub tunnel_of : Profile → Option Text → Option Tunnel
+tunnel_of profile None = Some Own
+tunnel_of Simple (Some text) = None
+tunnel_of Main (Some text) = if bytes_eq text (codes "own") then Some Own else (if bytes_eq text (codes "librist") then Some Librist else None)
+
+-- a sender asks for the round-trip time where the flag is given, and always in librist's tunnel
+abbrev pub echo_of : Tunnel → Bool → Bool
+echo_of Own set = set
+echo_of Librist set = true
 
 -- a passphrase of 1 to 128 octets, in the Main Profile; or none
 abbrev pub phrase_of : Profile → Option Text → Option (Option Text)

@@ -9,7 +9,7 @@ use clap::{Arg, ArgAction, Command};
 use std::alloc::{AllocError, Global};
 
 /// The options of each command that speaks of a session.
-static SESSION: [&str; 4] = ["profile", "port", "pass", "bits"];
+static SESSION: [&str; 5] = ["profile", "port", "pass", "bits", "tunnel"];
 
 static REPLAY: [&str; 2] = ["capture", "out"];
 
@@ -36,12 +36,15 @@ static SEND: [&str; 1] = ["source"];
 /// The last position of each command over links.
 static LINKS: [&str; 1] = ["link"];
 
-static SEND_OPTIONS: [&str; 8] = [
-    "flow", "first", "gap", "store", "hold", "share", "linger", "turns",
+static SEND_OPTIONS: [&str; 9] = [
+    "flow", "first", "gap", "lead", "store", "hold", "share", "linger", "turns",
 ];
 
-/// The flags of each command that makes the datagrams of a stream.
-static STREAM_FLAGS: [&str; 3] = ["nulls", "wide", "full"];
+/// The flags of a sending.
+static SEND_FLAGS: [&str; 4] = ["nulls", "wide", "full", "echo"];
+
+/// The flags of a packing.
+static PACK_FLAGS: [&str; 3] = ["nulls", "wide", "full"];
 
 static RECV: [&str; 1] = ["out"];
 
@@ -54,7 +57,7 @@ static RECEIVER_OPTIONS: [&str; 11] = [
 ];
 
 /// The flags of a gateway.
-static GATE_FLAGS: [&str; 4] = ["nulls", "wide", "full", "drift"];
+static GATE_FLAGS: [&str; 5] = ["nulls", "wide", "full", "drift", "echo"];
 
 static GATE_OPTIONS: [&str; 6] = ["flow", "first", "store", "hold", "share", "in"];
 
@@ -128,7 +131,7 @@ fn pack<'a>(alloc: Global) -> Result<Command<'a>, AllocError>
     ensures local { IfOk result (λ r. (fields_of r).has_globals ≡ false) }
 {
     let pack = session(alloc, "pack")?;
-    with_arguments(alloc, pack, &PACK_OPTIONS, &STREAM_FLAGS, &PACK)
+    with_arguments(alloc, pack, &PACK_OPTIONS, &PACK_FLAGS, &PACK)
 }
 
 /// The command of a sending, over one link or more.
@@ -137,7 +140,7 @@ fn send<'a>(alloc: Global) -> Result<Command<'a>, AllocError>
     ensures local { IfOk result (λ r. (fields_of r).has_globals ≡ false) }
 {
     let send = session(alloc, "send")?;
-    let send = with_arguments(alloc, send, &SEND_OPTIONS, &STREAM_FLAGS, &SEND)?;
+    let send = with_arguments(alloc, send, &SEND_OPTIONS, &SEND_FLAGS, &SEND)?;
     with_all(alloc, send, Kind::Positions, &LINKS)
 }
 

@@ -8,21 +8,21 @@ use crate::lines::DrillLine;
 use crate::values::{Numbers, number_at};
 use clap::ArgMatches;
 
-const NUMBER: Numbers = Numbers {
+pub const NUMBER: Numbers = Numbers {
     default: 0,
     least: 0,
     most: 18_446_744_073_709_551_615,
     multiple_of: 1,
 };
 
-const COUNT: Numbers = Numbers {
+pub const COUNT: Numbers = Numbers {
     default: 0,
     least: 0,
     most: 5000,
     multiple_of: 1,
 };
 
-const LINKS: Numbers = Numbers {
+pub const LINKS: Numbers = Numbers {
     default: 1,
     least: 1,
     most: 4,
@@ -30,7 +30,7 @@ const LINKS: Numbers = Numbers {
 };
 
 /// In parts of a thousand.
-const LOSS: Numbers = Numbers {
+pub const LOSS: Numbers = Numbers {
     default: 0,
     least: 0,
     most: 1000,

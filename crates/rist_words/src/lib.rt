@@ -1,22 +1,20 @@
 //! The words of a command line: what the program is to do, and with which values. A contract sees a line as its
 //! command, the defaults filled in. Which words are taken is `clap`'s; the forms and ranges of values are this crate's
-//! own.
+//! own. What tells a user of the forms and ranges stands above it, and takes its modules.
 #![tactic(auto)]
 
-mod command;
-mod drilling;
-mod help;
+pub mod command;
+pub mod drilling;
 pub mod laws;
 mod lines;
-mod links;
-mod matching;
-mod pcap;
-mod reading;
-mod receiving;
-mod session;
-mod values;
+pub mod links;
+pub mod matching;
+pub mod pcap;
+pub mod reading;
+pub mod receiving;
+pub mod session;
+pub mod values;
 
-pub use help::USAGE;
 pub use lines::{
     CountLine, DrillLine, GateLine, Line, PackLine, ReceiverWords, RecvLine, Refused, ReplayLine,
     SendLine, ServingWords, SessionWords, ShowLine, StreamWords,

@@ -1,4 +1,5 @@
 //! The lines of the program.
+use gre_tunnel::Tunnel;
 use outside_io::Profile;
 use outside_net::LinkSpec;
 use request_rules::NackKind;
@@ -39,6 +40,10 @@ pub struct SessionWords<'a> {
     pub bits: u16,
     /// RTP and RTCP are written as full datagrams. In the Main Profile only, and by commands that make datagrams.
     pub full: bool,
+    /// Whose form the tunnel's datagrams have. In the Simple Profile this profile's own.
+    pub tunnel: Tunnel,
+    /// Whether a sender's reports ask for the round-trip time: always in librist's tunnel.
+    pub echo: bool,
 }
 
 /// Write the payloads of a capture as a receiver plays them out.
@@ -133,6 +138,8 @@ pub struct SendLine<'a> {
     pub stream: StreamWords,
     /// The time between two datagrams in microseconds, 1 to 1,000,000.
     pub gap: u64,
+    /// The time before the first datagram of media in milliseconds, 0 to 1,000, while reports go out.
+    pub lead: u64,
     /// How many packets are stored for retransmission, 1 to 65,536.
     pub store: u64,
     /// For how long no packet is sent again once it was, in milliseconds, 1 to 1,000.

@@ -78,7 +78,7 @@ fn inputs_of(values: &ArgMatches<'_>, links: usize) -> Option<usize>
 }
 
 /// The numbers of links that can receive, of two or more.
-fn input_counts(links: usize) -> Numbers
+pub fn input_counts(links: usize) -> Numbers
     requires two { 2 ≤ links }
     ensures value { result ≡ input_counts links }
 {
@@ -91,7 +91,7 @@ fn input_counts(links: usize) -> Numbers
 }
 
 /// The texts that are given at a position.
-fn all_given<'m, 'a>(matches: &'m ArgMatches<'a>, id: &str) -> Option<&'m [&'a str]>
+pub fn all_given<'m, 'a>(matches: &'m ArgMatches<'a>, id: &str) -> Option<&'m [&'a str]>
     ensures { option_map (λ texts. map (λ t. t.now) texts.now) result ≡ all_of id.now (rows_of (found_of matches.now)) }
 {
     matches.get_strs(id)
@@ -114,7 +114,7 @@ fn each_link(alloc: Global, profile: Profile, texts: &[&str]) -> Result<Vec<Link
 }
 
 /// A link: `a.b.c.d:port`.
-fn link_of(profile: Profile, text: &str) -> Option<LinkSpec>
+pub fn link_of(profile: Profile, text: &str) -> Option<LinkSpec>
     ensures { result ≡ link_of profile text.now }
 {
     let (address, port) = split_at(text, ':')?;

@@ -17,28 +17,35 @@ use crate::values::{Numbers, is_set, name, number};
 use clap::ArgMatches;
 use std::alloc::Global;
 
-const GAP: Numbers = Numbers {
+pub const GAP: Numbers = Numbers {
     default: 1000,
     least: 1,
     most: 1_000_000,
     multiple_of: 1,
 };
 
-const STORE: Numbers = Numbers {
+pub const LEAD: Numbers = Numbers {
+    default: 0,
+    least: 0,
+    most: 1000,
+    multiple_of: 1,
+};
+
+pub const STORE: Numbers = Numbers {
     default: 4096,
     least: 1,
     most: 65_536,
     multiple_of: 1,
 };
 
-const HOLD: Numbers = Numbers {
+pub const HOLD: Numbers = Numbers {
     default: 20,
     least: 1,
     most: 1000,
     multiple_of: 1,
 };
 
-const LINGER: Numbers = Numbers {
+pub const LINGER: Numbers = Numbers {
     default: 1000,
     least: 0,
     most: 60_000,
@@ -160,6 +167,7 @@ fn send_line<'a>(alloc: Global, values: &ArgMatches<'a>) -> Result<SendLine<'a>,
     let links = links(alloc, values, session.profile)?;
     let stream = stream(values, session.profile).ok_or(Refused::Usage)?;
     let gap = number(values, "gap", GAP).ok_or(Refused::Usage)?;
+    let lead = number(values, "lead", LEAD).ok_or(Refused::Usage)?;
     let store = number(values, "store", STORE).ok_or(Refused::Usage)?;
     let hold = number(values, "hold", HOLD).ok_or(Refused::Usage)?;
     let share = share(alloc, values, links.len())?;
@@ -169,6 +177,7 @@ fn send_line<'a>(alloc: Global, values: &ArgMatches<'a>) -> Result<SendLine<'a>,
         session,
         stream,
         gap,
+        lead,
         store,
         hold,
         share,

@@ -22,28 +22,28 @@ pub const SPAN: Numbers = Numbers {
     multiple_of: 1,
 };
 
-const REORDER: Numbers = Numbers {
+pub const REORDER: Numbers = Numbers {
     default: 25,
     least: 0,
     most: 1000,
     multiple_of: 1,
 };
 
-const LEAST: Numbers = Numbers {
+pub const LEAST: Numbers = Numbers {
     default: 50,
     least: 5,
     most: 1000,
     multiple_of: 1,
 };
 
-const TRIES: Numbers = Numbers {
+pub const TRIES: Numbers = Numbers {
     default: 8,
     least: 0,
     most: 32,
     multiple_of: 1,
 };
 
-const OWN: Numbers = Numbers {
+pub const OWN: Numbers = Numbers {
     default: 7,
     least: 0,
     most: 4_294_967_295,
@@ -58,7 +58,7 @@ pub const TURNS: Numbers = Numbers {
 };
 
 /// A day at most.
-const IDLE: Numbers = Numbers {
+pub const IDLE: Numbers = Numbers {
     default: 0,
     least: 0,
     most: 86_400_000,
@@ -72,7 +72,7 @@ pub const RESTART: Numbers = Numbers {
     multiple_of: 1,
 };
 
-const KEEP: Numbers = Numbers {
+pub const KEEP: Numbers = Numbers {
     default: 0,
     least: 0,
     most: 65_536,

@@ -2,21 +2,23 @@
 ghost use Rattle.std.specs.Prelude.{◌≡◌, option_map};
 ghost use Rattle.clap.specs.Words.{found_of, rows_of};
 ghost use Rattle.rist_words.specs.CommandLine.{firsts, session_of, stream_of};
+ghost use Rattle.rist_words.specs.Values.{echo_of};
 ghost use Rattle.rist_words.specs.Shown.{shown_session, shown_stream};
 
 use crate::lines::{SessionWords, StreamWords};
-use crate::values::{Numbers, flag, number, phrase, profile};
+use crate::values::{Numbers, flag, is_set, number, phrase, profile, tunnel};
 use clap::ArgMatches;
+use gre_tunnel::Tunnel;
 use outside_io::Profile;
 
-const PORT: Numbers = Numbers {
+pub const PORT: Numbers = Numbers {
     default: 1968,
     least: 2,
     most: 65_534,
     multiple_of: 2,
 };
 
-const BITS: Numbers = Numbers {
+pub const BITS: Numbers = Numbers {
     default: 128,
     least: 128,
     most: 256,
@@ -28,16 +30,33 @@ pub fn session<'a>(values: &ArgMatches<'a>) -> Option<SessionWords<'a>>
     ensures { option_map shown_session result ≡ session_of (rows_of (found_of values.now)) }
 {
     let profile = profile(values, "profile")?;
+    let port = number(values, "port", PORT)? as u16;
+    let pass = phrase(values, "pass", profile)?;
+    let bits = number(values, "bits", BITS)? as u16;
+    let full = flag(values, "full", profile)?;
+    let tunnel = tunnel(values, "tunnel", profile)?;
     Some(SessionWords {
         profile,
-        port: number(values, "port", PORT)? as u16,
-        pass: phrase(values, "pass", profile)?,
-        bits: number(values, "bits", BITS)? as u16,
-        full: flag(values, "full", profile)?,
+        port,
+        pass,
+        bits,
+        full,
+        tunnel,
+        echo: echo_of(tunnel, is_set(values, "echo")),
     })
 }
 
-const FLOW: Numbers = Numbers {
+/// Whether a sender asks for the round-trip time.
+fn echo_of(tunnel: Tunnel, set: bool) -> bool
+    ensures { result ≡ echo_of tunnel set }
+{
+    match tunnel {
+        Tunnel::Own => set,
+        Tunnel::Librist => true,
+    }
+}
+
+pub const FLOW: Numbers = Numbers {
     default: 270_544_960,
     least: 0,
     most: 4_294_967_295,
@@ -59,7 +78,7 @@ pub fn stream(values: &ArgMatches<'_>, profile: Profile) -> Option<StreamWords>
 }
 
 /// The numbers that can be the first: of 16 bits, or of 32 where they are wide.
-fn firsts(wide: bool) -> Numbers
+pub fn firsts(wide: bool) -> Numbers
     ensures { result ≡ firsts wide }
 {
     Numbers {

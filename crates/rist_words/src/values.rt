@@ -4,9 +4,10 @@ ghost use Rattle.std.specs.Char.{is_ascii_digit};
 ghost use Rattle.std.specs.List.{list_all};
 ghost use Rattle.std.specs.Str.Parse.{digits_value};
 ghost use Rattle.clap.specs.Words.{first_of, found_of, rows_of};
-ghost use Rattle.rist_words.specs.Values.{flag_of, is_among, is_numeral, is_set, nack_of, number_at, number_in, number_of, name_of, phrase_of, profile_of};
+ghost use Rattle.rist_words.specs.Values.{flag_of, is_among, is_numeral, is_set, nack_of, number_at, number_in, number_of, name_of, phrase_of, profile_of, tunnel_of};
 
 use clap::ArgMatches;
+use gre_tunnel::Tunnel;
 use outside_io::Profile;
 use request_rules::NackKind;
 
@@ -128,6 +129,21 @@ pub fn nack(matches: &ArgMatches<'_>, option: &str) -> Option<NackKind>
         Some(text) if text == "range" => Some(NackKind::Range),
         Some(text) if text == "mask" => Some(NackKind::Mask),
         Some(_) => None,
+    }
+}
+
+/// Whose form the tunnel's datagrams have, this profile's own where it isn't given. Only the Main Profile takes one.
+pub fn tunnel(matches: &ArgMatches<'_>, option: &str, profile: Profile) -> Option<Tunnel>
+    ensures { result ≡ tunnel_of profile (first_of option.now (rows_of (found_of matches.now))) }
+{
+    let Some(text) = given(matches, option) else {
+        return Some(Tunnel::Own);
+    };
+    match profile {
+        Profile::Simple => None,
+        Profile::Main if text == "own" => Some(Tunnel::Own),
+        Profile::Main if text == "librist" => Some(Tunnel::Librist),
+        Profile::Main => None,
     }
 }
 
