@@ -1,0 +1,227 @@
+//! What is wrong with words that are no line, as a text.
+use crate::asking::topic_named;
+use crate::checks::{Test, first_failing, profile_in, tests_of};
+use clap::ArgMatches;
+use clap::error::ErrorKind;
+use outside_io::{NoMemory, Profile};
+use rist_words::Refused;
+use rist_words::command::program;
+use rist_words::links::{all_given, input_counts, link_of};
+use rist_words::matching::matched;
+use rist_words::session::firsts;
+use rist_words::values::{Numbers, given, is_set};
+use std::alloc::Global;
+
+/// What is wrong with words that are no line, the program's name first: the first word that is wrong and why, and which
+/// help says more.
+pub fn complaint(alloc: Global, words: &[String]) -> Result<String, NoMemory> {
+    let mut text = String::new(alloc);
+    match matched(alloc, words) {
+        Ok(matches) => push_first_fault(alloc, &mut text, &matches)?,
+        Err(Refused::Usage) => push_refusal(alloc, &mut text, words)?,
+        Err(Refused::Memory) => return Err(NoMemory),
+    }
+    push_help(&mut text, words)?;
+    Ok(text)
+}
+
+/// The first test that the values of a command fail.
+fn push_first_fault(
+    alloc: Global,
+    text: &mut String,
+    matches: &ArgMatches<'_>,
+) -> Result<(), NoMemory> {
+    match matches.subcommand() {
+        Some((command, values)) => match first_failing(alloc, values, tests_of(command))? {
+            Some(test) => push_fault(text, values, test),
+            None => Ok(()),
+        },
+        None => Ok(text.push_str("a command is missing")?),
+    }
+}
+
+/// Why the parser doesn't take the words: the first paragraph of what it says.
+fn push_refusal(alloc: Global, text: &mut String, words: &[String]) -> Result<(), NoMemory> {
+    match program(alloc)?.try_get_matches_from(words) {
+        Ok(_) => Ok(()),
+        Err(error) => match error.kind() {
+            ErrorKind::OutOfMemory => Err(NoMemory),
+            ErrorKind::DisplayHelp => Ok(text.push_str(
+                "help is asked for by --help alone, or right behind a command",
+            )?),
+            _ => {
+                let said = format!(in alloc; "{error}")?;
+                push_paragraph(text, said.as_str())
+            }
+        },
+    }
+}
+
+/// The first paragraph of a message as one line, without the word that it begins with.
+fn push_paragraph(text: &mut String, said: &str) -> Result<(), NoMemory> {
+    let said = match said.strip_prefix("error: ") {
+        Some(rest) => rest,
+        None => said,
+    };
+    let mut is_first = true;
+    for line in said.split('\n') {
+        if line.is_empty() {
+            return Ok(());
+        }
+        if !is_first {
+            text.push_str(" ")?;
+        }
+        text.push_str(line.trim())?;
+        is_first = false;
+    }
+    Ok(())
+}
+
+/// Which help says more.
+fn push_help(text: &mut String, words: &[String]) -> Result<(), NoMemory> {
+    match words {
+        [_, command, ..] if topic_named(command.as_str()).is_some() => {
+            let command = command.as_str();
+            Ok(write!(text, " (rist {command} --help)")?)
+        }
+        _ => Ok(text.push_str(" (rist --help)")?),
+    }
+}
+
+/// The word that fails a test, and why.
+fn push_fault(text: &mut String, values: &ArgMatches<'_>, test: Test) -> Result<(), NoMemory> {
+    match test {
+        Test::Name(position) => push_place(text, position, None, "a name isn't empty"),
+        Test::NumberAt(position, numbers) => {
+            push_place(text, position, given(values, position), "")?;
+            push_numbers(text, numbers)
+        }
+        Test::Number(option, numbers) => push_number(text, option, given(values, option), numbers),
+        Test::Profile => push_option(text, "profile", given(values, "profile"), "simple or main"),
+        Test::Pass if profile_in(values) == Profile::Simple => push_main(text, "pass"),
+        Test::Pass => push_option(text, "pass", None, "1 to 128 octets"),
+        Test::MainFlag(flag) => push_main(text, flag),
+        Test::Tunnel if profile_in(values) == Profile::Simple => push_main(text, "tunnel"),
+        Test::Tunnel => push_option(text, "tunnel", given(values, "tunnel"), "own or librist"),
+        Test::First => {
+            push_number(
+                text,
+                "first",
+                given(values, "first"),
+                firsts(is_set(values, "wide")),
+            )
+        }
+        Test::Pcap => push_pcap(text, values),
+        Test::Nack => push_option(text, "nack", given(values, "nack"), "range or mask"),
+        Test::Links => push_links(text, values),
+        Test::Inputs => push_inputs(text, values),
+        Test::SendShare | Test::GateShare => {
+            let why = "a weight of 1 to 100 for each link that sends, as 3:1";
+            push_option(text, "share", given(values, "share"), why)
+        }
+    }
+}
+
+/// A position in capital letters, what is given there, and why it is wrong.
+fn push_place(
+    text: &mut String,
+    position: &str,
+    word: Option<&str>,
+    why: &str,
+) -> Result<(), NoMemory> {
+    for letter in position.chars() {
+        text.push(letter.to_ascii_uppercase())?;
+    }
+    push_word(text, word)?;
+    Ok(text.push_str(why)?)
+}
+
+/// An option, what is given to it, and why it is wrong.
+fn push_option(
+    text: &mut String,
+    option: &str,
+    word: Option<&str>,
+    why: &str,
+) -> Result<(), NoMemory> {
+    write!(text, "--{option}")?;
+    push_word(text, word)?;
+    Ok(text.push_str(why)?)
+}
+
+fn push_word(text: &mut String, word: Option<&str>) -> Result<(), NoMemory> {
+    match word {
+        Some(word) => Ok(write!(text, " {word}: ")?),
+        None => Ok(text.push_str(": ")?),
+    }
+}
+
+fn push_number(
+    text: &mut String,
+    option: &str,
+    word: Option<&str>,
+    numbers: Numbers,
+) -> Result<(), NoMemory> {
+    push_option(text, option, word, "")?;
+    push_numbers(text, numbers)
+}
+
+/// The numbers that are taken.
+fn push_numbers(text: &mut String, numbers: Numbers) -> Result<(), NoMemory> {
+    let (least, most) = (numbers.least, numbers.most);
+    match numbers.multiple_of {
+        1 => Ok(write!(text, "a number from {least} to {most}")?),
+        2 => Ok(write!(text, "an even number from {least} to {most}")?),
+        _ => Ok(write!(text, "{least} or {most}")?),
+    }
+}
+
+/// An option or a flag that only the Main Profile has.
+fn push_main(text: &mut String, option: &str) -> Result<(), NoMemory> {
+    push_option(text, option, None, "only with --profile main")
+}
+
+fn push_pcap(text: &mut String, values: &ArgMatches<'_>) -> Result<(), NoMemory> {
+    match given(values, "udp") {
+        Some(word) if is_set(values, "pcap") => {
+            let why = match profile_in(values) {
+                Profile::Simple => "an even number from 2 to 65534",
+                Profile::Main => "a number from 1 to 65535",
+            };
+            push_option(text, "udp", Some(word), why)
+        }
+        _ => Ok(text.push_str("--pcap, --udp: both are given, or neither")?),
+    }
+}
+
+/// The first word that is no link, or that there are too many.
+fn push_links(text: &mut String, values: &ArgMatches<'_>) -> Result<(), NoMemory> {
+    let profile = profile_in(values);
+    match all_given(values, "link") {
+        Some(words) => {
+            for word in words {
+                if link_of(profile, word).is_none() {
+                    return push_link(text, word);
+                }
+            }
+            push_place(text, "link", None, "at most sixteen")
+        }
+        None => push_place(text, "link", None, "one to sixteen"),
+    }
+}
+
+fn push_link(text: &mut String, word: &str) -> Result<(), NoMemory> {
+    let why = match link_of(Profile::Main, word) {
+        Some(_) => "in the Simple Profile a port is even, from 2 to 65534",
+        None => "an address and a port, as 127.0.0.1:5000",
+    };
+    push_place(text, "link", Some(word), why)
+}
+
+fn push_inputs(text: &mut String, values: &ArgMatches<'_>) -> Result<(), NoMemory> {
+    match all_given(values, "link") {
+        Some(words) if words.len() >= 2 => {
+            push_number(text, "in", given(values, "in"), input_counts(words.len()))
+        }
+        _ => push_place(text, "link", None, "a gateway has at least two"),
+    }
+}
