@@ -10,9 +10,11 @@ mod openings;
 mod real_host;
 mod reception;
 mod slots;
+mod trouble;
 
 pub use host::{Host, HostBad, Opened, Place};
 pub use mem_host::{MemHost, MemParts};
 pub use real_host::RealHost;
 pub use reception::Reception;
 pub use slots::Slot;
+pub use trouble::Trouble;

@@ -5,6 +5,7 @@ ghost use Rattle.outside_io.specs.Real.{silent, IsSourceNamed, IsSinkNamed, Know
 ghost use Rattle.outside_io.specs.Told.{IsEmpty};
 ghost use Rattle.outside_host.specs.Shelf.{nowhere, HasHostCause};
 
+use crate::trouble::{Reason, Thing, Trouble};
 use crate::{Host, HostBad, Reception};
 use libc::net::{POLLIN, poll};
 use libc::types::pollfd;
@@ -13,10 +14,11 @@ use outside_io::{
     open_known_source,
 };
 use outside_net::{LinkSpec, ProcessClock, Role, UdpLink};
+use std::alloc::Global;
 use std::fs::Files;
 use std::io::{Eprint, Input, Print, Printer};
 use std::marker::Model;
-use std::net::Net;
+use std::net::{Ipv4Addr, Net, SocketAddr, SocketAddrV4, UdpSocket};
 use std::random::RandomSource;
 use std::time::Clock;
 
@@ -28,12 +30,17 @@ const NO_LIMIT: i32 = -1;
 
 /// The system's files, its standard streams under the name `-`, links over UDP, the process clock and the system's random
 /// source. A file that is read as the source isn't opened as the sink: that would empty it. All clocks have one start.
+/// With memory it keeps the names of the source and the sink that it opened last, and what it couldn't open last.
 #[derive(Drop)]
 pub struct RealHost<'a, R> {
     rt: &'a R,
     faults: u64,
     read: Option<FileIdentity>,
     clock: Option<ProcessClock<'a, R>>,
+    alloc: Option<Global>,
+    source: Option<String>,
+    sink: Option<String>,
+    trouble: Option<Trouble>,
 }
 
 impl<'a, R> Model for RealHost<'a, R> {
@@ -54,7 +61,53 @@ impl<'a, R> RealHost<'a, R> {
             faults: 0,
             read: None,
             clock: None,
+            alloc: None,
+            source: None,
+            sink: None,
+            trouble: None,
         }
+    }
+
+    /// A host of which no call has failed, with memory for names.
+    pub fn with_memory(rt: &'a R, alloc: Global) -> RealHost<'a, R>
+        ensures value { result ≡ record { faults = 0; read = None } }
+    {
+        let mut host = RealHost::new(rt);
+        host.alloc = Some(alloc);
+        host
+    }
+
+    /// What couldn't be opened last, and why, where that is known.
+    pub fn trouble(&self) -> Option<&Trouble> {
+        self.trouble.as_ref()
+    }
+
+    /// The name of the source that was opened last, where there was memory for it.
+    pub fn source_name(&self) -> Option<&str> {
+        self.source.as_deref()
+    }
+
+    /// The name of the sink that was opened last, where there was memory for it.
+    pub fn sink_name(&self) -> Option<&str> {
+        self.sink.as_deref()
+    }
+
+    /// A name, where there is memory for it.
+    fn kept(&self, name: &str) -> Option<String> {
+        String::from_str(self.alloc?, name).ok()
+    }
+
+    /// A source or a sink of this name couldn't be opened.
+    fn refuse_name(&mut self, name: &str, reason: Reason) -> HostBad
+        ensures value { result ≡ HostBad.Failed }
+        ensures cause { Rose self.old.faults self.new.faults }
+        ensures read { self.new.read ≡ self.old.read }
+    {
+        self.trouble = match self.kept(name) {
+            Some(name) => Some(Trouble::new(Thing::Name(name), reason)),
+            None => None,
+        };
+        self.refuse()
     }
 
     /// One more call failed.
@@ -102,9 +155,10 @@ where
                     await_input();
                 }
                 self.read = file;
+                self.source = self.kept(name);
                 Ok(source)
             }
-            Err(_) => Err(self.refuse()),
+            Err(error) => Err(self.refuse_name(name, Reason::System(error))),
         }
     }
 
@@ -115,11 +169,14 @@ where
         ensures stays { self.new.read ≡ self.old.read }
     {
         if name != "-" && is_named(self.rt, name, self.read) {
-            return Err(self.refuse());
+            return Err(self.refuse_name(name, Reason::IsSource));
         }
         match create_sink(self.rt, name) {
-            Ok(sink) => Ok(sink),
-            Err(_) => Err(self.refuse()),
+            Ok(sink) => {
+                self.sink = self.kept(name);
+                Ok(sink)
+            }
+            Err(error) => Err(self.refuse_name(name, Reason::System(error))),
         }
     }
 
@@ -135,7 +192,10 @@ where
     ) -> Result<Self::Wire, HostBad> {
         match UdpLink::open(self.rt, spec, role, profile) {
             Ok(link) => Ok(link),
-            Err(_) => Err(self.refuse()),
+            Err(_) => {
+                self.trouble = why_no_link(self.rt, spec, role, profile);
+                Err(self.refuse())
+            }
         }
     }
 
@@ -172,6 +232,29 @@ where
         // A line that can't be written changes no answer.
         let _ = eprintln!(self.rt; "rist: {reception}");
     }
+}
+
+/// Why a link couldn't be opened: each of its ports is bound once more, and the first that can't be says why.
+fn why_no_link<R: Net>(rt: &R, spec: &LinkSpec, role: Role, profile: Profile) -> Option<Trouble> {
+    let [a, b, c, d] = match role {
+        Role::Receives => spec.address,
+        Role::Sends | Role::Forwards => [0; 4],
+    };
+    let control = match profile {
+        Profile::Simple => spec.port.saturating_add(1),
+        Profile::Main => spec.port,
+    };
+    for port in [spec.port, control] {
+        let port = match role {
+            Role::Receives => port,
+            Role::Sends | Role::Forwards => 0,
+        };
+        let address = SocketAddr::V4(SocketAddrV4::new(Ipv4Addr::new(a, b, c, d), port));
+        if let Err(error) = UdpSocket::bind(rt, address) {
+            return Some(Trouble::new(Thing::Address(address), Reason::System(error)));
+        }
+    }
+    None
 }
 
 /// Waits until standard input gives something or has ended. So the time of what is read from it begins with its first octets,
