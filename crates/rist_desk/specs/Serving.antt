@@ -1,5 +1,5 @@
 -- What a worker did, by what its objects tell.
-use Rattle.std.specs.Prelude.{◌≡◌, ℕ, List, Bool, Option, None, Some}
+use Rattle.std.specs.Prelude.{◌≡◌, ◌≤◌, ◌*◌, ℕ, List, Bool, Option, None, Some}
 use Rattle.outside_io.specs.Causes.{RoseWhere}
 use Rattle.outside_io.specs.declared.channel.Channel.{Channel}
 use Rattle.outside_net.specs.Links.{Datagram, Answer}
@@ -54,3 +54,15 @@ pub record TraceTells (U : Type 0) : Type 0 where
 pub record ServesOn {L C U : Type 0} (given : Given) (moments : C → Option (ℕ → ℕ)) (tells : LinkTells L) (trace : TraceTells U) (limits : Limits) (place : ℕ) (old new : Worker L C U) : Type 0 where
   pub made : ServesBy (Some given) moments tells trace.list limits place old new
   pub full : new.end ≡ Some ends.TraceFull → LacksRoom given (trace.limit new.trace) (trace.list new.trace)
+
+-- a worker at this place may make all its turns, of two steps at most, on what is shared
+pub record MayServe {S L C U : Type 0} (is_of : S → ℕ → U → Type 0) (left : U → ℕ) (shared : S) (limits : Limits) (place : ℕ) (w : Worker L C U) : Type 0 where
+  pub own : is_of shared place w.trace
+  pub left_is : 2 * limits.turns ≤ left w.trace
+
+-- It ended: what is its own is still of what is shared; and where a failed write of the sink ended it, that is known by
+-- what it has seen.
+pub record Leaves {S L C U : Type 0} (is_of : S → ℕ → U → Type 0) (broken : U → Type 0) (shared : S) (place : ℕ) (w : Worker L C U) : Type 0 where
+  pub own : is_of shared place w.trace
+  pub stopped : w.end ≡ Some ends.Stopped → broken w.trace
+  pub fault : w.end ≡ Some ends.WriteFault → broken w.trace

@@ -1,50 +1,44 @@
 //! All workers, side by side.
-ghost use Rattle.std.specs.Prelude.{◌≡◌, ◌<◌, ◌≤◌, ◌^◌, ℕ, length, slice_index_or, Some};
+ghost use Rattle.std.specs.Prelude.{◌≡◌, ◌<◌, ◌≤◌, ◌*◌, ◌^◌, ℕ, length, slice_index_or, Some};
 ghost use Rattle.outside_io.specs.Causes.{RoseWhere};
 ghost use Rattle.rist_desk.specs.Turns.{Feed, IsServed};
 ghost use Rattle.rist_desk.specs.Sending.{holds, LacksRoom};
-ghost use Rattle.rist_desk.specs.Serving.{IsFeed, Serves, ServesOn, LinkTells, TraceTells};
+ghost use Rattle.rist_desk.specs.Serving.{IsFeed, Serves, ServesOn, LinkTells, TraceTells, MayServe, Leaves};
 ghost use Rattle.rist_desk.specs.Inside.Going.{is_link_end, is_link_failure};
 
-use crate::desk::Desk;
 use crate::ended::Ended;
-use crate::name::Name;
-use crate::trace::StepTrace;
+use crate::shares::Shares;
 use crate::turn::turn;
 use crate::worker::{Limits, Worker};
-use outside_io::Sink;
 use outside_net::{Clock, Link};
 use rist_ends::Outs;
-use std::sync::{Mutex, Wait};
+use std::sync::Wait;
 use std::thread;
 use std::thread::Threads;
 
 /// Makes turns up to the last, and says why it was the last.
-fn all_turns<
-    N: Name,
-    T: StepTrace + Drop,
-    K: Sink + Drop,
-    L: Link,
-    C: Clock,
-    U: StepTrace,
-    R: Wait,
->(
+fn all_turns<S: Shares<U>, U, L: Link, C: Clock, R: Wait>(
     rt: &R,
-    desk: &Mutex<Desk<N, T, K>>,
+    desk: &S,
     worker: &mut Worker<L, C, U>,
     place: u8,
     limits: &Limits,
 ) -> Ended
     requires place { place < 16 }
     requires turns { (0 < limits.now.turns) × (limits.now.turns ≤ 2 ^ 40) }
+    requires own { S.is_of desk.now place worker.old.trace }
+    requires left { 2 * limits.now.turns ≤ S.left worker.old.trace }
+    ensures own { S.is_of desk.now place worker.new.trace }
     ensures served { (f : Feed) → IsFeed f worker.old.opener place limits.now (C.moments worker.old.clock)
         (L.reads worker.old.link)
-        → IsServed (Some N.given) f (L.knows worker.old.link) (L.knows worker.new.link) result (C.moments worker.new.clock)
+        → IsServed (Some S.given) f (L.knows worker.old.link) (L.knows worker.new.link) result (C.moments worker.new.clock)
         (L.reads worker.new.link)
-        (holds (U.list worker.old.trace) (L.taken worker.old.link))
-        (holds (U.list worker.new.trace) (L.taken worker.new.link)) }
+        (holds (S.list worker.old.trace) (L.taken worker.old.link))
+        (holds (S.list worker.new.trace) (L.taken worker.new.link)) }
     ensures session { worker.new.opener ≡ worker.old.opener }
-    ensures full { result ≡ Ended.TraceFull → LacksRoom N.given (U.limit worker.new.trace) (U.list worker.new.trace) }
+    ensures full { result ≡ Ended.TraceFull → LacksRoom S.given (S.limit worker.new.trace) (S.list worker.new.trace) }
+    ensures stopped { result ≡ Ended.Stopped → S.broken worker.new.trace }
+    ensures fault { result ≡ Ended.WriteFault → S.broken worker.new.trace }
     ensures ends { RoseWhere (is_link_end (Some result)) (L.ends worker.old.link) (L.ends worker.new.link) }
     ensures faults { RoseWhere (is_link_failure (Some result)) (L.faults worker.old.link) (L.faults worker.new.link) }
 {
@@ -73,20 +67,21 @@ fn all_turns<
 }
 
 /// Makes all turns of the worker at a place, in the thread that calls.
-pub fn serve_one<
-    N: Name,
-    T: StepTrace + Drop,
-    K: Sink + Drop,
-    L: Link,
-    C: Clock,
-    U: StepTrace,
-    R: Wait,
->(rt: &R, desk: &Mutex<Desk<N, T, K>>, worker: &mut Worker<L, C, U>, place: usize, limits: &Limits)
+pub fn serve_one<S: Shares<U>, U, L: Link, C: Clock, R: Wait>(
+    rt: &R,
+    desk: &S,
+    worker: &mut Worker<L, C, U>,
+    place: usize,
+    limits: &Limits,
+)
     requires place { place < 16 }
     requires turns { (0 < limits.now.turns) × (limits.now.turns ≤ 2 ^ 40) }
-    ensures { ServesOn N.given C.moments
+    requires own { S.is_of desk.now place worker.old.trace }
+    requires left { 2 * limits.now.turns ≤ S.left worker.old.trace }
+    ensures own { Leaves S.is_of S.broken desk.now place worker.new }
+    ensures on { ServesOn S.given C.moments
         (record { reads = L.reads; taken = L.taken; knows = L.knows; ends = L.ends; faults = L.faults })
-        (record { list = U.list; limit = U.limit }) limits.now place worker.old worker.new }
+        (record { list = S.list; limit = S.limit }) limits.now place worker.old worker.new }
 {
     let end = all_turns(rt, desk, worker, place as u8, limits);
     worker.end = Some(end);
@@ -94,20 +89,22 @@ pub fn serve_one<
 
 /// Makes all turns of all workers, each in a thread of its own where one can be made.
 fn serve_all<
-    N: Name + Send + Sync,
-    T: StepTrace + Drop + Send,
-    K: Sink + Drop + Send,
+    S: Shares<U> + Sync,
+    U: Drop + Send,
     L: Link + Drop + Send,
     C: Clock + Drop + Send,
-    U: StepTrace + Drop + Send,
     R: Threads + Wait + Sync,
->(rt: &R, workers: &mut [Worker<L, C, U>], desk: &Mutex<Desk<N, T, K>>, limits: &Limits)
+>(rt: &R, workers: &mut [Worker<L, C, U>], desk: &S, limits: &Limits)
     requires some { 0 < length workers.old }
     requires few { length workers.old ≤ 16 }
     requires turns { (0 < limits.now.turns) × (limits.now.turns ≤ 2 ^ 40) }
-    ensures on { (i : ℕ) (d : _) → i < length workers.old → ServesOn N.given C.moments
+    requires own { (i : ℕ) (d : _) → i < length workers.old
+        → MayServe S.is_of S.left desk.now limits.now i (slice_index_or workers.old i d) }
+    ensures own { (i : ℕ) (d : _) → i < length workers.old
+        → Leaves S.is_of S.broken desk.now i (slice_index_or workers.new i d) }
+    ensures on { (i : ℕ) (d : _) → i < length workers.old → ServesOn S.given C.moments
         (record { reads = L.reads; taken = L.taken; knows = L.knows; ends = L.ends; faults = L.faults })
-        (record { list = U.list; limit = U.limit }) limits.now i
+        (record { list = S.list; limit = S.limit }) limits.now i
         (slice_index_or workers.old i d) (slice_index_or workers.new i d) }
 {
     let count = workers.len();
@@ -121,25 +118,27 @@ fn serve_all<
 
 /// Serves the links of all workers, each in a thread of its own where one can be made. Their places are 0, 1 and so on.
 pub fn serve<
-    N: Name + Send + Sync,
-    T: StepTrace + Drop + Send,
-    K: Sink + Drop + Send,
+    S: Shares<U> + Sync,
+    U: Drop + Send,
     L: Link + Drop + Send,
     C: Clock + Drop + Send,
-    U: StepTrace + Drop + Send,
     R: Threads + Wait + Sync,
->(rt: &R, workers: &mut [Worker<L, C, U>], desk: &Mutex<Desk<N, T, K>>, limits: &Limits)
+>(rt: &R, workers: &mut [Worker<L, C, U>], desk: &S, limits: &Limits)
     requires some { 0 < length workers.old }
     requires few { length workers.old ≤ 16 }
     requires turns { (0 < limits.now.turns) × (limits.now.turns ≤ 2 ^ 40) }
+    requires own { (i : ℕ) (d : _) → i < length workers.old
+        → MayServe S.is_of S.left desk.now limits.now i (slice_index_or workers.old i d) }
+    ensures own { (i : ℕ) (d : _) → i < length workers.old
+        → Leaves S.is_of S.broken desk.now i (slice_index_or workers.new i d) }
     ensures served { (i : ℕ) (d : _) → i < length workers.old → Serves C.moments
         (record { reads = L.reads; taken = L.taken; knows = L.knows; ends = L.ends; faults = L.faults })
-        U.list limits.now i (slice_index_or workers.old i d) (slice_index_or workers.new i d) }
-    // What it wrote is what its steps made by the rules, where the desk tells its steps; and why a trace was full is
-    // told.
-    ensures on { (i : ℕ) (d : _) → i < length workers.old → ServesOn N.given C.moments
+        S.list limits.now i (slice_index_or workers.old i d) (slice_index_or workers.new i d) }
+    // What it wrote is what its steps made by the rules, where the steps that they were made after are told; and why a
+    // trace was full is told.
+    ensures on { (i : ℕ) (d : _) → i < length workers.old → ServesOn S.given C.moments
         (record { reads = L.reads; taken = L.taken; knows = L.knows; ends = L.ends; faults = L.faults })
-        (record { list = U.list; limit = U.limit }) limits.now i
+        (record { list = S.list; limit = S.limit }) limits.now i
         (slice_index_or workers.old i d) (slice_index_or workers.new i d) }
 {
     serve_all(rt, workers, desk, limits);

@@ -1,5 +1,5 @@
 //! A worker's steps on the desk, and what they make on its link.
-ghost use Rattle.std.specs.Prelude.{◌≡◌, ◌<◌, [], ◌∷◌, ◌++◌, IfErr, OnOk, OnErr, ℕ, List, Some, Err, option_map};
+ghost use Rattle.std.specs.Prelude.{◌≡◌, ◌<◌, ◌≤◌, ◌+◌, [], ◌∷◌, ◌++◌, IfErr, OnOk, OnErr, ℕ, List, Some, Err, option_map};
 ghost use Rattle.outside_io.specs.declared.channel.Channel.{Channel as ChannelValue};
 ghost use Rattle.outside_io.specs.Causes.{HasCause, RoseWhere};
 ghost use Rattle.rist_reporter.specs.OneMore.{outs_of};
@@ -10,18 +10,16 @@ ghost use Rattle.rist_desk.specs.Turns.{is_tick_due, tick_steps, ticked_after};
 ghost use Rattle.rist_desk.specs.Sending.{Goes, CutShort, LacksRoom, IsKnownIn, holds, written, written_where};
 ghost use Rattle.rist_desk.specs.Inside.Links.{IsKept, IsKeptBy, IsInside, SentPart, has_link_failed, peers_by};
 
-use crate::desk::Desk;
 use crate::ended::Ended;
 use crate::items::what_of;
-use crate::name::Name;
-use crate::trace::{StepTrace, keep};
-use outside_io::{Channel, Failed, Sink};
-use outside_net::{Link, Trace};
+use crate::shares::Shares;
+use outside_io::{Channel, Failed};
+use outside_net::Link;
 use rist_ends::{Answer, Outs, Told, What};
 use rist_reporter::Out;
 use rist_wire::{Item, Opener, WireBad};
 use rtp_packet::MAX_PAYLOAD;
-use std::sync::{Mutex, Wait};
+use std::sync::Wait;
 
 /// Writes what a step made to the link.
 fn send<L: Link>(link: &mut L, outs: &Outs) -> Result<(), Failed>
@@ -44,11 +42,10 @@ fn send<L: Link>(link: &mut L, outs: &Outs) -> Result<(), Failed>
     }
 }
 
-/// Makes a step on the desk, keeps it in the worker's own trace, and writes what it made to the link. Where the trace
-/// is full it makes none.
-fn make_step<N: Name, T: StepTrace + Drop, K: Sink + Drop, L: Link, U: StepTrace, R: Wait>(
+/// Makes a step on what is shared, and writes what it made to the link. Where a trace is full it makes none.
+fn make_step<S: Shares<U>, U, L: Link, R: Wait>(
     rt: &R,
-    desk: &Mutex<Desk<N, T, K>>,
+    desk: &S,
     link: &mut L,
     own: &mut U,
     outs: &mut Outs,
@@ -56,28 +53,29 @@ fn make_step<N: Name, T: StepTrace + Drop, K: Sink + Drop, L: Link, U: StepTrace
 ) -> Result<(), Ended>
     requires fits { IsFit told.now }
     requires going { IsNoEnd told.now.what }
-    ensures ok { OnOk result (Goes (Some N.given) (L.knows link.old) (holds (U.list own.old) (L.taken link.old))
-        (holds (U.list own.new) (L.taken link.new))
+    requires own { S.is_of desk.now told.now.link own.old }
+    requires left { 1 ≤ S.left own.old }
+    ensures own { S.is_of desk.now told.now.link own.new }
+    ensures left { S.left own.old ≤ S.left own.new + 1 }
+    ensures ok { OnOk result (Goes (Some S.given) (L.knows link.old) (holds (S.list own.old) (L.taken link.old))
+        (holds (S.list own.new) (L.taken link.new))
         (told_plan told.now ∷ [])) }
-    ensures err { IfErr result (λ end. CutShort (Some N.given) (L.knows link.old) end
-        (holds (U.list own.old) (L.taken link.old))
-        (holds (U.list own.new) (L.taken link.new))
+    ensures err { IfErr result (λ end. CutShort (Some S.given) (L.knows link.old) end
+        (holds (S.list own.old) (L.taken link.old))
+        (holds (S.list own.new) (L.taken link.new))
         (told_plan told.now ∷ [])) }
     ensures inside { IfErr result IsInside }
-    ensures full { result ≡ Err Ended.TraceFull → LacksRoom N.given (U.limit own.new) (U.list own.new) }
+    ensures full { result ≡ Err Ended.TraceFull → LacksRoom S.given (S.limit own.new) (S.list own.new) }
+    ensures stopped { result ≡ Err Ended.Stopped → S.broken own.new }
+    ensures fault { result ≡ Err Ended.WriteFault → S.broken own.new }
     ensures same { IsKept L.reads L.ends L.knows link.old link.new }
     ensures cause { RoseWhere (has_link_failed result) (L.faults link.old) (L.faults link.new) }
 {
-    match own.room() {
-        Ok(()) => {}
-        Err(_) => return Err(Ended::TraceFull),
-    }
-    let stepped = desk.lock(rt).step(told, outs);
+    let stepped = desk.step(rt, own, told, outs);
     let answer = match stepped {
         Ok(answer) => answer,
         Err(_) => return Err(Ended::TraceFull),
     };
-    keep(own, told, answer, outs);
     match answer {
         Answer::Stopped => Err(Ended::Stopped),
         Answer::WriteFault => Err(Ended::WriteFault),
@@ -92,9 +90,9 @@ fn make_step<N: Name, T: StepTrace + Drop, K: Sink + Drop, L: Link, U: StepTrace
 }
 
 /// Makes the step of an item, or of a datagram that was refused.
-fn step_item<N: Name, T: StepTrace + Drop, K: Sink + Drop, L: Link, U: StepTrace, R: Wait>(
+fn step_item<S: Shares<U>, U, L: Link, R: Wait>(
     rt: &R,
-    desk: &Mutex<Desk<N, T, K>>,
+    desk: &S,
     link: &mut L,
     own: &mut U,
     outs: &mut Outs,
@@ -103,13 +101,19 @@ fn step_item<N: Name, T: StepTrace + Drop, K: Sink + Drop, L: Link, U: StepTrace
     item: &Result<Item<'_>, WireBad>,
 ) -> Result<(), Ended>
     requires place { place < 16 }
-    ensures ok { OnOk result (Goes (Some N.given) (L.knows link.old) (holds (U.list own.old) (L.taken link.old))
-        (holds (U.list own.new) (L.taken link.new)) (item_plan place us item.now ∷ [])) }
-    ensures err { IfErr result (λ end. CutShort (Some N.given) (L.knows link.old) end
-        (holds (U.list own.old) (L.taken link.old))
-        (holds (U.list own.new) (L.taken link.new)) (item_plan place us item.now ∷ [])) }
+    requires own { S.is_of desk.now place own.old }
+    requires left { 1 ≤ S.left own.old }
+    ensures own { S.is_of desk.now place own.new }
+    ensures left { S.left own.old ≤ S.left own.new + 1 }
+    ensures ok { OnOk result (Goes (Some S.given) (L.knows link.old) (holds (S.list own.old) (L.taken link.old))
+        (holds (S.list own.new) (L.taken link.new)) (item_plan place us item.now ∷ [])) }
+    ensures err { IfErr result (λ end. CutShort (Some S.given) (L.knows link.old) end
+        (holds (S.list own.old) (L.taken link.old))
+        (holds (S.list own.new) (L.taken link.new)) (item_plan place us item.now ∷ [])) }
     ensures inside { IfErr result IsInside }
-    ensures full { result ≡ Err Ended.TraceFull → LacksRoom N.given (U.limit own.new) (U.list own.new) }
+    ensures full { result ≡ Err Ended.TraceFull → LacksRoom S.given (S.limit own.new) (S.list own.new) }
+    ensures stopped { result ≡ Err Ended.Stopped → S.broken own.new }
+    ensures fault { result ≡ Err Ended.WriteFault → S.broken own.new }
     ensures same { IsKept L.reads L.ends L.knows link.old link.new }
     ensures cause { RoseWhere (has_link_failed result) (L.faults link.old) (L.faults link.new) }
 {
@@ -138,9 +142,9 @@ fn settle<L: Link>(link: &mut L, item: &Result<Item<'_>, WireBad>)
 
 /// Makes the step of the datagram that the link's last read gave: of its item, or as one that was refused. Whoever sent
 /// one that was refused gets none of what is made.
-pub fn step_datagram<N: Name, T: StepTrace + Drop, K: Sink + Drop, L: Link, U: StepTrace, R: Wait>(
+pub fn step_datagram<S: Shares<U>, U, L: Link, R: Wait>(
     rt: &R,
-    desk: &Mutex<Desk<N, T, K>>,
+    desk: &S,
     link: &mut L,
     own: &mut U,
     opener: &mut Opener,
@@ -151,14 +155,20 @@ pub fn step_datagram<N: Name, T: StepTrace + Drop, K: Sink + Drop, L: Link, U: S
     octets: &mut [u8],
 ) -> Result<(), Ended>
     requires place { place < 16 }
+    requires own { S.is_of desk.now place own.old }
+    requires left { 1 ≤ S.left own.old }
     requires grown { IsKnownIn (L.knew link.old) (L.knows link.old) }
-    ensures ok { OnOk result (Goes (Some N.given) (L.knew link.old) (holds (U.list own.old) (L.taken link.old))
-        (holds (U.list own.new) (L.taken link.new)) (datagram_plan opener.old place us channel octets.old ∷ [])) }
-    ensures err { IfErr result (λ end. CutShort (Some N.given) (L.knew link.old) end
-        (holds (U.list own.old) (L.taken link.old))
-        (holds (U.list own.new) (L.taken link.new)) (datagram_plan opener.old place us channel octets.old ∷ [])) }
+    ensures own { S.is_of desk.now place own.new }
+    ensures left { S.left own.old ≤ S.left own.new + 1 }
+    ensures ok { OnOk result (Goes (Some S.given) (L.knew link.old) (holds (S.list own.old) (L.taken link.old))
+        (holds (S.list own.new) (L.taken link.new)) (datagram_plan opener.old place us channel octets.old ∷ [])) }
+    ensures err { IfErr result (λ end. CutShort (Some S.given) (L.knew link.old) end
+        (holds (S.list own.old) (L.taken link.old))
+        (holds (S.list own.new) (L.taken link.new)) (datagram_plan opener.old place us channel octets.old ∷ [])) }
     ensures inside { IfErr result IsInside }
-    ensures full { result ≡ Err Ended.TraceFull → LacksRoom N.given (U.limit own.new) (U.list own.new) }
+    ensures full { result ≡ Err Ended.TraceFull → LacksRoom S.given (S.limit own.new) (S.list own.new) }
+    ensures stopped { result ≡ Err Ended.Stopped → S.broken own.new }
+    ensures fault { result ≡ Err Ended.WriteFault → S.broken own.new }
     ensures same { IsKeptBy L.reads L.ends L.knew L.knows (item_of opener.old channel octets.old) link.old link.new }
     ensures cause { RoseWhere (has_link_failed result) (L.faults link.old) (L.faults link.new) }
     ensures opener { opener.new ≡ opener.old }
@@ -169,9 +179,9 @@ pub fn step_datagram<N: Name, T: StepTrace + Drop, K: Sink + Drop, L: Link, U: S
 }
 
 /// Makes a tick where one is due.
-pub fn step_tick<N: Name, T: StepTrace + Drop, K: Sink + Drop, L: Link, U: StepTrace, R: Wait>(
+pub fn step_tick<S: Shares<U>, U, L: Link, R: Wait>(
     rt: &R,
-    desk: &Mutex<Desk<N, T, K>>,
+    desk: &S,
     link: &mut L,
     own: &mut U,
     outs: &mut Outs,
@@ -180,13 +190,19 @@ pub fn step_tick<N: Name, T: StepTrace + Drop, K: Sink + Drop, L: Link, U: StepT
     ticked: &mut Option<u64>,
 ) -> Result<(), Ended>
     requires place { place < 16 }
-    ensures ok { OnOk result (Goes (Some N.given) (L.knows link.old) (holds (U.list own.old) (L.taken link.old))
-        (holds (U.list own.new) (L.taken link.new)) (tick_steps place us (is_tick_due ticked.old us))) }
-    ensures err { IfErr result (λ end. CutShort (Some N.given) (L.knows link.old) end
-        (holds (U.list own.old) (L.taken link.old))
-        (holds (U.list own.new) (L.taken link.new)) (tick_steps place us (is_tick_due ticked.old us))) }
+    requires own { S.is_of desk.now place own.old }
+    requires left { 1 ≤ S.left own.old }
+    ensures own { S.is_of desk.now place own.new }
+    ensures left { S.left own.old ≤ S.left own.new + 1 }
+    ensures ok { OnOk result (Goes (Some S.given) (L.knows link.old) (holds (S.list own.old) (L.taken link.old))
+        (holds (S.list own.new) (L.taken link.new)) (tick_steps place us (is_tick_due ticked.old us))) }
+    ensures err { IfErr result (λ end. CutShort (Some S.given) (L.knows link.old) end
+        (holds (S.list own.old) (L.taken link.old))
+        (holds (S.list own.new) (L.taken link.new)) (tick_steps place us (is_tick_due ticked.old us))) }
     ensures inside { IfErr result IsInside }
-    ensures full { result ≡ Err Ended.TraceFull → LacksRoom N.given (U.limit own.new) (U.list own.new) }
+    ensures full { result ≡ Err Ended.TraceFull → LacksRoom S.given (S.limit own.new) (S.list own.new) }
+    ensures stopped { result ≡ Err Ended.Stopped → S.broken own.new }
+    ensures fault { result ≡ Err Ended.WriteFault → S.broken own.new }
     ensures same { IsKept L.reads L.ends L.knows link.old link.new }
     ensures cause { RoseWhere (has_link_failed result) (L.faults link.old) (L.faults link.new) }
     ensures ticked { ticked.new ≡ ticked_after ticked.old us }

@@ -1,5 +1,5 @@
 //! One turn of a worker.
-ghost use Rattle.std.specs.Prelude.{◌≡◌, ◌<◌, ◌+◌, ◌∷◌, [], ℕ, Bool, nat_le, false, IfNone, IfSome, Some};
+ghost use Rattle.std.specs.Prelude.{◌≡◌, ◌<◌, ◌≤◌, ◌+◌, ◌∷◌, [], ℕ, Bool, nat_le, false, IfNone, IfSome, Some};
 ghost use Rattle.outside_io.specs.declared.channel.Channel.{Channel};
 ghost use Rattle.outside_io.specs.Causes.{RoseWhere};
 ghost use Rattle.outside_net.specs.Links.{Gave, Quiet, answer_of};
@@ -10,22 +10,20 @@ ghost use Rattle.rist_desk.specs.Sending.{Holds, holds, Goes, TurnEnds, LacksRoo
 ghost use Rattle.rist_desk.specs.Inside.Links.{IsKept, IsKeptBy};
 ghost use Rattle.rist_desk.specs.Inside.Going.{IsTask, IsGoing, is_link_end, is_link_failure};
 
-use crate::desk::Desk;
 use crate::ended::Ended;
-use crate::name::Name;
+use crate::shares::Shares;
 use crate::stepping::{step_datagram, step_tick};
-use crate::trace::StepTrace;
 use crate::worker::{Limits, Worker};
-use outside_io::{Channel, Sink};
+use outside_io::Channel;
 use outside_net::{Clock, Got, Link};
 use rist_ends::Outs;
 use rist_wire::Opener;
-use std::sync::{Mutex, Wait};
+use std::sync::Wait;
 
 /// What follows a read that brought a datagram.
-fn datagram_turn<N: Name, T: StepTrace + Drop, K: Sink + Drop, L: Link, U: StepTrace, R: Wait>(
+fn datagram_turn<S: Shares<U>, U, L: Link, R: Wait>(
     rt: &R,
-    desk: &Mutex<Desk<N, T, K>>,
+    desk: &S,
     link: &mut L,
     own: &mut U,
     opener: &mut Opener,
@@ -38,20 +36,26 @@ fn datagram_turn<N: Name, T: StepTrace + Drop, K: Sink + Drop, L: Link, U: StepT
     last: bool,
 ) -> Option<Ended>
     requires place { place < 16 }
+    requires own { S.is_of desk.now place own.old }
+    requires left { 2 ≤ S.left own.old }
     requires grown { IsKnownIn (L.knew link.old) (L.knows link.old) }
-    ensures gains { IfNone result (Goes (Some N.given) (L.knew link.old) (holds (U.list own.old) (L.taken link.old))
-        (holds (U.list own.new) (L.taken link.new))
+    ensures own { S.is_of desk.now place own.new }
+    ensures left { S.left own.old ≤ S.left own.new + 2 }
+    ensures gains { IfNone result (Goes (Some S.given) (L.knew link.old) (holds (S.list own.old) (L.taken link.old))
+        (holds (S.list own.new) (L.taken link.new))
         (turn_steps opener.old place ticked.old us (Gave (record { channel = channel; octets = octets.old })))) }
     ensures going { IfNone result (last ≡ false) }
     ensures ticked { IfNone result (ticked.new ≡ ticked_after ticked.old us) }
-    ensures ended { (idle : Bool) → IfSome result (λ end. TurnEnds (Some N.given) (L.knew link.old) end
+    ensures ended { (idle : Bool) → IfSome result (λ end. TurnEnds (Some S.given) (L.knew link.old) end
         (end_by (Gave (record { channel = channel; octets = octets.old })) last idle)
-        (holds (U.list own.old) (L.taken link.old)) (holds (U.list own.new) (L.taken link.new))
+        (holds (S.list own.old) (L.taken link.old)) (holds (S.list own.new) (L.taken link.new))
         (turn_steps opener.old place ticked.old us (Gave (record { channel = channel; octets = octets.old })))) }
     ensures same { IsKeptBy L.reads L.ends L.knew L.knows (item_of opener.old channel octets.old) link.old link.new }
     ensures opener { opener.new ≡ opener.old }
     ensures inside { is_link_end result ≡ false }
-    ensures full { result ≡ Some Ended.TraceFull → LacksRoom N.given (U.limit own.new) (U.list own.new) }
+    ensures full { result ≡ Some Ended.TraceFull → LacksRoom S.given (S.limit own.new) (S.list own.new) }
+    ensures stopped { result ≡ Some Ended.Stopped → S.broken own.new }
+    ensures fault { result ≡ Some Ended.WriteFault → S.broken own.new }
     ensures cause { RoseWhere (is_link_failure result) (L.faults link.old) (L.faults link.new) }
 {
     match step_datagram(
@@ -68,9 +72,9 @@ fn datagram_turn<N: Name, T: StepTrace + Drop, K: Sink + Drop, L: Link, U: StepT
 }
 
 /// What follows a read to which nothing was there.
-fn quiet_turn<N: Name, T: StepTrace + Drop, K: Sink + Drop, L: Link, U: StepTrace, R: Wait>(
+fn quiet_turn<S: Shares<U>, U, L: Link, R: Wait>(
     rt: &R,
-    desk: &Mutex<Desk<N, T, K>>,
+    desk: &S,
     link: &mut L,
     own: &mut U,
     outs: &mut Outs,
@@ -81,16 +85,22 @@ fn quiet_turn<N: Name, T: StepTrace + Drop, K: Sink + Drop, L: Link, U: StepTrac
     idle: bool,
 ) -> Option<Ended>
     requires place { place < 16 }
-    ensures gains { IfNone result (Goes (Some N.given) (L.knows link.old) (holds (U.list own.old) (L.taken link.old))
-        (holds (U.list own.new) (L.taken link.new)) (tick_steps place us (is_tick_due ticked.old us))) }
+    requires own { S.is_of desk.now place own.old }
+    requires left { 2 ≤ S.left own.old }
+    ensures own { S.is_of desk.now place own.new }
+    ensures left { S.left own.old ≤ S.left own.new + 2 }
+    ensures gains { IfNone result (Goes (Some S.given) (L.knows link.old) (holds (S.list own.old) (L.taken link.old))
+        (holds (S.list own.new) (L.taken link.new)) (tick_steps place us (is_tick_due ticked.old us))) }
     ensures going { IfNone result ((last ≡ false) × (idle ≡ false)) }
     ensures ticked { IfNone result (ticked.new ≡ ticked_after ticked.old us) }
-    ensures ended { IfSome result (λ end. TurnEnds (Some N.given) (L.knows link.old) end (end_by Quiet last idle)
-        (holds (U.list own.old) (L.taken link.old)) (holds (U.list own.new) (L.taken link.new))
+    ensures ended { IfSome result (λ end. TurnEnds (Some S.given) (L.knows link.old) end (end_by Quiet last idle)
+        (holds (S.list own.old) (L.taken link.old)) (holds (S.list own.new) (L.taken link.new))
         (tick_steps place us (is_tick_due ticked.old us))) }
     ensures same { IsKept L.reads L.ends L.knows link.old link.new }
     ensures inside { is_link_end result ≡ false }
-    ensures full { result ≡ Some Ended.TraceFull → LacksRoom N.given (U.limit own.new) (U.list own.new) }
+    ensures full { result ≡ Some Ended.TraceFull → LacksRoom S.given (S.limit own.new) (S.list own.new) }
+    ensures stopped { result ≡ Some Ended.Stopped → S.broken own.new }
+    ensures fault { result ≡ Some Ended.WriteFault → S.broken own.new }
     ensures cause { RoseWhere (is_link_failure result) (L.faults link.old) (L.faults link.new) }
 {
     match step_tick(rt, desk, link, own, outs, place, us, ticked) {
@@ -124,9 +134,9 @@ fn is_idle(idle: u64, since: u64, us: u64) -> bool
 }
 
 /// Makes one turn: one moment, one read, the step of the datagram and a tick. It says why it is the last, if it is.
-pub fn turn<N: Name, T: StepTrace + Drop, K: Sink + Drop, L: Link, C: Clock, U: StepTrace, R: Wait>(
+pub fn turn<S: Shares<U>, U, L: Link, C: Clock, R: Wait>(
     rt: &R,
-    desk: &Mutex<Desk<N, T, K>>,
+    desk: &S,
     worker: &mut Worker<L, C, U>,
     outs: &mut Outs,
     place: u8,
@@ -136,24 +146,30 @@ pub fn turn<N: Name, T: StepTrace + Drop, K: Sink + Drop, L: Link, C: Clock, U: 
     since: &mut Option<u64>,
 ) -> Option<Ended>
     requires place { place < 16 }
+    requires own { S.is_of desk.now place worker.old.trace }
+    requires left { 2 ≤ S.left worker.old.trace }
+    ensures own { S.is_of desk.now place worker.new.trace }
+    ensures left { S.left worker.old.trace ≤ S.left worker.new.trace + 2 }
     ensures going { IfNone result ((f : Feed) (n : ℕ) (knows : Channel → Bool) (first : Holds)
         → IsTask f worker.old.opener place limits.now → last ≡ nat_le f.turns (n + 1)
-        → IsGoing (Some N.given) f n knows (L.knows worker.old.link) (C.moments worker.old.clock)
+        → IsGoing (Some S.given) f n knows (L.knows worker.old.link) (C.moments worker.old.clock)
         (L.reads worker.old.link)
-        first (holds (U.list worker.old.trace) (L.taken worker.old.link)) ticked.old since.old
-        → IsGoing (Some N.given) f (n + 1) knows (L.knows worker.new.link) (C.moments worker.new.clock)
+        first (holds (S.list worker.old.trace) (L.taken worker.old.link)) ticked.old since.old
+        → IsGoing (Some S.given) f (n + 1) knows (L.knows worker.new.link) (C.moments worker.new.clock)
         (L.reads worker.new.link)
-        first (holds (U.list worker.new.trace) (L.taken worker.new.link)) ticked.new since.new) }
+        first (holds (S.list worker.new.trace) (L.taken worker.new.link)) ticked.new since.new) }
     ensures ended { IfSome result (λ end. (f : Feed) (n : ℕ) (knows : Channel → Bool) (first : Holds)
         → IsTask f worker.old.opener place limits.now → last ≡ nat_le f.turns (n + 1)
-        → IsGoing (Some N.given) f n knows (L.knows worker.old.link) (C.moments worker.old.clock)
+        → IsGoing (Some S.given) f n knows (L.knows worker.old.link) (C.moments worker.old.clock)
         (L.reads worker.old.link)
-        first (holds (U.list worker.old.trace) (L.taken worker.old.link)) ticked.old since.old
-        → IsServed (Some N.given) f knows (L.knows worker.new.link) end (C.moments worker.new.clock) (L.reads worker.new.link)
-        first (holds (U.list worker.new.trace) (L.taken worker.new.link))) }
+        first (holds (S.list worker.old.trace) (L.taken worker.old.link)) ticked.old since.old
+        → IsServed (Some S.given) f knows (L.knows worker.new.link) end (C.moments worker.new.clock) (L.reads worker.new.link)
+        first (holds (S.list worker.new.trace) (L.taken worker.new.link))) }
     ensures more { IfNone result (last ≡ false) }
     ensures full { result ≡ Some Ended.TraceFull
-        → LacksRoom N.given (U.limit worker.new.trace) (U.list worker.new.trace) }
+        → LacksRoom S.given (S.limit worker.new.trace) (S.list worker.new.trace) }
+    ensures stopped { result ≡ Some Ended.Stopped → S.broken worker.new.trace }
+    ensures fault { result ≡ Some Ended.WriteFault → S.broken worker.new.trace }
     ensures session { worker.new.opener ≡ worker.old.opener }
     ensures same { worker.new.end ≡ worker.old.end }
     ensures ends { RoseWhere (is_link_end result) (L.ends worker.old.link) (L.ends worker.new.link) }
