@@ -10,8 +10,12 @@ use crate::pass::Pass;
 use crate::plays::{Draw, Look, PassOn};
 use crate::rule::{Acts, Chosen, Turned, View};
 use atomic_table::Seat;
+use std::hint::spin_loop;
 use std::marker::Brand;
 use std::sync::Wait;
+
+/// How often a thread looks before it sleeps: some microseconds.
+const LOOKS: u32 = 64;
 
 impl<E, X: Turned<E>> TurnLock<E, X> {
     /// Waits for its turn, and makes one step of the value. The pass has then seen all turns up to this one.
@@ -42,6 +46,16 @@ impl<E, X: Turned<E>> TurnLock<E, X> {
         self.table.shared.fetch_add::<Draw>(seat, 0, 1)
     }
 
+    // Looks a few times whether the ticket is served: a turn is mostly shorter than what it costs to sleep and be woken.
+    fn linger(&self, ticket: u64) {
+        for _ in 0..LOOKS {
+            if self.table.shared.peek(1) == ticket {
+                return;
+            }
+            spin_loop();
+        }
+    }
+
     // Waits until the ticket is served. The value is then the pass's.
     fn wait<R: Wait>(&self, rt: &R, seat: &mut Seat<Option<X>, View<E>>, ticket: u64)
         requires own { seat.old.table_id ≡ self.now.table.shared.table_id }
@@ -50,6 +64,7 @@ impl<E, X: Turned<E>> TurnLock<E, X> {
         ensures took { Took X.stands seat.old.me ticket seat.new.me }
     {
         for _ in rt.forever() {
+            self.linger(ticket);
             let served = self.table.shared.load::<Look<X>>(seat, 1);
             if served == ticket {
                 return;
