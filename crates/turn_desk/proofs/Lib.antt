@@ -1,0 +1,3 @@
+pub mod EndLemmas
+pub mod OwnLemmas
+pub mod SharedLemmas

@@ -1,0 +1,3 @@
+pub mod Asides
+pub mod Own
+pub mod Stands

@@ -1,0 +1,40 @@
+//! What the workers of links make their steps on.
+ghost use Rattle.turn_lock.specs.Turns.{entries};
+ghost use Rattle.turn_lock.specs.Passes.{turns_seen};
+
+use crate::desk::TurnDesk;
+use crate::shared::Shared;
+use outside_io::Sink;
+use outside_net::Full;
+use rist_desk::{Name, Shares, Step};
+use rist_ends::{Answer, Outs, Told};
+use std::sync::Wait;
+use turn_lock::Pass;
+
+impl<N: Name, K: Sink + Drop> Shares<Pass<Step, Shared<N, K>>> for TurnDesk<N, K> {
+    ghost use Rattle.std.specs.Prelude.{None};
+    ghost use Rattle.turn_lock.specs.Passes.{turns_left};
+    ghost use Rattle.turn_desk.specs.Own.{IsOf, own_list, HasSeenFault};
+
+    ghost given = { N.given };
+
+    ghost list = { own_list };
+
+    ghost limit = { λ pass. None };
+
+    ghost is_of = { IsOf };
+
+    ghost left = { turns_left };
+
+    ghost broken = { HasSeenFault };
+
+    fn step<R: Wait>(
+        &self,
+        rt: &R,
+        own: &mut Pass<Step, Shared<N, K>>,
+        told: &Told<'_>,
+        outs: &mut Outs,
+    ) -> Result<Answer, Full> {
+        Ok(self.step_in_turn(rt, own, told, outs))
+    }
+}
