@@ -160,7 +160,7 @@ full_or_failed : (b : Bool) → last_by b lasts.Full ≡ lasts.Told → ⊥
 full_or_failed true e = absurd (cc (e))
 full_or_failed false e = absurd (cc (e))
 
-whole_end : (given : Given) (d new : DeskState) (failed : Bool) (r : Result Answer Full) (outs : Outs) → IsDesk given d
+pub whole_end : (given : Given) (d new : DeskState) (failed : Bool) (r : Result Answer Full) (outs : Outs) → IsDesk given d
     → causes.has_failed r ≡ is_full d.limit d.kept
     → IfOk r (λ answer. new.kept ≡ option_map (steps_with (step_after end_told (outcome_with answer outs))) d.kept)
     → AllStands given new → last_of failed r ≡ lasts.Told → IsWhole given d.kept new.kept new.contents

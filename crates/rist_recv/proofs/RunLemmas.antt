@@ -91,15 +91,15 @@ all_served {L} {C} {U} given moments links tells limits ws later served link was
 
 -- workers in seats have done nothing yet
 pub all_new : {L C U : Type 0} (tells : TraceTells U) (s : Setup) (seats : List (Seat U)) (ws : List (Worker L C U))
-    → map seat_of ws ≡ seats → All (IsSeat tells.list tells.limit s.session s.keep) seats → All is_unended ws → All (IsNewWorker s) (map (told_by tells) ws)
-all_new {L} {C} {U} tells s seats ws same are unended =
+    → map seat_of ws ≡ seats → s.tells ≡ is_some s.limit → All (IsSeat tells.list tells.limit s.session s.limit) seats → All is_unended ws → All (IsNewWorker s) (map (told_by tells) ws)
+all_new {L} {C} {U} tells s seats ws same told are unended =
     All-map (IsNewWorker s) (told_by tells) ws
     (λ place d less.
-    let seat : IsSeat tells.list tells.limit s.session s.keep (seat_of (slice_index_or ws place d)) =
-    subst (IsSeat tells.list tells.limit s.session s.keep) (get_or-map seat_of ws place d (seat_of d) less)
-    (subst (λ l. IsSeat tells.list tells.limit s.session s.keep (slice_index_or l place (seat_of d))) (sym same)
+    let seat : IsSeat tells.list tells.limit s.session s.limit (seat_of (slice_index_or ws place d)) =
+    subst (IsSeat tells.list tells.limit s.session s.limit) (get_or-map seat_of ws place d (seat_of d) less)
+    (subst (λ l. IsSeat tells.list tells.limit s.session s.limit (slice_index_or l place (seat_of d))) (sym same)
     (are place (seat_of d) (subst (λ l. place < length l) same (subst (λ n. place < n) (sym (length-map ws seat_of)) less)))) in
-    record { session = seat.session_is; list = seat.list_is; limit = seat.limit_is; unended = unended place d less })
+    record { session = seat.session_is; list = seat.list_is ∙ sym (ap no_steps told); limit = seat.limit_is; unended = unended place d less })
 
 -- the counts of a receiver that came to its end
 pub counted : (given : Given) (desk : DeskState) (counts : Counts) (before : Option (List Step)) → desk.kept ≡ option_map (λ steps. steps ++ the_end ∷ []) before
@@ -115,10 +115,15 @@ counted given desk counts before ended settings same stands steps told =
     (subst (λ l. AreCountsOf desk.receiver.counts l (history_of (reverse steps))) (ap (λ x. x.limits) settings)
     (there.receiver.counts (λ failed. absurd (cc (at_end, failed)))))
 
--- traces that keep steps tell them
-pub none_told : (keep : Option ℕ) → is_some (no_steps keep) ≡ is_some keep
-none_told None = refl
-none_told (Some n) = refl
+-- a list that holds nothing is told where it is
+pub none_told : (tells : Bool) → is_some (no_steps tells) ≡ tells
+none_told true = refl
+none_told false = refl
+
+-- traces that tell have a limit
+pub kept_sure : {P : Type 0} (keep : Option ℕ) → keep ≡ None → is_some keep ≡ true → P
+kept_sure None none tells = absurd (cc (tells))
+kept_sure (Some n) none tells = absurd (cc (none))
 
 -- a desk that was given this, by what made it
 pub same_given : (given : Given) (tells : Bool) → given.tells_steps ≡ tells → given ≡ record given { tells_steps = tells }

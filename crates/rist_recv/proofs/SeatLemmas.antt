@@ -1,6 +1,6 @@
 -- Workers that are set into seats, the last one first.
 use Rattle.std.proofs.Common.{◌≡◌, ◌+◌, ◌++◌, ◌∷◌, ◌∙◌, List, [], length, map, reverse, take, refl, ap, sym, append_assoc, length-append}
-use Rattle.std.specs.Prelude.{ℕ, Bool, true, false, Option, None, Some, Result, Ok, Err, IsOk, is_ok, if◌then◌else◌}
+use Rattle.std.specs.Prelude.{ℕ, Bool, true, false, Option, None, Some, is_some, Result, Ok, Err, IsOk, is_ok, if◌then◌else◌}
 use Rattle.rist_desk.specs.declared.step.Step.{Step}
 use Rattle.rist_recv.specs.Setup.{no_steps}
 use Rattle.std.proofs.lemmas.List.{map-append}
@@ -33,9 +33,9 @@ pub one_less : {X : Type 0} (old new : List X) (x : X) → old ≡ new ++ x ∷ 
 one_less old new x popped = ap length popped ∙ length-append new (x ∷ [])
 
 -- a new trace of a kind tells just what one that keeps so many steps does
-pub new_list : (told : Bool) (room : ℕ) (list : Option (List Step)) (limit : Option ℕ) → list ≡ (if told then Some [] else None) → limit ≡ (if told then Some room else None) → list ≡ no_steps limit
-new_list true room list limit is are = is ∙ sym (ap no_steps are)
-new_list false room list limit is are = is ∙ sym (ap no_steps are)
+pub new_list : (told : Bool) (room : ℕ) (list : Option (List Step)) (limit : Option ℕ) → list ≡ (if told then Some [] else None) → limit ≡ (if told then Some room else None) → list ≡ no_steps (is_some limit)
+new_list true room list limit is are = is ∙ sym (ap (λ (l : Option ℕ). no_steps (is_some l)) are)
+new_list false room list limit is are = is ∙ sym (ap (λ (l : Option ℕ). no_steps (is_some l)) are)
 
 -- a front that was lent out, and came back as another one
 front_of : {A : Type 0} (ys rest : List A) → take (length ys) (ys ++ rest) ≡ ys

@@ -5,4 +5,5 @@ pub mod Setup
 pub mod Workers
 pub mod Run
 pub mod Text
+pub mod Turns
 pub mod Inside

@@ -1,10 +1,12 @@
 -- What a run of receiving leaves, by what its objects tell.
-use Rattle.std.specs.Prelude.{◌≡◌, ℕ, List, map, reverse, length, slice_get, true, false, Option, Some, None, is_some}
+use Rattle.std.specs.Prelude.{◌≡◌, ◌≢◌, ◌⊎◌, ℕ, List, map, reverse, length, slice_get, true, false, Option, Some, None, is_some}
 use Rattle.std.specs.List.{All, concat}
-use Rattle.outside_io.specs.Causes.{RoseWhere}
+use Rattle.outside_io.specs.Causes.{Rose, RoseWhere}
 use Rattle.receiver_rules.specs.Sent.{SentStream, Delivery, HasSteadyTimestamps, AreDeliveriesOf}
 use Rattle.rist_ends.specs.declared.counts.Counts.{Counts}
 use Rattle.rist_ends.specs.Counts.{AreCountsOf}
+use Rattle.rist_compare.specs.declared.tear.Tear.{Tear}
+use Rattle.rist_desk.specs.declared.ended.Ended.TheVariants as ends
 use Rattle.rist_desk.specs.declared.step.Step.{Step}
 use Rattle.rist_desk.specs.declared.worker.Limits.{Limits}
 use Rattle.rist_desk.specs.declared.worker.Worker.{Worker}
@@ -57,9 +59,17 @@ EndsAs endings.Done given desk workers counts =
 -- a worker that has done nothing yet
 pub record IsNewWorker {L C : Type 0} (s : Setup) (w : Worker L C ToldTrace) : Type 0 where
   pub session : w.opener ≡ s.session
-  pub list : w.trace.list ≡ no_steps s.keep
-  pub limit : w.trace.limit ≡ s.keep
+  pub list : w.trace.list ≡ no_steps s.tells
+  pub limit : w.trace.limit ≡ s.limit
   pub unended : w.end ≡ None
+
+-- Where the steps are told without a limit, they are one history: no list was full or torn, and a worker ended as Stopped
+-- or WriteFault only where a write of the sink failed.
+pub record IsSure {L C : Type 0} (workers : List (Worker L C ToldTrace)) (faults_were faults_are : ℕ) (ending : Ending) : Type 0 where
+  pub room : ending ≢ endings.TraceFull
+  pub whole : (tear : Tear) → ending ≢ endings.Torn tear
+  pub broken : (link : ℕ) (w : Worker L C ToldTrace) → slice_get workers link ≡ Some w
+      → (w.end ≡ Some ends.Stopped) ⊎ (w.end ≡ Some ends.WriteFault) → Rose faults_were faults_are
 
 -- Links and clocks were served, each by a worker, and the desk that they shared stands for its steps, where it keeps
 -- them. The sink told this before and tells that now, and so did its count of failed writes.
@@ -79,7 +89,7 @@ pub record Receives {L C : Type 0} (moments : C → Option (ℕ → ℕ)) (tells
   -- steps
   pub served : (link : ℕ) (was is : Worker L C ToldTrace) → slice_get were link ≡ Some was
       → slice_get are link ≡ Some is → ServesOn (given_to s contents_were faults_were) moments tells told_trace limits link was is
-  pub tells_steps : is_some desk.kept ≡ is_some s.keep
+  pub tells_steps : is_some desk.kept ≡ s.tells
   pub contents : desk.contents ≡ contents_are
   pub faults : desk.faults ≡ faults_are
   -- however it ends, the kept list is a legal history of the receiver, and the sink holds what it releases
@@ -88,3 +98,4 @@ pub record Receives {L C : Type 0} (moments : C → Option (ℕ → ℕ)) (tells
   -- a write failed exactly where the sink's count rose
   pub fault : RoseWhere (is_write_fault ending) faults_were faults_are
   pub ends : EndsAs ending (given_to s contents_were faults_were) desk are counts
+  pub sure : s.limit ≡ None → s.tells ≡ true → IsSure are faults_were faults_are ending

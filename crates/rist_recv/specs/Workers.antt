@@ -1,5 +1,6 @@
 -- The parts of a worker, and a worker as far as it tells.
 use Rattle.std.specs.Prelude.{◌≡◌, ℕ, List, Option, None}
+use Rattle.rist_wire.specs.declared.session.Session.{Session}
 use Rattle.rist_desk.specs.declared.step.Step.{Step}
 use Rattle.rist_desk.specs.declared.worker.Worker.{Worker}
 use Rattle.rist_desk.specs.Serving.{TraceTells}
@@ -13,7 +14,15 @@ link_of w = w.link
 abbrev pub clock_of : {L C U : Type 0} → Worker L C U → C
 clock_of w = w.clock
 
--- what it has beside them
+-- its opener's session
+abbrev pub opener_of : {L C U : Type 0} → Worker L C U → Session
+opener_of w = w.opener
+
+-- what is its own
+abbrev pub trace_of : {L C U : Type 0} → Worker L C U → U
+trace_of w = w.trace
+
+-- what it has beside its link and its clock
 abbrev pub seat_of : {L C U : Type 0} → Worker L C U → Seat U
 seat_of w = record { opener = w.opener; trace = w.trace }
 

@@ -4,7 +4,7 @@ ghost use Rattle.std.specs.List.{All};
 ghost use Rattle.rist_wire.specs.Session.{IsSession};
 ghost use Rattle.rist_reporter.specs.Reporter.{IsPaired};
 ghost use Rattle.rist_ends.specs.Settings.{IsInRange};
-ghost use Rattle.rist_recv.specs.Setup.{IsSeat, IsMade, setup_made, setup_of};
+ghost use Rattle.rist_recv.specs.Setup.{IsSeat, IsMade, setup_kept, setup_of};
 
 use outside_io::NoMemory;
 use outside_net::{Kept, Quiet};
@@ -111,7 +111,7 @@ pub fn make<T: MadeTrace + Drop, L: Drop, C: Drop>(
     requires session { IsSession session.now }
     requires paired { IsPaired settings.now.muted (record { session = session.now; sealer = sealer }) }
     ensures setup { IfOk result (λ made. setup_of T.limit made
-        ≡ setup_made settings.now session.now sealer (if T.told then Some keep else None)) }
+        ≡ setup_kept settings.now session.now sealer (if T.told then Some keep else None)) }
     ensures made { IfOk result (λ made. IsMade T.list T.limit count made) }
 {
     Ok(Made {

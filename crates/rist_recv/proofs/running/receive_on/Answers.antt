@@ -5,7 +5,7 @@ use Rattle.std.specs.Prelude.{slice_index_or, is_some}
 use Rattle.rist_desk.specs.Desk.{DeskState, Given, StandsFor, state_of}
 use Rattle.rist_desk.specs.Serving.{LinkTells, ServesOn, TraceTells}
 use Rattle.rist_desk.specs.declared.step.Step.{Step}
-use Rattle.rist_recv.proofs.RunLemmas.{Finds, all_new, all_served, clocks_told, ends_as, exactly, links_told, none_told, same_given}
+use Rattle.rist_recv.proofs.RunLemmas.{Finds, all_new, all_served, clocks_told, ends_as, exactly, kept_sure, links_told, none_told, same_given}
 use Rattle.rist_recv.proofs.SeatLemmas.{put_front}
 use Rattle.rist_recv.specs.Receiving.{given_by}
 use Rattle.rist_recv.specs.Run.{EndsAs}
@@ -23,7 +23,7 @@ returns-clause-work g c =
     let tells : LinkTells g.row.L.Denot = record { reads = g.L.Link.reads; taken = g.L.Link.taken; knows = g.L.Link.knows; ends = g.L.Link.ends; faults = g.L.Link.faults } in
     let many : length later ≡ length c.seated-workers.result.items = c.receive-received.auto.workers ∙ ap length c.deref_mut.ensures.value in
     let given : Given = given_by (state_of made.receiver (g.T.Trace.list made.trace) (g.T.Trace.limit made.trace) (g.K.Sink.contents c.args.sink) (g.K.Sink.faults c.args.sink)) in
-    let told : is_some (g.T.Trace.list made.trace) ≡ is_some (g.T.Trace.limit made.trace) = ap is_some c.requires.made.list_is ∙ none_told (g.T.Trace.limit made.trace) in
+    let told : is_some (g.T.Trace.list made.trace) ≡ is_some (g.T.Trace.limit made.trace) = ap is_some c.requires.made.list_is ∙ none_told (is_some (g.T.Trace.limit made.trace)) in
     let same : given ≡ given_to (setup_of g.T.Trace.limit made) (g.K.Sink.contents c.args.sink) (g.K.Sink.faults c.args.sink) = same_given given (is_some (g.T.Trace.limit made.trace)) told in
     let stands : (steps : List Step) → desk.kept ≡ Some steps → StandsFor given desk (reverse steps) = c.receive-received.ensures.stands in
     let finds : Finds trace r.ending given desk later = record {
@@ -39,7 +39,7 @@ returns-clause-work g c =
       desk = desk;
       links_had = links_told trace c.seated-workers.result.items ∙ c.seated-workers.ensures.links;
       clocks_had = clocks_told trace c.seated-workers.result.items ∙ c.seated-workers.ensures.clocks;
-      begun = all_new trace (setup_of g.T.Trace.limit made) made.seats.items c.seated-workers.result.items c.seated-workers.ensures.seats c.requires.made.seats c.seated-workers.ensures.ends;
+      begun = all_new trace (setup_of g.T.Trace.limit made) made.seats.items c.seated-workers.result.items c.seated-workers.ensures.seats refl c.requires.made.seats c.seated-workers.ensures.ends;
       links_have = links_told trace later ∙ (ap (map link_of) (sym (put_front _ _ _ (sym c.deref_mut.ensures.len ∙ sym c.receive-received.auto.workers))) ∙ sym c.unseated.ensures.links);
       clocks_have = clocks_told trace later ∙ (ap (map clock_of) (sym (put_front _ _ _ (sym c.deref_mut.ensures.len ∙ sym c.receive-received.auto.workers))) ∙ sym c.unseated.ensures.clocks);
       as_many = length-map later (told_by trace) ∙ (many ∙ sym (length-map c.seated-workers.result.items (told_by trace)));
@@ -56,4 +56,5 @@ returns-clause-work g c =
       ends = subst (λ x. EndsAs r.ending x desk (map (told_by trace) later) c.counts.result) same
           (ends_as trace r.ending given desk later c.counts.result
           (exactly given desk _ c.counts.result c.requires.made.delay c.receive-received.ensures.settings c.counts.ensures.value stands) finds);
+      sure = kept_sure (g.T.Trace.limit made.trace);
     }
