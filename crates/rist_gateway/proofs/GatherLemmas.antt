@@ -4,13 +4,12 @@ use Rattle.std.proofs.lemmas.List.{append-nil, append_assoc, length-append, map-
 use Rattle.rist_desk.proofs.ListLemmas.{reverse_more}
 use Rattle.rist_desk.specs.declared.worker.Limits.{Limits}
 use Rattle.rist_desk.specs.declared.worker.Worker.{Worker}
-use Rattle.rist_desk.specs.Desk.{Given}
-use Rattle.rist_desk.specs.Serving.{LinkTells, TraceTells, ServesOn}
+use Rattle.rist_desk.specs.Serving.{LinkTells, MayServe}
 use Rattle.rist_gateway.specs.declared.part.Part.{Part}
 use Rattle.rist_gateway.specs.declared.part.Part.TheVariants as parts
 use Rattle.rist_gateway.specs.declared.side_worker.SideWorker.{SideWorker}
-use Rattle.rist_gateway.specs.Parts.{IsPlaced, ServesPart, receiving_part, sending_part}
-use Rattle.rist_gateway.specs.Sides.{ServesSide}
+use Rattle.rist_gateway.specs.Parts.{IsPlaced, LooksWith, MayBegin, MayLook, ServesPart, ServesWith, SharedTells}
+use Rattle.rist_gateway.specs.Inside.Sides.{receiving_part, sending_part}
 
 -- ---- lists that are moved, the last first
 
@@ -51,18 +50,18 @@ last_same xs ys x y e =
     (sym (reverse_twice xs) ∙ (ap reverse same.0 ∙ reverse_twice ys), same.1)
 
 -- some workers are in their list again, and these are left in the parts
-pub record Scattered {L C U D : Type 0} (ws here : List (Worker L C U)) (rest parts_left : List (Part L C U D)) : Type 0 where
+pub record Scattered {L C U D P : Type 0} (ws here : List (Worker L C U)) (rest parts_left : List (Part L C U D P)) : Type 0 where
   pub todo : List (Worker L C U)
   pub all : here ++ todo ≡ ws
   pub left : parts_left ≡ reverse rest ++ map receiving_part (reverse todo)
 
-pub scattered_none : {L C U D : Type 0} (ws : List (Worker L C U)) (rest all turned_all : List (Part L C U D)) → all ≡ map receiving_part ws ++ rest → turned_all ≡ reverse all → Scattered ws [] rest turned_all
+pub scattered_none : {L C U D P : Type 0} (ws : List (Worker L C U)) (rest all turned_all : List (Part L C U D P)) → all ≡ map receiving_part ws ++ rest → turned_all ≡ reverse all → Scattered ws [] rest turned_all
 scattered_none ws rest all turned_all is t = record { todo = ws; all = refl; left = t ∙ turned receiving_part ws rest all is }
 
 -- the last part is that of the next worker, who is taken
-pub scattered_step : {L C U D : Type 0} (ws here more : List (Worker L C U)) (rest old new : List (Part L C U D)) → length here < length ws → Scattered ws here rest old
-    → ((w : Worker L C U) (left : List (Part L C U D)) → old ≡ left ++ receiving_part w ∷ [] → (more ≡ here ++ w ∷ []) × (new ≡ left)) → (length more ≡ length here + 1) × Scattered ws more rest new
-scattered_step {L} {C} {U} {D} ws here more rest old new less s takes = by_todo s.todo s.all s.left
+pub scattered_step : {L C U D P : Type 0} (ws here more : List (Worker L C U)) (rest old new : List (Part L C U D P)) → length here < length ws → Scattered ws here rest old
+    → ((w : Worker L C U) (left : List (Part L C U D P)) → old ≡ left ++ receiving_part w ∷ [] → (more ≡ here ++ w ∷ []) × (new ≡ left)) → (length more ≡ length here + 1) × Scattered ws more rest new
+scattered_step {L} {C} {U} {D} {P} ws here more rest old new less s takes = by_todo s.todo s.all s.left
   where
     by_todo : (todo : List (Worker L C U)) → here ++ todo ≡ ws → old ≡ reverse rest ++ map receiving_part (reverse todo) → (length more ≡ length here + 1) × Scattered ws more rest new
     by_todo [] all left = absurd (omega (arith, less, ap length (sym all ∙ append-nil here)))
@@ -74,16 +73,16 @@ scattered_step {L} {C} {U} {D} ws here more rest old new less s takes = by_todo 
         (ap length t.0 ∙ length-append here (w ∷ []), record { todo = todo; all = ap (λ l. l ++ todo) t.0 ∙ (append_assoc here (w ∷ []) todo ∙ all); left = t.1 })
 
 -- the last part of those that end so
-pub last_part : {L C U D : Type 0} (old new left : List (Part L C U D)) (part : Part L C U D) (w : Worker L C U) → old ≡ new ++ part ∷ [] → old ≡ left ++ receiving_part w ∷ [] → (new ≡ left) × (part ≡ receiving_part w)
+pub last_part : {L C U D P : Type 0} (old new left : List (Part L C U D P)) (part : Part L C U D P) (w : Worker L C U) → old ≡ new ++ part ∷ [] → old ≡ left ++ receiving_part w ∷ [] → (new ≡ left) × (part ≡ receiving_part w)
 last_part old new left part w popped is = last_same new left part (receiving_part w) (sym popped ∙ is)
 
-pub no_part : {L C U D : Type 0} (old left : List (Part L C U D)) (w : Worker L C U) → old ≡ [] → old ≡ left ++ receiving_part w ∷ [] → ⊥
+pub no_part : {L C U D P : Type 0} (old left : List (Part L C U D P)) (w : Worker L C U) → old ≡ [] → old ≡ left ++ receiving_part w ∷ [] → ⊥
 no_part old [] w none is = cc (none, is)
 no_part old (p ∷ left) w none is = cc (none, is)
 
 -- all are in their list again
-pub scattered_all : {L C U D : Type 0} (ws here : List (Worker L C U)) (rest parts_left : List (Part L C U D)) → length ws ≤ length here → Scattered ws here rest parts_left → (here ≡ ws) × (parts_left ≡ reverse rest)
-scattered_all {L} {C} {U} {D} ws here rest parts_left many s = by_todo s.todo s.all s.left
+pub scattered_all : {L C U D P : Type 0} (ws here : List (Worker L C U)) (rest parts_left : List (Part L C U D P)) → length ws ≤ length here → Scattered ws here rest parts_left → (here ≡ ws) × (parts_left ≡ reverse rest)
+scattered_all {L} {C} {U} {D} {P} ws here rest parts_left many s = by_todo s.todo s.all s.left
   where
     by_todo : (todo : List (Worker L C U)) → here ++ todo ≡ ws → parts_left ≡ reverse rest ++ map receiving_part (reverse todo) → (here ≡ ws) × (parts_left ≡ reverse rest)
     by_todo [] all left = (sym (append-nil here) ∙ all, left ∙ append-nil (reverse rest))
@@ -101,71 +100,98 @@ here_below first more few = omega (arith, few)
 next_below : (first more : ℕ) → first + suc more ≤ 16 → first + 1 + more ≤ 16
 next_below first more few = omega (arith, few)
 
-pub placed_from : {L C U D : Type 0} (first : ℕ) (ws : List (Worker L C U)) (sides : List (SideWorker D)) → first + length ws ≤ 16
-    → (i : ℕ) (d : Part L C U D) → i < length (map receiving_part ws ++ map sending_part sides) → IsPlaced (get_or (map receiving_part ws ++ map sending_part sides) i d) (first + i)
+pub placed_from : {L C U D P : Type 0} (first : ℕ) (ws : List (Worker L C U)) (sides : List (SideWorker D P)) → first + length ws ≤ 16
+    → (i : ℕ) (d : Part L C U D P) → i < length (map receiving_part ws ++ map sending_part sides) → IsPlaced (get_or (map receiving_part ws ++ map sending_part sides) i d) (first + i)
 placed_from first (w ∷ ws) sides few zero d less = here_below first (length ws) few
 placed_from first (w ∷ ws) sides few (suc i) d less =
     subst (λ (n : ℕ). IsPlaced (get_or (map receiving_part ws ++ map sending_part sides) i d) n) (omega arith) (placed_from (first + 1) ws sides (next_below first (length ws) few) i d (omega (arith, less)))
 placed_from first [] (side ∷ sides) few zero d less = tt
 placed_from first [] (side ∷ sides) few (suc i) d less = placed_side first sides i d (omega (arith, less))
   where
-    placed_side : {L C U D : Type 0} (first : ℕ) (sides : List (SideWorker D)) (i : ℕ) (d : Part L C U D) → i < length (map (sending_part {L = L} {C = C} {U = U} {D = D}) sides) → IsPlaced (get_or (map sending_part sides) i d) (first + suc i)
+    placed_side : {L C U D P : Type 0} (first : ℕ) (sides : List (SideWorker D P)) (i : ℕ) (d : Part L C U D P) → i < length (map (sending_part {L = L} {C = C} {U = U} {D = D} {P = P}) sides) → IsPlaced (get_or (map sending_part sides) i d) (first + suc i)
     placed_side first (side ∷ sides) zero d less = tt
     placed_side first (side ∷ sides) (suc i) d less =
         subst (λ (n : ℕ). IsPlaced (get_or (map sending_part sides) i d) n) (omega arith) (placed_side (first + 1) sides i d (omega (arith, less)))
     placed_side first [] i d less = absurd (omega (arith, less))
 placed_from first [] [] few i d less = absurd (omega (arith, less))
 
+-- workers and side workers may begin, as parts
+pub may_from : {S L C U D P : Type 0} (tells : SharedTells S U P) (shared : S) (limits : Limits) (first : ℕ) (ws : List (Worker L C U)) (sides : List (SideWorker D P))
+    → ((i : ℕ) (d : Worker L C U) → i < length ws → MayServe tells.is_of tells.left shared limits (first + i) (get_or ws i d))
+    → ((i : ℕ) (d : SideWorker D P) → i < length sides → MayLook tells.sides shared limits (first + length ws + i) (get_or sides i d))
+    → (i : ℕ) (d : Part L C U D P) → i < length (map receiving_part ws ++ map sending_part sides)
+    → MayBegin tells shared limits (first + i) (get_or (map receiving_part ws ++ map sending_part sides) i d)
+may_from tells shared limits first (w ∷ ws) sides may look zero d less = may 0 w (omega arith)
+may_from tells shared limits first (w ∷ ws) sides may look (suc i) d less =
+    subst (λ (n : ℕ). MayBegin tells shared limits n (get_or (map receiving_part ws ++ map sending_part sides) i d)) (omega arith)
+    (may_from tells shared limits (first + 1) ws sides
+    (λ j e more. subst (λ (n : ℕ). MayServe tells.is_of tells.left shared limits n (get_or ws j e)) (omega arith) (may (suc j) e (omega (arith, more))))
+    (λ j e more. subst (λ (n : ℕ). MayLook tells.sides shared limits n (get_or sides j e)) (omega arith) (look j e more)) i d (omega (arith, less)))
+may_from tells shared limits first [] (side ∷ sides) may look zero d less = subst (λ (n : ℕ). MayLook tells.sides shared limits n side) (omega arith) (look 0 side (omega arith))
+may_from tells shared limits first [] (side ∷ sides) may look (suc i) d less =
+    subst (λ (n : ℕ). MayBegin tells shared limits n (get_or (map sending_part sides) i d)) (omega arith)
+    (may_from tells shared limits (first + 1) [] sides (λ j e more. absurd (omega (arith, more)))
+    (λ j e more. subst (λ (n : ℕ). MayLook tells.sides shared limits n (get_or sides j e)) (omega arith) (look (suc j) e (omega (arith, more)))) i d (omega (arith, less)))
+may_from tells shared limits first [] [] may look i d less = absurd (omega (arith, less))
+
 -- ---- what became of them
 
 -- side workers were served, as parts
-pub sides_served : {L C U D : Type 0} (given : Given) (moments : C → Option (ℕ → ℕ)) (ticks : D → Option (ℕ → ℕ)) (tells : LinkTells L) (trace : TraceTells U) (limits : Limits) (first : ℕ)
-    (sides : List (SideWorker D)) (new : List (Part L C U D)) → length new ≡ length sides
-    → ((i : ℕ) (d : Part L C U D) → i < length sides → ServesPart given moments ticks tells trace limits (first + i) (get_or (map sending_part sides) i d) (get_or new i d))
-    → (are : List (SideWorker D)) × (new ≡ map sending_part are) × (length are ≡ length sides)
-    × ((i : ℕ) (d : SideWorker D) → i < length sides → ServesSide ticks limits (get_or sides i d) (get_or are i d))
-sides_served given moments ticks tells trace limits first [] [] same all = ([], refl, refl, λ i d less. absurd (omega (arith, less)))
-sides_served given moments ticks tells trace limits first [] (p ∷ new) same all = absurd (omega (arith, same))
-sides_served given moments ticks tells trace limits first (side ∷ sides) [] same all = absurd (omega (arith, same))
-sides_served given moments ticks tells trace limits first (side ∷ sides) (parts.Receiving w ∷ new) same all = absurd (all 0 (parts.Receiving w) (omega arith))
-sides_served {L} {C} {U} {D} given moments ticks tells trace limits first (side ∷ sides) (parts.Sending t ∷ new) same all =
-    let rest = sides_served given moments ticks tells trace limits (first + 1) sides new (omega (arith, same))
-    (λ i d less. subst (λ (n : ℕ). ServesPart given moments ticks tells trace limits n (get_or (map sending_part sides) i d) (get_or new i d)) (omega arith) (all (suc i) d (omega (arith, less)))) in
+pub sides_served : {S L C U D P : Type 0} (tells : SharedTells S U P) (shared : S) (moments : C → Option (ℕ → ℕ)) (ticks : D → Option (ℕ → ℕ)) (links : LinkTells L) (limits : Limits) (first : ℕ)
+    (sides : List (SideWorker D P)) (new : List (Part L C U D P)) → length new ≡ length sides
+    → ((i : ℕ) (d : Part L C U D P) → i < length sides → ServesPart tells shared moments ticks links limits (first + i) (get_or (map sending_part sides) i d) (get_or new i d))
+    → (are : List (SideWorker D P)) × (new ≡ map sending_part are) × (length are ≡ length sides)
+    × ((i : ℕ) (d : SideWorker D P) → i < length sides → LooksWith tells.sides shared ticks limits (first + i) (get_or sides i d) (get_or are i d))
+sides_served tells shared moments ticks links limits first [] [] same all = ([], refl, refl, λ i d less. absurd (omega (arith, less)))
+sides_served tells shared moments ticks links limits first [] (p ∷ new) same all = absurd (omega (arith, same))
+sides_served tells shared moments ticks links limits first (side ∷ sides) [] same all = absurd (omega (arith, same))
+sides_served tells shared moments ticks links limits first (side ∷ sides) (parts.Receiving w ∷ new) same all = absurd (all 0 (parts.Receiving w) (omega arith))
+sides_served {S} {L} {C} {U} {D} {P} tells shared moments ticks links limits first (side ∷ sides) (parts.Sending t ∷ new) same all =
+    let rest = sides_served tells shared moments ticks links limits (first + 1) sides new (omega (arith, same))
+    (λ i d less. subst (λ (n : ℕ). ServesPart tells shared moments ticks links limits n (get_or (map sending_part sides) i d) (get_or new i d)) (omega arith) (all (suc i) d (omega (arith, less)))) in
     (t ∷ rest.0, ap (λ l. parts.Sending t ∷ l) rest.1, ap suc rest.2, each rest.0 rest.3)
   where
-    each : (are : List (SideWorker D)) → ((i : ℕ) (d : SideWorker D) → i < length sides → ServesSide ticks limits (get_or sides i d) (get_or are i d))
-        → (i : ℕ) (d : SideWorker D) → i < length (side ∷ sides) → ServesSide ticks limits (get_or (side ∷ sides) i d) (get_or (t ∷ are) i d)
+    each : (are : List (SideWorker D P)) → ((i : ℕ) (d : SideWorker D P) → i < length sides → LooksWith tells.sides shared ticks limits (first + 1 + i) (get_or sides i d) (get_or are i d))
+        → (i : ℕ) (d : SideWorker D P) → i < length (side ∷ sides) → LooksWith tells.sides shared ticks limits (first + i) (get_or (side ∷ sides) i d) (get_or (t ∷ are) i d)
     each are more zero d less = all 0 (parts.Sending t) (omega arith)
-    each are more (suc i) d less = more i d (omega (arith, less))
+    each are more (suc i) d less = subst (λ (n : ℕ). LooksWith tells.sides shared ticks limits n (get_or sides i d) (get_or are i d)) (omega arith) (more i d (omega (arith, less)))
 
 -- what became of workers and of side workers
-pub record Served {L C U D : Type 0} (given : Given) (moments : C → Option (ℕ → ℕ)) (ticks : D → Option (ℕ → ℕ)) (tells : LinkTells L) (trace : TraceTells U) (limits : Limits) (first : ℕ)
-    (ws : List (Worker L C U)) (sides : List (SideWorker D)) (new : List (Part L C U D)) : Type 0 where
+pub record Served {S L C U D P : Type 0} (tells : SharedTells S U P) (shared : S) (moments : C → Option (ℕ → ℕ)) (ticks : D → Option (ℕ → ℕ)) (links : LinkTells L) (limits : Limits) (first : ℕ)
+    (ws : List (Worker L C U)) (sides : List (SideWorker D P)) (new : List (Part L C U D P)) : Type 0 where
   pub workers : List (Worker L C U)
-  pub are : List (SideWorker D)
+  pub are : List (SideWorker D P)
   pub new_is : new ≡ map receiving_part workers ++ map sending_part are
   pub count : length workers ≡ length ws
   pub side_count : length are ≡ length sides
-  pub each : (i : ℕ) (d : Worker L C U) → i < length ws → ServesOn given moments tells trace limits (first + i) (get_or ws i d) (get_or workers i d)
-  pub each_side : (i : ℕ) (d : SideWorker D) → i < length sides → ServesSide ticks limits (get_or sides i d) (get_or are i d)
+  pub each : (i : ℕ) (d : Worker L C U) → i < length ws → ServesWith tells shared moments links limits (first + i) (get_or ws i d) (get_or workers i d)
+  pub each_side : (i : ℕ) (d : SideWorker D P) → i < length sides → LooksWith tells.sides shared ticks limits (first + length ws + i) (get_or sides i d) (get_or are i d)
 
-pub parts_served : {L C U D : Type 0} (given : Given) (moments : C → Option (ℕ → ℕ)) (ticks : D → Option (ℕ → ℕ)) (tells : LinkTells L) (trace : TraceTells U) (limits : Limits) (first : ℕ)
-    (ws : List (Worker L C U)) (sides : List (SideWorker D)) (new : List (Part L C U D)) → length new ≡ length (map (receiving_part {L = L} {C = C} {U = U} {D = D}) ws ++ map sending_part sides)
-    → ((i : ℕ) (d : Part L C U D) → i < length (map receiving_part ws ++ map sending_part sides)
-    → ServesPart given moments ticks tells trace limits (first + i) (get_or (map receiving_part ws ++ map sending_part sides) i d) (get_or new i d))
-    → Served given moments ticks tells trace limits first ws sides new
-parts_served {L} {C} {U} {D} given moments ticks tells trace limits first [] sides new same all =
-    let s = sides_served given moments ticks tells trace limits first sides new (same ∙ length_map sides) (λ i d less. all i d (subst (λ (n : ℕ). i < n) (sym (length_map sides)) less)) in
-    record { workers = []; are = s.0; new_is = s.1; count = refl; side_count = s.2; each = λ i d less. absurd (omega (arith, less)); each_side = s.3 }
+pub parts_served : {S L C U D P : Type 0} (tells : SharedTells S U P) (shared : S) (moments : C → Option (ℕ → ℕ)) (ticks : D → Option (ℕ → ℕ)) (links : LinkTells L) (limits : Limits) (first : ℕ)
+    (ws : List (Worker L C U)) (sides : List (SideWorker D P)) (new : List (Part L C U D P)) → length new ≡ length (map (receiving_part {L = L} {C = C} {U = U} {D = D} {P = P}) ws ++ map sending_part sides)
+    → ((i : ℕ) (d : Part L C U D P) → i < length (map receiving_part ws ++ map sending_part sides)
+    → ServesPart tells shared moments ticks links limits (first + i) (get_or (map receiving_part ws ++ map sending_part sides) i d) (get_or new i d))
+    → Served tells shared moments ticks links limits first ws sides new
+parts_served {S} {L} {C} {U} {D} {P} tells shared moments ticks links limits first [] sides new same all =
+    let s = sides_served tells shared moments ticks links limits first sides new (same ∙ length_map sides) (λ i d less. all i d (subst (λ (n : ℕ). i < n) (sym (length_map sides)) less)) in
+    record {
+      workers = [];
+      are = s.0;
+      new_is = s.1;
+      count = refl;
+      side_count = s.2;
+      each = λ i d less. absurd (omega (arith, less));
+      each_side = λ i d less. subst (λ (n : ℕ). LooksWith tells.sides shared ticks limits n (get_or sides i d) (get_or s.0 i d)) (omega arith) (s.3 i d less);
+    }
   where
-    length_map : (xs : List (SideWorker D)) → length (map (sending_part {L = L} {C = C} {U = U} {D = D}) xs) ≡ length xs
+    length_map : (xs : List (SideWorker D P)) → length (map (sending_part {L = L} {C = C} {U = U} {D = D} {P = P}) xs) ≡ length xs
     length_map [] = refl
     length_map (x ∷ xs) = ap suc (length_map xs)
-parts_served given moments ticks tells trace limits first (w ∷ ws) sides [] same all = absurd (omega (arith, same))
-parts_served given moments ticks tells trace limits first (w ∷ ws) sides (parts.Sending t ∷ new) same all = absurd (all 0 (parts.Sending t) (omega arith))
-parts_served {L} {C} {U} {D} given moments ticks tells trace limits first (w ∷ ws) sides (parts.Receiving v ∷ new) same all =
-    let rest = parts_served given moments ticks tells trace limits (first + 1) ws sides new (omega (arith, same))
-    (λ i d less. subst (λ (n : ℕ). ServesPart given moments ticks tells trace limits n (get_or (map receiving_part ws ++ map sending_part sides) i d) (get_or new i d)) (omega arith) (all (suc i) d (omega (arith, less)))) in
+parts_served tells shared moments ticks links limits first (w ∷ ws) sides [] same all = absurd (omega (arith, same))
+parts_served tells shared moments ticks links limits first (w ∷ ws) sides (parts.Sending t ∷ new) same all = absurd (all 0 (parts.Sending t) (omega arith))
+parts_served {S} {L} {C} {U} {D} {P} tells shared moments ticks links limits first (w ∷ ws) sides (parts.Receiving v ∷ new) same all =
+    let rest = parts_served tells shared moments ticks links limits (first + 1) ws sides new (omega (arith, same))
+    (λ i d less. subst (λ (n : ℕ). ServesPart tells shared moments ticks links limits n (get_or (map receiving_part ws ++ map sending_part sides) i d) (get_or new i d)) (omega arith) (all (suc i) d (omega (arith, less)))) in
     record {
       workers = v ∷ rest.workers;
       are = rest.are;
@@ -173,13 +199,13 @@ parts_served {L} {C} {U} {D} given moments ticks tells trace limits first (w ∷
       count = ap suc rest.count;
       side_count = rest.side_count;
       each = each rest.workers rest.each;
-      each_side = rest.each_side;
+      each_side = λ i d less. subst (λ (n : ℕ). LooksWith tells.sides shared ticks limits n (get_or sides i d) (get_or rest.are i d)) (omega arith) (rest.each_side i d less);
     }
   where
-    each : (are : List (Worker L C U)) → ((i : ℕ) (d : Worker L C U) → i < length ws → ServesOn given moments tells trace limits (first + 1 + i) (get_or ws i d) (get_or are i d))
-        → (i : ℕ) (d : Worker L C U) → i < length (w ∷ ws) → ServesOn given moments tells trace limits (first + i) (get_or (w ∷ ws) i d) (get_or (v ∷ are) i d)
+    each : (are : List (Worker L C U)) → ((i : ℕ) (d : Worker L C U) → i < length ws → ServesWith tells shared moments links limits (first + 1 + i) (get_or ws i d) (get_or are i d))
+        → (i : ℕ) (d : Worker L C U) → i < length (w ∷ ws) → ServesWith tells shared moments links limits (first + i) (get_or (w ∷ ws) i d) (get_or (v ∷ are) i d)
     each are more zero d less = all 0 (parts.Receiving v) (omega arith)
-    each are more (suc i) d less = subst (λ (n : ℕ). ServesOn given moments tells trace limits n (get_or ws i d) (get_or are i d)) (omega arith) (more i d (omega (arith, less)))
+    each are more (suc i) d less = subst (λ (n : ℕ). ServesWith tells shared moments links limits n (get_or ws i d) (get_or are i d)) (omega arith) (more i d (omega (arith, less)))
 
 -- none stands in a list that has no length
 pub none_of : {A : Type 0} (xs : List A) → length xs ≡ 0 → xs ≡ []

@@ -4,3 +4,4 @@ mod MoveLemmas
 mod OnwardLemmas
 mod RunLemmas
 mod SideLemmas
+mod TurnLemmas

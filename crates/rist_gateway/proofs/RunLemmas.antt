@@ -1,5 +1,6 @@
 -- A run's links and clocks, in their lists.
-use Rattle.std.proofs.Common.{◌≡◌, ◌∙◌, ℕ, zero, suc, ◌≤◌, List, [], ◌∷◌, ◌++◌, length, take, Bool, true, None, Some, refl, ap, subst, slice_get, arith}
+use Rattle.std.proofs.Common.{◌≡◌, ◌∙◌, ℕ, zero, suc, ◌≤◌, List, [], ◌∷◌, ◌++◌, length, take, Bool, true, None, Some, refl, ap, subst, slice_get, take-append-drop, drop, Result, Ok, Err, arith}
+use Rattle.std.specs.Prelude.{IfOk, OnErr}
 use Rattle.outside_io.specs.Causes.{RoseWhere}
 use Rattle.rist_gateway.specs.Onward.{OnwardState, IsOnward}
 
@@ -25,3 +26,17 @@ last_at {A} n xs all x is long = ap (λ l. slice_get l n) is ∙ at n xs long
     at zero (y ∷ xs) long = absurd (omega (arith, long))
     at (suc n) [] long = absurd (omega (arith, long))
     at (suc n) (y ∷ xs) long = at n xs (omega (arith, long))
+
+-- ---- a run that may be refused
+
+pub ok_both : {A E : Type 0} (r : Result A E) (P Q R : A → Type 0) → IfOk r P → IfOk r Q → ((x : A) → P x → Q x → R x) → IfOk r R
+ok_both (Ok x) P Q R p q both = both x p q
+ok_both (Err e) P Q R p q both = tt
+
+pub on_err : {A E : Type 0} (r : Result A E) (P Q : Type 0) → OnErr r P → (P → Q) → OnErr r Q
+on_err (Ok x) P Q p f = tt
+on_err (Err e) P Q p f = f p
+
+-- both parts of a list, as they were
+pub together : {A : Type 0} (n : ℕ) (all front back : List A) → front ≡ take n all → back ≡ drop n all → front ++ back ≡ all
+together n all front back a b = ap (λ (l : List _). l ++ back) a ∙ (ap (λ (l : List _). take n all ++ l) b ∙ take-append-drop n all)

@@ -1,3 +1,4 @@
 -- What private contracts cite.
 pub mod Moves
+pub mod Sides
 pub mod Played

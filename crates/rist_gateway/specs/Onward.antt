@@ -3,10 +3,9 @@ use Rattle.std.specs.Prelude.{◌≡◌, ◌<◌, ◌≤◌, ℕ, List, [], leng
 use Rattle.outside_io.specs.Causes.{Rose}
 use Rattle.outside_io.specs.declared.channel.Channel.{Channel}
 use Rattle.outside_net.specs.Links.{Answer, Datagram}
-use Rattle.outside_io.specs.declared.profile.Profile.TheVariants.{Simple}
-use Rattle.seq_unwrap.specs.declared.width.Width.TheVariants.{W16}
 use Rattle.sender_rules.specs.Bonding.{Duplicate, link_count}
 use Rattle.rist_wire.specs.declared.session.Session.{Session}
+use Rattle.rist_wire.specs.Session.{no_session}
 use Rattle.rist_sender.specs.declared.send_bad.SendBad.{SendBad}
 use Rattle.rist_sender.specs.declared.send_bad.SendBad.TheVariants.{LinksDown}
 use Rattle.rist_sender.specs.Links.{Line}
@@ -173,7 +172,7 @@ nothing_first =
         first = 0;
         hold = 0;
         bonding = Duplicate 0;
-        session = record { profile = Simple; port = 0; pass = None; bits = 0; nulls = false; width = W16; full = false };
+        session = no_session;
         sealer = None;
         store = record { size = 0; packets = [] };
         time = 0;
@@ -183,7 +182,7 @@ nothing_first =
         reports = [];
         keepalives = [];
       };
-      opener = record { profile = Simple; port = 0; pass = None; bits = 0; nulls = false; width = W16; full = false };
+      opener = no_session;
       links = [];
       passed = passed_of None [];
       puts = 0;

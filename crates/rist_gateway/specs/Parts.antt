@@ -1,63 +1,90 @@
 -- What the threads of a gateway do.
-use Rattle.std.specs.Prelude.{◌≡◌, ◌<◌, ◌≤◌, ◌+◌, ℕ, List, [], ◌∷◌, length, map, reverse, slice_index_or, Option, None}
+use Rattle.std.specs.Prelude.{◌≡◌, ◌<◌, ◌≤◌, ◌+◌, ℕ, List, [], ◌∷◌, length, slice_index_or, Option, None}
+use Rattle.rist_desk.specs.declared.step.Step.{Step}
 use Rattle.rist_desk.specs.declared.worker.Limits.{Limits}
 use Rattle.rist_desk.specs.declared.worker.Worker.{Worker}
 use Rattle.rist_desk.specs.Desk.{Given}
-use Rattle.rist_desk.specs.Serving.{LinkTells, TraceTells, ServesOn}
+use Rattle.rist_desk.specs.Serving.{LinkTells, TraceTells, ServesOn, MayServe, Leaves}
 use Rattle.rist_gateway.specs.declared.part.Part.{Part}
 use Rattle.rist_gateway.specs.declared.part.Part.TheVariants as parts
 use Rattle.rist_gateway.specs.declared.side_worker.SideWorker.{SideWorker}
 use Rattle.rist_gateway.specs.Sides.{ServesSide}
 
 -- at most sixteen links are received on, and they stand first
-abbrev pub IsPlaced : {L C U D : Type 0} → Part L C U D → ℕ → Type 0
+abbrev pub IsPlaced : {L C U D P : Type 0} → Part L C U D P → ℕ → Type 0
 IsPlaced (parts.Receiving worker) place = place < 16
 IsPlaced (parts.Sending side) place = Unit {0}
 
--- a worker served its link on this desk, or a side worker looked at its own
-abbrev pub ServesPart : {L C U D : Type 0} → Given → (C → Option (ℕ → ℕ)) → (D → Option (ℕ → ℕ)) → LinkTells L → TraceTells U → Limits → ℕ → Part L C U D → Part L C U D → Type 0
-ServesPart given moments ticks tells trace limits place (parts.Receiving old) (parts.Receiving new) = ServesOn given moments tells trace limits place old new
-ServesPart given moments ticks tells trace limits place (parts.Receiving old) (parts.Sending new) = ⊥
-ServesPart given moments ticks tells trace limits place (parts.Sending old) (parts.Receiving new) = ⊥
-ServesPart given moments ticks tells trace limits place (parts.Sending old) (parts.Sending new) = ServesSide ticks limits old new
+-- what side workers have of their own tells: of what it is, under which number, with no step made, and for how many
+-- looks it is good
+pub record SidesTell (S P : Type 0) : Type 1 where
+  pub is_of : S → ℕ → P → Type 0
+  pub left : P → ℕ
 
--- ---- side workers, the last one first
+-- what is shared was made with this, and what its workers and its side workers have of their own tells so much
+pub record SharedTells (S U P : Type 0) : Type 1 where
+  pub given : Given
+  pub trace : TraceTells U
+  pub is_of : S → ℕ → U → Type 0
+  pub left : U → ℕ
+  pub broken : U → Type 0
+  pub sides : SidesTell S P
 
--- what a worker is among the parts
-abbrev pub receiving_part : {L C U D : Type 0} → Worker L C U → Part L C U D
-receiving_part worker = parts.Receiving worker
+-- these, as a trait has them
+abbrev pub sides_as : {S P : Type 0} → (S → ℕ → P → Type 0) → (P → ℕ) → SidesTell S P
+sides_as is_of left = record { is_of = is_of; left = left }
 
--- what a side worker is among them
-abbrev pub sending_part : {L C U D : Type 0} → SideWorker D → Part L C U D
-sending_part side = parts.Sending side
+abbrev pub shared_as : {S U P : Type 0} → Given → (U → Option (List Step)) → (U → Option ℕ) → (S → ℕ → U → Type 0) → (U → ℕ) → (U → Type 0) → SidesTell S P → SharedTells S U P
+shared_as given list limit is_of left broken sides =
+    record {
+      given = given;
+      trace = record { list = list; limit = limit };
+      is_of = is_of;
+      left = left;
+      broken = broken;
+      sides = sides;
+    }
 
--- the parts of these side workers
-abbrev pub sending_parts : {L C U D : Type 0} → List (SideWorker D) → List (Part L C U D)
-sending_parts sides = reverse (map sending_part sides)
+-- a side worker may make all its turns, of one look each
+pub record MayLook {S D P : Type 0} (tells : SidesTell S P) (shared : S) (limits : Limits) (number : ℕ) (w : SideWorker D P) : Type 0 where
+  pub own : tells.is_of shared number w.pass
+  pub left_is : limits.turns ≤ tells.left w.pass
+
+-- a part may make all its turns
+abbrev pub MayBegin : {S L C U D P : Type 0} → SharedTells S U P → S → Limits → ℕ → Part L C U D P → Type 0
+MayBegin tells shared limits place (parts.Receiving w) = MayServe tells.is_of tells.left shared limits place w
+MayBegin tells shared limits place (parts.Sending w) = MayLook tells.sides shared limits place w
+
+-- a worker served its link on what is shared
+pub record ServesWith {S L C U P : Type 0} (tells : SharedTells S U P) (shared : S) (moments : C → Option (ℕ → ℕ)) (links : LinkTells L) (limits : Limits) (place : ℕ) (old new : Worker L C U) : Type 0 where
+  pub on : ServesOn tells.given moments links tells.trace limits place old new
+  pub leaves : Leaves tells.is_of tells.broken shared place new
+
+-- a side worker looked at its link, and no step was made with its pass
+pub record LooksWith {S D P : Type 0} (tells : SidesTell S P) (shared : S) (moments : D → Option (ℕ → ℕ)) (limits : Limits) (number : ℕ) (old new : SideWorker D P) : Type 0 where
+  pub looks : ServesSide moments limits old new
+  pub own : tells.is_of shared number new.pass
+
+-- a worker served its link, or a side worker looked at its own
+abbrev pub ServesPart : {S L C U D P : Type 0} → SharedTells S U P → S → (C → Option (ℕ → ℕ)) → (D → Option (ℕ → ℕ)) → LinkTells L → Limits → ℕ → Part L C U D P → Part L C U D P → Type 0
+ServesPart tells shared moments ticks links limits place (parts.Receiving old) (parts.Receiving new) = ServesWith tells shared moments links limits place old new
+ServesPart tells shared moments ticks links limits place (parts.Receiving old) (parts.Sending new) = ⊥
+ServesPart tells shared moments ticks links limits place (parts.Sending old) (parts.Receiving new) = ⊥
+ServesPart tells shared moments ticks links limits place (parts.Sending old) (parts.Sending new) = LooksWith tells.sides shared ticks limits place old new
+
+-- ---- side workers as far as they tell
 
 -- one for each of these clocks, at the places from this one on; none has looked at its link yet
-abbrev pub side_workers : {D : Type 0} → ℕ → List D → List (SideWorker D)
+abbrev pub side_workers : {D : Type 0} → ℕ → List D → List (SideWorker D (Unit {0}))
 side_workers place [] = []
-side_workers place (clock ∷ clocks) = (record { link = place; clock = clock; end = None }) ∷ side_workers (place + 1) clocks
+side_workers place (clock ∷ clocks) = (record { link = place; clock = clock; pass = tt; end = None }) ∷ side_workers (place + 1) clocks
 
 -- the clock of a side worker
-abbrev pub side_clock : {D : Type 0} → SideWorker D → D
+abbrev pub side_clock : {D P : Type 0} → SideWorker D P → D
 side_clock side = side.clock
 
--- parts are those of side workers, with room for so many workers
-pub record HasRoom {L C U D : Type 0} (items : List (Part L C U D)) (capacity count : ℕ) : Type 0 where
-  pub sides : List (SideWorker D)
-  pub parts : items ≡ sending_parts sides
-  pub room : count + length sides ≤ capacity
-
 -- each of the side workers looked at its link
-pub record LookedAt {D : Type 0} (moments : D → Option (ℕ → ℕ)) (limits : Limits) (were are : List (SideWorker D)) : Type 0 where
+pub record LookedAt {D P : Type 0} (moments : D → Option (ℕ → ℕ)) (limits : Limits) (were are : List (SideWorker D P)) : Type 0 where
   pub count : length are ≡ length were
-  pub looked : (place : ℕ) (d : SideWorker D) → place < length were
+  pub looked : (place : ℕ) (d : SideWorker D P) → place < length were
       → ServesSide moments limits (slice_index_or were place d) (slice_index_or are place d)
-
--- those of which these are the parts did, and those are the parts of what they came to
-abbrev pub LookAtLinks : {L C U D : Type 0} → (D → Option (ℕ → ℕ)) → Limits → List (Part L C U D) → List (Part L C U D) → Type 0
-LookAtLinks {L} {C} {U} {D} moments limits old new =
-    (were : List (SideWorker D)) → old ≡ sending_parts were
-    → (are : List (SideWorker D)) × (new ≡ sending_parts are) × LookedAt moments limits were are

@@ -55,7 +55,7 @@ tells_of line = record { reads = line.reads; taken = line.taken; knows = line.kn
 -- the clocks of the links that are sent on were those of side workers, one for each link at its place, and each looked
 -- at its link
 pub record AreLookedAt {C : Type 0} (moments : C → Option (ℕ → ℕ)) (limits : Limits) (clocks_were clocks_are : List C) : Type 0 where
-  pub are : List (SideWorker C)
+  pub are : List (SideWorker C (Unit {0}))
   pub clocks_have : map side_clock are ≡ clocks_are
   pub looked : LookedAt moments limits (side_workers 0 clocks_were) are
 
@@ -76,8 +76,7 @@ pub record SendsOnward {L C : Type 0} (moments : C → Option (ℕ → ℕ)) (li
   pub onward : IsOnward first last
 
 -- A run over so many links that are received on, with the others sent on. What was received is played out to the
--- sender: the octets that it took are those that the receiver's steps release, where they are kept. Counts are the
--- receiver's.
+-- sender: the octets that it took are those that the steps of the receiver's history release. Counts are the receiver's.
 pub record Forwards {L C : Type 0} (moments : C → Option (ℕ → ℕ)) (line : Line L) (s : GateSetup) (limits : Limits) (inputs : ℕ)
     (links_were links_are : List L) (clocks_were clocks_are : List C) (counts : Counts) (ending : GateEnding) : Type 0 where
   pub first : OnwardState

@@ -64,7 +64,7 @@ pub record IsSideServed (limits : Limits) (moments : ℕ → ℕ) (end : SideEnd
   pub took : left ≡ Some (from (length before + 1) moments)
 
 -- a side worker ended
-pub record ServesSide {C : Type 0} (moments : C → Option (ℕ → ℕ)) (limits : Limits) (old new : SideWorker C) : Type 0 where
+pub record ServesSide {C P : Type 0} (moments : C → Option (ℕ → ℕ)) (limits : Limits) (old new : SideWorker C P) : Type 0 where
   pub end : SideEnded
   pub ended : new.end ≡ Some end
   pub link : new.link ≡ old.link

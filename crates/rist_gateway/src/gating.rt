@@ -1,52 +1,61 @@
-//! Links served on both sides of a desk.
-ghost use Rattle.std.specs.Prelude.{◌≡◌, ◌<◌, ◌≤◌, ◌^◌, ℕ, Some, IfNone, false, length, slice_index_or};
-ghost use Rattle.rist_desk.specs.Serving.{LinkTells, TraceTells};
-ghost use Rattle.rist_gateway.specs.Parts.{IsPlaced, ServesPart};
-ghost use Rattle.rist_gateway.specs.Sides.{IsSideServed, ServesSide, SideTurn};
+//! Links served on both sides of what is shared.
+ghost use Rattle.std.specs.Prelude.{◌≡◌, ◌<◌, ◌≤◌, ◌+◌, ◌^◌, ℕ, Some, IfNone, false, length, slice_index_or};
+ghost use Rattle.rist_gateway.specs.Parts.{IsPlaced, LooksWith, MayBegin, MayLook, ServesPart, shared_as, sides_as};
+ghost use Rattle.rist_gateway.specs.Sides.{IsSideServed, SideTurn};
 
 use crate::found::{Found, end_by, found_after, is_quiet};
 use crate::part::Part;
+use crate::shares_beside::SharesBeside;
 use crate::side_worker::{SideEnded, SideWorker};
 use outside_net::{Clock, Link};
-use rist_desk::{Beside, Desk, Limits, Name, StepTrace, serve_one};
+use rist_desk::{Limits, Shares, serve_one};
+use std::sync::Wait;
 use std::sync::atomic::AtomicU64;
-use std::sync::{Mutex, Wait};
 use std::thread;
 use std::thread::Threads;
 use std::time::Duration;
 
-/// Waits for half a millisecond. The desk isn't locked meanwhile.
+/// Waits for half a millisecond. Nothing that is shared is held meanwhile.
 fn pause<R: Wait>(rt: &R) {
     AtomicU64::new(0).park_timeout(rt, 0, Duration::from_micros(500));
 }
 
-/// Makes one turn: one moment, and one aside under the lock. It says why it is the last, if it is.
-fn side_turn<N: Name, T: StepTrace + Drop, K: Beside + Drop, C: Clock, R: Wait>(
+/// Makes one turn: one moment, and one aside. It says why it is the last, if it is.
+fn side_turn<S: SharesBeside<P>, P, C: Clock, R: Wait>(
     rt: &R,
-    desk: &Mutex<Desk<N, T, K>>,
-    side: &mut SideWorker<C>,
+    desk: &S,
+    side: &mut SideWorker<C, P>,
     idle: u64,
     last: bool,
     found: &mut Option<Found>,
 ) -> Option<SideEnded>
+    requires own { (number : ℕ) × S.is_beside desk.now number side.old.pass }
+    requires left { 1 ≤ S.looks_left side.old.pass }
+    ensures own { (number : ℕ) → S.is_beside desk.now number side.old.pass
+        → S.is_beside desk.now number side.new.pass }
+    ensures left { S.looks_left side.old.pass ≤ S.looks_left side.new.pass + 1 }
     ensures made { SideTurn (C.moments side.old.clock) (C.moments side.new.clock) idle last found.old found.new result }
     ensures link { side.new.link ≡ side.old.link }
     ensures more { IfNone result (last ≡ false) }
 {
     let us = side.clock.now();
-    let looked = desk.lock(rt).aside(us, side.link);
+    let looked = desk.aside(rt, &mut side.pass, us, side.link);
     *found = found_after(*found, us, looked);
     end_by(looked, last, is_quiet(idle, *found, us))
 }
 
 /// Makes turns up to the last, and says why it was the last.
-fn side_turns<N: Name, T: StepTrace + Drop, K: Beside + Drop, C: Clock, R: Wait>(
+fn side_turns<S: SharesBeside<P>, P, C: Clock, R: Wait>(
     rt: &R,
-    desk: &Mutex<Desk<N, T, K>>,
-    side: &mut SideWorker<C>,
+    desk: &S,
+    side: &mut SideWorker<C, P>,
     limits: &Limits,
 ) -> SideEnded
     requires turns { (0 < limits.now.turns) × (limits.now.turns ≤ 2 ^ 40) }
+    requires own { (number : ℕ) × S.is_beside desk.now number side.old.pass }
+    requires left { limits.now.turns ≤ S.looks_left side.old.pass }
+    ensures own { (number : ℕ) → S.is_beside desk.now number side.old.pass
+        → S.is_beside desk.now number side.new.pass }
     ensures served { (told : ℕ → ℕ) → C.moments side.old.clock ≡ Some told
         → IsSideServed limits.now told result (C.moments side.new.clock) }
     ensures link { side.new.link ≡ side.old.link }
@@ -65,61 +74,68 @@ fn side_turns<N: Name, T: StepTrace + Drop, K: Beside + Drop, C: Clock, R: Wait>
 }
 
 /// Makes all turns of a side worker.
-fn serve_side<N: Name, T: StepTrace + Drop, K: Beside + Drop, C: Clock, R: Wait>(
+fn serve_side<S: SharesBeside<P>, P, C: Clock, R: Wait>(
     rt: &R,
-    desk: &Mutex<Desk<N, T, K>>,
-    side: &mut SideWorker<C>,
+    desk: &S,
+    side: &mut SideWorker<C, P>,
+    place: usize,
     limits: &Limits,
 )
     requires turns { (0 < limits.now.turns) × (limits.now.turns ≤ 2 ^ 40) }
-    ensures { ServesSide C.moments limits.now side.old side.new }
+    requires may { MayLook (sides_as S.is_beside S.looks_left) desk.now limits.now place side.old }
+    ensures { LooksWith (sides_as S.is_beside S.looks_left) desk.now C.moments limits.now place side.old side.new }
 {
+    // The place is that of its pass, for the proof alone.
+    let _ = place;
     let end = side_turns(rt, desk, side, limits);
     side.end = Some(end);
 }
 
 /// Serves one part.
-fn serve_part<
-    N: Name,
-    T: StepTrace + Drop,
-    K: Beside + Drop,
-    L: Link,
-    C: Clock,
-    U: StepTrace,
-    D: Clock,
-    R: Wait,
->(rt: &R, desk: &Mutex<Desk<N, T, K>>, part: &mut Part<L, C, U, D>, place: usize, limits: &Limits)
+fn serve_part<S: Shares<U> + SharesBeside<P>, L: Link, C: Clock, U, D: Clock, P, R: Wait>(
+    rt: &R,
+    desk: &S,
+    part: &mut Part<L, C, U, D, P>,
+    place: usize,
+    limits: &Limits,
+)
     requires placed { IsPlaced part.old place }
     requires turns { (0 < limits.now.turns) × (limits.now.turns ≤ 2 ^ 40) }
-    ensures { ServesPart N.given C.moments D.moments
+    requires may { MayBegin (shared_as S.given S.list S.limit S.is_of S.left S.broken
+        (sides_as S.is_beside S.looks_left)) desk.now limits.now place part.old }
+    ensures { ServesPart (shared_as S.given S.list S.limit S.is_of S.left S.broken
+        (sides_as S.is_beside S.looks_left)) desk.now C.moments D.moments
         (record { reads = L.reads; taken = L.taken; knows = L.knows; ends = L.ends; faults = L.faults })
-        (record { list = U.list; limit = U.limit }) limits.now place part.old part.new }
+        limits.now place part.old part.new }
 {
     match part {
         Part::Receiving(worker) => serve_one(rt, desk, worker, place, limits),
-        Part::Sending(side) => serve_side(rt, desk, side, limits),
+        Part::Sending(side) => serve_side(rt, desk, side, place, limits),
     }
 }
 
 /// Serves all parts, each in a thread of its own where one can be made: receives on the links of the first ones, whose
-/// places are 0, 1 and so on, at most sixteen, and looks at the links of the others, on which the desk's sink sends.
+/// places are 0, 1 and so on, at most sixteen, and looks at the links of the others, on which the shared sink sends.
 pub fn gate<
-    N: Name + Send + Sync,
-    T: StepTrace + Drop + Send,
-    K: Beside + Drop + Send,
+    S: Shares<U> + SharesBeside<P> + Sync,
     L: Link + Drop + Send,
     C: Clock + Drop + Send,
-    U: StepTrace + Drop + Send,
+    U: Drop + Send,
     D: Clock + Drop + Send,
+    P: Drop + Send,
     R: Threads + Wait + Sync,
->(rt: &R, parts: &mut [Part<L, C, U, D>], desk: &Mutex<Desk<N, T, K>>, limits: &Limits)
+>(rt: &R, parts: &mut [Part<L, C, U, D, P>], desk: &S, limits: &Limits)
     requires some { 0 < length parts.old }
     requires placed { (i : ℕ) (d : _) → i < length parts.old → IsPlaced (slice_index_or parts.old i d) i }
     requires turns { (0 < limits.now.turns) × (limits.now.turns ≤ 2 ^ 40) }
-    ensures { (i : ℕ) (d : _) → i < length parts.old → ServesPart N.given C.moments D.moments
+    requires may { (i : ℕ) (d : _) → i < length parts.old → MayBegin
+        (shared_as S.given S.list S.limit S.is_of S.left S.broken
+        (sides_as S.is_beside S.looks_left)) desk.now limits.now i (slice_index_or parts.old i d) }
+    ensures { (i : ℕ) (d : _) → i < length parts.old → ServesPart
+        (shared_as S.given S.list S.limit S.is_of S.left S.broken
+        (sides_as S.is_beside S.looks_left)) desk.now C.moments D.moments
         (record { reads = L.reads; taken = L.taken; knows = L.knows; ends = L.ends; faults = L.faults })
-        (record { list = U.list; limit = U.limit }) limits.now i
-        (slice_index_or parts.old i d) (slice_index_or parts.new i d) }
+        limits.now i (slice_index_or parts.old i d) (slice_index_or parts.new i d) }
 {
     let count = parts.len();
     thread::for_each_mut(

@@ -4,9 +4,9 @@ use rist_desk::Worker;
 
 /// What one thread of a gateway serves.
 #[derive(Drop)]
-pub enum Part<L, C, U, D> {
+pub enum Part<L, C, U, D, P> {
     /// A link that is received on.
     Receiving(Worker<L, C, U>),
     /// A link that is sent on.
-    Sending(SideWorker<D>),
+    Sending(SideWorker<D, P>),
 }

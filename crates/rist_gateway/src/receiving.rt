@@ -1,18 +1,20 @@
 //! A run of a receiver whose sink sends on.
-ghost use Rattle.std.specs.Prelude.{◌≡◌, ◌<◌, ◌≤◌, ◌^◌, [], length, vec_capacity};
+ghost use Rattle.std.specs.Prelude.{◌≡◌, ◌<◌, ◌≤◌, ◌+◌, ◌^◌, [], IfOk, IfErr, length, vec_capacity};
 ghost use Rattle.outside_io.specs.Told.{IsEmpty};
 ghost use Rattle.rist_desk.specs.Desk.{IsNew, state_of};
 ghost use Rattle.rist_recv.specs.Run.{Receives};
-ghost use Rattle.rist_recv.specs.Setup.{IsMade, given_to, setup_of};
-ghost use Rattle.rist_recv.specs.Receiving.{given_by};
-ghost use Rattle.rist_gateway.specs.Parts.{HasRoom, LookAtLinks};
+ghost use Rattle.rist_recv.specs.Setup.{given_to, setup_of};
+ghost use Rattle.rist_gateway.specs.Run.{AreLookedAt};
+ghost use Rattle.rist_gateway.specs.Setup.{IsKeptEnd, IsReceivingEnd, received_setup_of};
 
-use crate::part::Part;
-use crate::sides::serve_both;
+use crate::in_turns::receive_in_turns;
+use crate::receiving_end::{KeptEnd, ReceivingEnd};
+use crate::sides::{seat_sides, serve_both, unseat_sides};
 use outside_net::{Clock, Link};
 use rist_desk::{Beside, Desk, Limits, Name};
 use rist_ends::Counts;
-use rist_recv::{Ending, Made, MadeTrace, Received, conclude, seated, unseated};
+use rist_recv::{Ending, MadeTrace, Received, conclude, seated, unseated};
+use std::alloc::Global;
 use std::marker::Brand;
 use std::sync::{Mutex, Wait};
 use std::thread::Threads;
@@ -36,41 +38,47 @@ fn session<
     R: Threads + Wait + Sync,
 >(
     rt: &R,
-    made: Made<T, L, C>,
+    end: KeptEnd<T, L, C>,
     links: &mut Vec<L>,
     clocks: &mut Vec<C>,
     sink: K,
-    parts: &mut Vec<Part<L, C, T, C>>,
+    beside: &mut Vec<C>,
     limits: &Limits,
 ) -> Run<K>
     requires some { 0 < length links.old.items }
-    requires few { length links.old.items ≤ 16 }
+    requires few { length links.old.items + length beside.old.items ≤ 16 }
     requires clocks { length clocks.old.items ≡ length links.old.items }
     requires turns { (0 < limits.now.turns) × (limits.now.turns ≤ 2 ^ 40) }
-    requires made { IsMade T.list T.limit (length links.old.items) made }
-    requires room { HasRoom parts.old.items (vec_capacity parts.old) (length links.old.items) }
-    requires given { N.given ≡ given_to (setup_of T.limit made) (K.contents sink) (K.faults sink) }
-    requires fresh { IsNew N.given
-        (state_of made.receiver (T.list made.trace) (T.limit made.trace) (K.contents sink) (K.faults sink)) }
+    requires made { IsKeptEnd T.list T.limit (length links.old.items) (length beside.old.items) end }
+    requires given { N.given ≡ given_to (setup_of T.limit end.made) (K.contents sink) (K.faults sink) }
+    requires fresh { IsNew N.given (state_of end.made.receiver
+        (T.list end.made.trace) (T.limit end.made.trace) (K.contents sink) (K.faults sink)) }
     ensures work { Receives C.moments
         (record { reads = L.reads; taken = L.taken; knows = L.knows; ends = L.ends; faults = L.faults })
-        (setup_of T.limit made) limits.now links.old.items links.new.items clocks.old.items clocks.new.items
+        (setup_of T.limit end.made) limits.now links.old.items links.new.items clocks.old.items clocks.new.items
         (K.contents sink) (K.contents result.sink) (K.faults sink) (K.faults result.sink) result.counts result.ending }
-    ensures looked { LookAtLinks C.moments limits.now parts.old.items parts.new.items }
+    ensures looked { AreLookedAt C.moments limits.now beside.old.items beside.new.items }
     ensures links { length links.new.items ≡ length links.old.items }
     ensures clocks { length clocks.new.items ≡ length clocks.old.items }
-    ensures room { (vec_capacity links.old ≤ vec_capacity links.new)
-        × (vec_capacity clocks.old ≤ vec_capacity clocks.new) }
+    ensures beside { length beside.new.items ≡ length beside.old.items }
+    ensures link_room { vec_capacity links.old ≤ vec_capacity links.new }
+    ensures clock_room { vec_capacity clocks.old ≤ vec_capacity clocks.new }
 {
-    let Made {
+    let KeptEnd {
+        made,
+        mut parts,
+        mut passes,
+    } = end;
+    let rist_recv::Made {
         receiver,
         trace,
         seats,
         workers,
     } = made;
+    seat_sides(beside, &mut passes, &mut parts);
     let mut workers = seated(links, clocks, seats, workers);
     let desk: Mutex<Desk<N, T, K>> = Mutex::new(Desk::with(receiver, trace, sink));
-    serve_both(rt, &mut workers, parts, &desk, limits);
+    serve_both(rt, &mut workers, &mut parts, &desk, limits);
     let Received {
         ending,
         receiver,
@@ -78,6 +86,7 @@ fn session<
         sink,
     } = conclude(desk.into_inner(), workers.as_slice());
     unseated(workers, links, clocks);
+    unseat_sides(parts, beside, &mut passes);
     Run {
         ending,
         counts: receiver.counts(),
@@ -85,9 +94,8 @@ fn session<
     }
 }
 
-/// Receives on these links, each by its own clock, into an empty sink, with what was made for so many links, and looks
-/// at the links that the sink sends on. Links and clocks stand in their lists again when it ends.
-pub fn receive_beside<
+/// Receives with a desk behind a lock, whose steps are kept.
+fn receive_kept<
     T: MadeTrace + Drop + Send,
     K: Beside + Drop + Send,
     L: Link + Drop + Send,
@@ -95,29 +103,77 @@ pub fn receive_beside<
     R: Threads + Wait + Sync,
 >(
     rt: &R,
-    made: Made<T, L, C>,
+    end: KeptEnd<T, L, C>,
     links: &mut Vec<L>,
     clocks: &mut Vec<C>,
     sink: K,
-    parts: &mut Vec<Part<L, C, T, C>>,
+    beside: &mut Vec<C>,
     limits: &Limits,
 ) -> Run<K>
     requires some { 0 < length links.old.items }
-    requires few { length links.old.items ≤ 16 }
+    requires few { length links.old.items + length beside.old.items ≤ 16 }
     requires clocks { length clocks.old.items ≡ length links.old.items }
     requires turns { (0 < limits.now.turns) × (limits.now.turns ≤ 2 ^ 40) }
-    requires made { IsMade T.list T.limit (length links.old.items) made }
-    requires room { HasRoom parts.old.items (vec_capacity parts.old) (length links.old.items) }
+    requires made { IsKeptEnd T.list T.limit (length links.old.items) (length beside.old.items) end }
     requires empty { IsEmpty (K.contents sink) }
     ensures work { Receives C.moments
         (record { reads = L.reads; taken = L.taken; knows = L.knows; ends = L.ends; faults = L.faults })
-        (setup_of T.limit made) limits.now links.old.items links.new.items clocks.old.items clocks.new.items
+        (setup_of T.limit end.made) limits.now links.old.items links.new.items clocks.old.items clocks.new.items
         (K.contents sink) (K.contents result.sink) (K.faults sink) (K.faults result.sink) result.counts result.ending }
-    ensures looked { LookAtLinks C.moments limits.now parts.old.items parts.new.items }
+    ensures looked { AreLookedAt C.moments limits.now beside.old.items beside.new.items }
     ensures links { length links.new.items ≡ length links.old.items }
     ensures clocks { length clocks.new.items ≡ length clocks.old.items }
-    ensures room { (vec_capacity links.old ≤ vec_capacity links.new)
-        × (vec_capacity clocks.old ≤ vec_capacity clocks.new) }
+    ensures beside { length beside.new.items ≡ length beside.old.items }
+    ensures link_room { vec_capacity links.old ≤ vec_capacity links.new }
+    ensures clock_room { vec_capacity clocks.old ≤ vec_capacity clocks.new }
 {
-    session::<Brand, T, K, L, C, R>(rt, made, links, clocks, sink, parts, limits)
+    session::<Brand, T, K, L, C, R>(rt, end, links, clocks, sink, beside, limits)
+}
+
+/// Receives on these links, each by its own clock, into an empty sink, with what was made for so many links, and looks
+/// at the links that the sink sends on, each by a clock of its own. Links and clocks stand in their lists again when it
+/// ends. Where memory is wanting, nothing was done, and the sink comes back.
+pub(crate) fn receive_beside<
+    T: MadeTrace + Drop + Send,
+    K: Beside + Drop + Send,
+    L: Link + Drop + Send,
+    C: Clock + Drop + Send,
+    R: Threads + Wait + Sync,
+>(
+    rt: &R,
+    alloc: Global,
+    end: ReceivingEnd<T, L, C>,
+    links: &mut Vec<L>,
+    clocks: &mut Vec<C>,
+    sink: K,
+    beside: &mut Vec<C>,
+    limits: &Limits,
+) -> Result<Run<K>, K>
+    requires some { 0 < length links.old.items }
+    requires few { length links.old.items + length beside.old.items ≤ 16 }
+    requires clocks { length clocks.old.items ≡ length links.old.items }
+    requires turns { (0 < limits.now.turns) × (limits.now.turns ≤ 2 ^ 40) }
+    requires made { IsReceivingEnd T.list T.limit (length links.old.items) (length beside.old.items) end }
+    requires empty { IsEmpty (K.contents sink) }
+    ensures work { IfOk result (λ run. Receives C.moments
+        (record { reads = L.reads; taken = L.taken; knows = L.knows; ends = L.ends; faults = L.faults })
+        (received_setup_of T.limit end) limits.now links.old.items links.new.items clocks.old.items clocks.new.items
+        (K.contents sink) (K.contents run.sink) (K.faults sink) (K.faults run.sink) run.counts run.ending) }
+    ensures looked { IfOk result (λ run. AreLookedAt C.moments limits.now beside.old.items beside.new.items) }
+    ensures memory { IfErr result (λ left. (left ≡ sink) × (links.new.items ≡ links.old.items)
+        × (clocks.new.items ≡ clocks.old.items) × (beside.new.items ≡ beside.old.items)) }
+    ensures links { length links.new.items ≡ length links.old.items }
+    ensures clocks { length clocks.new.items ≡ length clocks.old.items }
+    ensures beside { length beside.new.items ≡ length beside.old.items }
+    ensures link_room { vec_capacity links.old ≤ vec_capacity links.new }
+    ensures clock_room { vec_capacity clocks.old ≤ vec_capacity clocks.new }
+{
+    match end {
+        ReceivingEnd::Kept(end) => {
+            Ok(receive_kept(rt, end, links, clocks, sink, beside, limits))
+        }
+        ReceivingEnd::InTurns(made) => {
+            receive_in_turns(rt, alloc, made, links, clocks, sink, beside, limits)
+        }
+    }
 }

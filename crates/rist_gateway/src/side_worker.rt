@@ -18,10 +18,12 @@ pub enum SideEnded {
 
 /// What looks at one link of the sending end, turn by turn.
 #[derive(Drop)]
-pub struct SideWorker<C> {
+pub struct SideWorker<C, P> {
     /// The place of its link.
     pub link: u8,
     pub clock: C,
+    /// Its right to look at the link: a pass, where what is shared gives passes.
+    pub pass: P,
     /// Why it ended, once it has.
     pub end: Option<SideEnded>,
 }

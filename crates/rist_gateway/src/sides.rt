@@ -1,22 +1,101 @@
 //! The links of both ends, served together.
-ghost use Rattle.std.specs.Prelude.{◌≡◌, ◌<◌, ◌≤◌, ◌+◌, ◌++◌, ◌∷◌, ◌^◌, ℕ, List, [], length, map, reverse};
+ghost use Rattle.std.specs.Prelude.{◌≡◌, ◌<◌, ◌≤◌, ◌+◌, ◌++◌, ◌∷◌, ◌^◌, ℕ, List, [], length, map, reverse, take, drop};
 ghost use Rattle.std.specs.Prelude.{slice_index_or, vec_capacity};
-ghost use Rattle.rist_desk.specs.Serving.{ServesOn};
+ghost use Rattle.rist_desk.specs.Serving.{MayServe};
 ghost use Rattle.rist_desk.specs.declared.worker.Worker.{Worker as ServedWorker};
 ghost use Rattle.rist_gateway.specs.declared.part.Part.{Part as ServedPart};
-ghost use Rattle.rist_gateway.specs.Parts.{HasRoom, LookAtLinks, receiving_part};
+ghost use Rattle.rist_gateway.specs.declared.side_worker.SideWorker.{SideWorker as Side};
+ghost use Rattle.rist_gateway.specs.Parts.{ServesWith, shared_as, sides_as, side_clock};
+ghost use Rattle.rist_gateway.specs.Inside.Sides.{HasRoom, LookAtLinks, MayLookAtLinks, receiving_part, sending_part};
+ghost use Rattle.rist_gateway.specs.Inside.Sides.{seated_sides, sending_parts, side_pass};
 
 use crate::gating::gate;
 use crate::part::Part;
+use crate::shares_beside::SharesBeside;
+use crate::side_worker::SideWorker;
 use outside_net::{Clock, Link};
-use rist_desk::{Beside, Desk, Limits, Name, StepTrace, Worker};
-use std::sync::{Mutex, Wait};
+use rist_desk::{Limits, Shares, Worker};
+use std::sync::Wait;
 use std::thread::Threads;
 
+/// Sets all these clocks with as many of the last passes into parts, the last one first.
+pub(crate) fn seat_sides<L: Drop, C: Drop, U: Drop, P: Drop>(
+    clocks: &mut Vec<C>,
+    passes: &mut Vec<P>,
+    parts: &mut Vec<Part<L, C, U, C, P>>,
+)
+    requires few { length clocks.old.items ≤ 16 }
+    requires many { length clocks.old.items ≤ length passes.old.items }
+    requires room { length clocks.old.items ≤ vec_capacity parts.old }
+    requires no_parts { parts.old.items ≡ [] }
+    ensures seated { (first : ℕ) → length passes.old.items ≡ first + length clocks.old.items
+        → (passes.new.items ≡ take first passes.old.items)
+        × (parts.new.items ≡ sending_parts (seated_sides 0 clocks.old.items (drop first passes.old.items))) }
+    ensures none { clocks.new.items ≡ [] }
+    ensures room { (vec_capacity clocks.new ≡ vec_capacity clocks.old)
+        × (vec_capacity passes.new ≡ vec_capacity passes.old)
+        × (vec_capacity parts.old ≤ vec_capacity parts.new) }
+{
+    while let Some(clock) = clocks.pop() {
+        let Some(pass) = passes.pop() else {
+            unreachable!()
+        };
+        let _ = parts.push(Part::Sending(SideWorker {
+            link: clocks.len() as u8,
+            clock,
+            pass,
+            end: None,
+        }));
+    }
+}
+
+/// Gives the clock and the pass of a side worker back.
+fn unseat_side<L: Drop, C: Drop, U: Drop, P: Drop>(
+    part: Part<L, C, U, C, P>,
+    clocks: &mut Vec<C>,
+    passes: &mut Vec<P>,
+)
+    ensures given { (side : Side C P) → part ≡ sending_part side
+        → length clocks.old.items < vec_capacity clocks.old → length passes.old.items < vec_capacity passes.old
+        → (clocks.new.items ≡ clocks.old.items ++ side_clock side ∷ [])
+        × (passes.new.items ≡ passes.old.items ++ side_pass side ∷ []) }
+    ensures clocks { length clocks.new.items ≤ length clocks.old.items + 1 }
+    ensures passes { length passes.new.items ≤ length passes.old.items + 1 }
+    ensures room { (vec_capacity clocks.old ≤ vec_capacity clocks.new)
+        × (vec_capacity passes.old ≤ vec_capacity passes.new) }
+{
+    match part {
+        Part::Sending(side) => {
+            let _ = clocks.push(side.clock);
+            let _ = passes.push(side.pass);
+        }
+        Part::Receiving(_) => {}
+    }
+}
+
+/// Gives the clocks and the passes of side workers back, behind those that are there.
+pub(crate) fn unseat_sides<L: Drop, C: Drop, U: Drop, P: Drop>(
+    mut parts: Vec<Part<L, C, U, C, P>>,
+    clocks: &mut Vec<C>,
+    passes: &mut Vec<P>,
+)
+    requires clocks { length clocks.old.items + length parts.items ≤ vec_capacity clocks.old }
+    requires passes { length passes.old.items + length parts.items ≤ vec_capacity passes.old }
+    ensures value { (sides : List (Side C P)) → parts.items ≡ sending_parts sides
+        → (clocks.new.items ≡ clocks.old.items ++ map side_clock sides)
+        × (passes.new.items ≡ passes.old.items ++ map side_pass sides) }
+    ensures room { (vec_capacity clocks.old ≤ vec_capacity clocks.new)
+        × (vec_capacity passes.old ≤ vec_capacity passes.new) }
+{
+    while let Some(part) = parts.pop() {
+        unseat_side(part, clocks, passes);
+    }
+}
+
 /// Puts workers before the parts, which stand in the opposite order.
-fn gather<L: Drop, C: Drop, U: Drop, D: Drop>(
+fn gather<L: Drop, C: Drop, U: Drop, D: Drop, P: Drop>(
     workers: &mut Vec<Worker<L, C, U>>,
-    parts: &mut Vec<Part<L, C, U, D>>,
+    parts: &mut Vec<Part<L, C, U, D, P>>,
 )
     requires room { length workers.old.items + length parts.old.items ≤ vec_capacity parts.old }
     ensures parts { parts.new.items ≡ map receiving_part workers.old.items ++ reverse parts.old.items }
@@ -31,8 +110,8 @@ fn gather<L: Drop, C: Drop, U: Drop, D: Drop>(
 }
 
 /// Puts the worker of a part back into its list, where it is one.
-fn put_back<L: Drop, C: Drop, U: Drop, D: Drop>(
-    part: Part<L, C, U, D>,
+fn put_back<L: Drop, C: Drop, U: Drop, D: Drop, P: Drop>(
+    part: Part<L, C, U, D, P>,
     workers: &mut Vec<Worker<L, C, U>>,
 )
     ensures put { (w : ServedWorker L C U) → part ≡ receiving_part w
@@ -48,11 +127,11 @@ fn put_back<L: Drop, C: Drop, U: Drop, D: Drop>(
 }
 
 /// Takes the worker of the last part.
-fn take_one<L: Drop, C: Drop, U: Drop, D: Drop>(
-    parts: &mut Vec<Part<L, C, U, D>>,
+fn take_one<L: Drop, C: Drop, U: Drop, D: Drop, P: Drop>(
+    parts: &mut Vec<Part<L, C, U, D, P>>,
     workers: &mut Vec<Worker<L, C, U>>,
 )
-    ensures taken { (w : ServedWorker L C U) (left : List (ServedPart L C U D))
+    ensures taken { (w : ServedWorker L C U) (left : List (ServedPart L C U D P))
         → parts.old.items ≡ left ++ receiving_part w ∷ [] → length workers.old.items < vec_capacity workers.old
         → (workers.new.items ≡ workers.old.items ++ w ∷ []) × (parts.new.items ≡ left) }
     ensures room { vec_capacity workers.old ≤ vec_capacity workers.new }
@@ -64,14 +143,14 @@ fn take_one<L: Drop, C: Drop, U: Drop, D: Drop>(
 }
 
 /// Takes so many workers from before the parts, and sets these in the opposite order again.
-fn scatter<L: Drop, C: Drop, U: Drop, D: Drop>(
+fn scatter<L: Drop, C: Drop, U: Drop, D: Drop, P: Drop>(
     workers: &mut Vec<Worker<L, C, U>>,
-    parts: &mut Vec<Part<L, C, U, D>>,
+    parts: &mut Vec<Part<L, C, U, D, P>>,
     count: usize,
 )
     requires none { workers.old.items ≡ [] }
     requires room { count ≤ vec_capacity workers.old }
-    ensures apart { (ws : List (ServedWorker L C U)) (rest : List (ServedPart L C U D))
+    ensures apart { (ws : List (ServedWorker L C U)) (rest : List (ServedPart L C U D P))
         → parts.old.items ≡ map receiving_part ws ++ rest → length ws ≡ count
         → (workers.new.items ≡ ws) × (parts.new.items ≡ reverse rest) }
 {
@@ -86,30 +165,35 @@ fn scatter<L: Drop, C: Drop, U: Drop, D: Drop>(
 /// Serves the links of all workers, and looks at the links that are sent on, each in a thread of its own where one can
 /// be made. What looks at them stands with the last one first.
 pub(crate) fn serve_both<
-    N: Name + Send + Sync,
-    T: StepTrace + Drop + Send,
-    K: Beside + Drop + Send,
+    S: Shares<U> + SharesBeside<P> + Sync,
     L: Link + Drop + Send,
     C: Clock + Drop + Send,
-    U: StepTrace + Drop + Send,
+    U: Drop + Send,
+    P: Drop + Send,
     R: Threads + Wait + Sync,
 >(
     rt: &R,
     workers: &mut Vec<Worker<L, C, U>>,
-    parts: &mut Vec<Part<L, C, U, C>>,
-    desk: &Mutex<Desk<N, T, K>>,
+    parts: &mut Vec<Part<L, C, U, C, P>>,
+    desk: &S,
     limits: &Limits,
 )
     requires some { 0 < length workers.old.items }
     requires few { length workers.old.items ≤ 16 }
     requires turns { (0 < limits.now.turns) × (limits.now.turns ≤ 2 ^ 40) }
     requires room { HasRoom parts.old.items (vec_capacity parts.old) (length workers.old.items) }
+    requires may { (i : ℕ) (d : _) → i < length workers.old.items
+        → MayServe S.is_of S.left desk.now limits.now i (slice_index_or workers.old.items i d) }
+    requires may_look { MayLookAtLinks (sides_as S.is_beside S.looks_left) desk.now limits.now
+        (length workers.old.items) parts.old.items }
     ensures count { length workers.new.items ≡ length workers.old.items }
-    ensures on { (i : ℕ) (d : _) → i < length workers.old.items → ServesOn N.given C.moments
+    ensures on { (i : ℕ) (d : _) → i < length workers.old.items → ServesWith
+        (shared_as S.given S.list S.limit S.is_of S.left S.broken
+        (sides_as S.is_beside S.looks_left)) desk.now C.moments
         (record { reads = L.reads; taken = L.taken; knows = L.knows; ends = L.ends; faults = L.faults })
-        (record { list = U.list; limit = U.limit }) limits.now i
-        (slice_index_or workers.old.items i d) (slice_index_or workers.new.items i d) }
-    ensures looked { LookAtLinks C.moments limits.now parts.old.items parts.new.items }
+        limits.now i (slice_index_or workers.old.items i d) (slice_index_or workers.new.items i d) }
+    ensures looked { LookAtLinks (sides_as S.is_beside S.looks_left) desk.now C.moments limits.now
+        (length workers.old.items) parts.old.items parts.new.items }
 {
     let count = workers.len();
     gather(workers, parts);

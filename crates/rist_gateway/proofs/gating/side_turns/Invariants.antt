@@ -1,5 +1,5 @@
 -- The turns that were made.
-use Rattle.std.proofs.Common.{◌≡◌, ◌<◌, ◌-◌, ℕ, Some}
+use Rattle.std.proofs.Common.{◌≡◌, ◌<◌, ◌≤◌, ◌+◌, ◌-◌, ℕ, Some}
 use Rattle.rist_gateway.specs.Sides.{IsSideGoing}
 use Rattle.rist_gateway.proofs.gating.side_turns.Given as goal
 
@@ -7,6 +7,8 @@ abbrev pub invariant-turns : goal.invariant-turns
 invariant-turns g l = record {
   within : l.made < l.limits.turns;
   link : l.side.link ≡ l.initial.side.link;
+  own : (number : ℕ) → g.S.SharesBeside.is_beside l.desk number l.initial.side.pass → g.S.SharesBeside.is_beside l.desk number l.side.pass;
+  left : l.limits.turns ≤ g.S.SharesBeside.looks_left l.side.pass + l.made;
   going : (told : ℕ → ℕ) → g.C.Clock.moments l.initial.side.clock ≡ Some told → IsSideGoing l.limits told l.made (g.C.Clock.moments l.side.clock) l.found;
 }
 

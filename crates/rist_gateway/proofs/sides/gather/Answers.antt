@@ -1,6 +1,6 @@
 -- All workers stand before the parts.
 use Rattle.std.proofs.Common.{◌≡◌, ◌∙◌, ◌++◌, [], map, reverse, ap, sym, rules}
-use Rattle.rist_gateway.specs.Parts.{receiving_part}
+use Rattle.rist_gateway.specs.Inside.Sides.{receiving_part}
 use Rattle.rist_gateway.proofs.GatherLemmas.{moved_all}
 use Rattle.rist_gateway.proofs.sides.gather.Goals as goal
 

@@ -1,7 +1,7 @@
 -- The workers that are left, and the parts of those that were moved.
 use Rattle.std.proofs.Common.{◌≡◌, ◌≤◌, ◌+◌, ◌++◌, length, map, reverse}
 use Rattle.std.specs.Prelude.{vec_capacity}
-use Rattle.rist_gateway.specs.Parts.{receiving_part}
+use Rattle.rist_gateway.specs.Inside.Sides.{receiving_part}
 use Rattle.rist_gateway.proofs.sides.gather.Given as goal
 
 abbrev pub invariant-loop-worker : goal.invariant-loop-worker

@@ -1,6 +1,6 @@
 -- One worker after another is taken, the first one first.
 use Rattle.std.proofs.Common.{◌∙◌, ◌++◌, ◌<◌, length, map, reverse, refl, ap, sym, subst, arith}
-use Rattle.rist_gateway.specs.Parts.{receiving_part}
+use Rattle.rist_gateway.specs.Inside.Sides.{receiving_part}
 use Rattle.rist_gateway.proofs.GatherLemmas.{Scattered, scattered_none, scattered_step, scattered_all}
 use Rattle.rist_gateway.proofs.sides.scatter.Goals as goal
 
