@@ -7,7 +7,7 @@ use capture_walk::WalkBad;
 use outside_io::{Pieces, Store8};
 use psk_keys::Phrase;
 use rist_show::show;
-use rist_wire::{Profile, Session};
+use rist_wire::{Profile, Session, Tunnel};
 use seq_unwrap::Width;
 use std::alloc::Global;
 use std::test::Fail;
@@ -31,6 +31,8 @@ fn main_session(pass: Option<Phrase>) -> Session
         nulls: false,
         width: Width::W16,
         full: false,
+        tunnel: Tunnel::Own,
+        echo: false,
     }
 }
 

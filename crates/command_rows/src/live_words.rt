@@ -196,6 +196,7 @@ const SET: GateWords = GateWords {
         profile: Profile::Main,
         pass: Some("x"),
         full: true,
+        echo: true,
         ..PLAIN
     },
     stream: StreamWords {
@@ -225,7 +226,7 @@ static GATES: [(&str, &[u16], &[u16], Option<&[u8]>, GateWords); 3] = [
         UNSET,
     ),
     (
-        "rist gate 127.0.0.1:2 127.0.0.1:4 127.0.0.1:65535 --in 2 --share 7 --profile main --pass x --nulls --wide --full \
+        "rist gate 127.0.0.1:2 127.0.0.1:4 127.0.0.1:65535 --in 2 --share 7 --profile main --pass x --nulls --wide --full --echo \
          --flow 4294967294 --first 65536 --store 1 --hold 1",
         &[2, 4],
         &[65_535],

@@ -9,7 +9,7 @@ use outside_io::{Channel, Pieces, Store8, Words};
 use psk_keys::Phrase;
 use psk_seal::Sealer;
 use rist_pack::{PackBad, PackSettings, pack};
-use rist_wire::{Item, Opener, Profile, Session};
+use rist_wire::{Item, Opener, Profile, Session, Tunnel};
 use seq_unwrap::Width;
 use std::alloc::Global;
 use std::test::Fail;
@@ -72,6 +72,8 @@ fn session_of(way: Way) -> Session
             nulls: true,
             width,
             full: false,
+            tunnel: Tunnel::Own,
+            echo: false,
         },
     }
 }
@@ -391,6 +393,8 @@ fn keyed_session(long: bool) -> Session
         nulls: true,
         width: Width::W16,
         full: false,
+        tunnel: Tunnel::Own,
+        echo: false,
     }
 }
 

@@ -3,7 +3,7 @@ ghost use Rattle.std.specs.Prelude.{◌≡◌, None};
 ghost use Rattle.rist_wire.specs.Session.{IsSession};
 
 use outside_io::{Pieces, Profile, Store8};
-use rist_wire::Session;
+use rist_wire::{Session, Tunnel};
 use seq_unwrap::Width;
 use std::alloc::Global;
 use std::test::Fail;
@@ -69,5 +69,7 @@ pub fn simple_session() -> Session
         nulls: false,
         width: Width::W16,
         full: false,
+        tunnel: Tunnel::Own,
+        echo: false,
     }
 }

@@ -10,7 +10,7 @@ use capture_walk::WalkBad;
 use outside_io::{Channel, Pieces, Profile, Store8};
 use rist_ends::Settings;
 use rist_replay::replay;
-use rist_wire::{Session, Shutter};
+use rist_wire::{Session, Shutter, Tunnel};
 use seq_unwrap::Width;
 use std::alloc::Global;
 use std::test::Fail;
@@ -58,6 +58,8 @@ fn main_session() -> Session
         nulls: true,
         width: Width::W32,
         full: false,
+        tunnel: Tunnel::Own,
+        echo: false,
     }
 }
 

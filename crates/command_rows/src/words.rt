@@ -1,4 +1,5 @@
 //! Command lines that are taken and refused.
+use gre_tunnel::Tunnel;
 use outside_io::Profile;
 use outside_net::LinkSpec;
 use rist_words::{
@@ -14,6 +15,8 @@ pub const PLAIN: SessionWords<'static> = SessionWords {
     pass: None,
     bits: 128,
     full: false,
+    tunnel: Tunnel::Own,
+    echo: false,
 };
 
 pub const STREAM: StreamWords = StreamWords {
@@ -24,7 +27,7 @@ pub const STREAM: StreamWords = StreamWords {
 };
 
 /// The words between blanks.
-fn words_of(alloc: Global, text: &str) -> Result<Vec<String>, Fail> {
+pub fn words_of(alloc: Global, text: &str) -> Result<Vec<String>, Fail> {
     let mut words = Vec::new(alloc);
     for word in text.split(' ') {
         words.push(String::from_str(alloc, word)?)?;
@@ -96,7 +99,7 @@ static DRILLS: [(&str, u64, u32, u8, u16); 5] = [
     ("rist drill -- 1 2 3 4", 1, 2, 3, 4),
 ];
 
-static REFUSED: [&str; 97] = [
+static REFUSED: [&str; 102] = [
     "",
     "rist",
     "rist play a b",
@@ -173,6 +176,11 @@ static REFUSED: [&str; 97] = [
     "rist send a 127.0.0.1:5000 --linger 60001",
     "rist send a 127.0.0.1:5000 --turns 1099511627777",
     "rist send a 127.0.0.1:5000 --store 0",
+    "rist send a 127.0.0.1:5000 --lead 1001",
+    "rist send a 127.0.0.1:5000 --tunnel librist",
+    "rist send a 127.0.0.1:5000 --tunnel own",
+    "rist send a 127.0.0.1:5000 --profile main --tunnel gre",
+    "rist recv a 127.0.0.1:5000 --echo",
     "rist send a 1.1.1.1:2 1.1.1.1:2 1.1.1.1:2 1.1.1.1:2 1.1.1.1:2 1.1.1.1:2 1.1.1.1:2 1.1.1.1:2 1.1.1.1:2 1.1.1.1:2 1.1.1.1:2 1.1.1.1:2 1.1.1.1:2 1.1.1.1:2 1.1.1.1:2 1.1.1.1:2 1.1.1.1:2",
     "rist drill",
     "rist drill 7 200 2",
@@ -251,8 +259,10 @@ fn all_shown(alloc: Global) -> Result<bool, Fail> {
         pass: Some("-x"),
         bits: 256,
         full: false,
+        tunnel: Tunnel::Librist,
+        echo: true,
     };
-    let text = "rist show --profile main a --port 65534 --pass=-x --bits=256";
+    let text = "rist show --profile main a --port 65534 --pass=-x --bits=256 --tunnel librist";
     Ok(
         reads(
             alloc,
@@ -371,6 +381,7 @@ fn send_line(
         session,
         stream: STREAM,
         gap: 1000,
+        lead: 0,
         store: 4096,
         hold: 20,
         share: weights(alloc, share)?,
@@ -382,11 +393,13 @@ fn send_line(
 fn all_sent(alloc: Global) -> Result<bool, Fail> {
     let main = SessionWords {
         profile: Profile::Main,
+        echo: true,
         ..PLAIN
     };
     let plain = send_line(alloc, PLAIN, &[2, 65_534], Some(&[100, 1]))?;
     let full = SendLine {
         gap: 1,
+        lead: 1000,
         store: 65_536,
         hold: 1000,
         linger: 0,
@@ -394,8 +407,8 @@ fn all_sent(alloc: Global) -> Result<bool, Fail> {
         ..send_line(alloc, main, &[65_535], None)?
     };
     let shared = "rist send a 127.0.0.1:2 127.000.0.1:65534 --share 100:1";
-    let text = "rist send a --profile main --gap 1 --store 65536 --hold 1000 --linger 0 \
-                --turns 1 127.0.0.1:65535";
+    let text = "rist send a --profile main --gap 1 --lead 1000 --echo --tunnel own --store 65536 \
+                --hold 1000 --linger 0 --turns 1 127.0.0.1:65535";
     Ok(reads(alloc, shared, Ok(Line::Send(plain)))? && reads(alloc, text, Ok(Line::Send(full)))?)
 }
 

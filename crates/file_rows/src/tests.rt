@@ -291,12 +291,25 @@ fn what_is_no_line_or_not_there_is_refused(rt: HostRuntime) -> Result<(), Fail> 
         "replay - - --port 3",
         "replay - - --span 0",
         "pack -",
-        "--help",
+        "--help replay",
     ] {
         assert!(rt; leaves(rt.alloc(), line, b"", Ending::Usage, "-")?);
     }
     let (status, _host) = ended(rt.alloc(), "replay file -", b"", &NOTHING)?;
     assert!(rt; status == Status::OpenFault);
+    Ok(())
+}
+
+#[test]
+fn the_version_is_written_as_far_as_a_write_goes(rt: HostRuntime) -> Result<(), Fail> {
+    let alloc = rt.alloc();
+    let version = b"rist 0.9.0\n";
+    assert!(rt; writes(alloc, "--version", &[], &NOTHING, Ending::Done, version)?);
+    let outside = Outside {
+        puts: &[0],
+        ..NOTHING
+    };
+    assert!(rt; writes(alloc, "--version", &[], &outside, Ending::WriteFault, b"")?);
     Ok(())
 }
 

@@ -2,8 +2,9 @@
 
 /// A command line; the letters of the packets that each link brings which is received on, and the moments of its clock;
 /// which writes fail of each link that is sent on; after how many packets those give a request for number 1, or none
-/// with 0; which draws of random words fail; the exit status; and of a link, by its place, the letters of the packets
-/// that it took, numbered from 0, and the letter of number 1 where it was sent again.
+/// with 0; whether the second reads of the first two links wait for one another; which draws of random words fail; the
+/// exit status; and of a link, by its place, the letters of the packets that it took, numbered from 0, and the letter of
+/// number 1 where it was sent again.
 #[derive(Clone, Copy)]
 pub struct Row<'a> {
     pub line: &'a str,
@@ -11,6 +12,7 @@ pub struct Row<'a> {
     pub moments: &'a [u64],
     pub outputs: &'a [&'a [u64]],
     pub asks_after: usize,
+    pub meet: bool,
     pub draws: &'a [u64],
     pub exit: u8,
     pub place: u8,
@@ -25,6 +27,7 @@ const SINGLE: Row<'static> = Row {
     moments: &[],
     outputs: &[&[]],
     asks_after: 0,
+    meet: false,
     draws: &[],
     exit: 0,
     place: 1,
@@ -54,8 +57,17 @@ const NO_LINE: Row<'static> = Row {
     ..SINGLE
 };
 
-/// Packets that are played out 2 s later, before their link ends, and a request for the second, which is answered; and
-/// two links that share three packets, one of them on both.
+/// Two links that share three packets, one of them on both.
+const SHARED: Row<'static> = Row {
+    line: "rist gate 127.0.0.1:5000 127.0.0.1:5002 127.0.0.1:5004 --in 2",
+    inputs: &[b"AC", b"BC"],
+    place: 2,
+    ..SINGLE
+};
+
+/// Packets that are played out 2 s later, before their link ends, and a request for the second, which is answered, where
+/// no steps are kept and where some are; and two links that share packets, in turns and behind a lock, and where each
+/// has to be read while the other is.
 pub const ENDS: &[Row<'static>] = &[
     Row {
         moments: &[0, 0, 0, 2_000_000],
@@ -64,10 +76,25 @@ pub const ENDS: &[Row<'static>] = &[
         ..SINGLE
     },
     Row {
-        line: "rist gate 127.0.0.1:5000 127.0.0.1:5002 127.0.0.1:5004 --in 2 --keep 64",
-        inputs: &[b"AC", b"BC"],
-        place: 2,
+        line: "rist gate 127.0.0.1:5000 127.0.0.1:5002 --keep 64",
+        moments: &[0, 0, 0, 2_000_000],
+        asks_after: 3,
+        again: Some(b'B'),
         ..SINGLE
+    },
+    SHARED,
+    Row {
+        meet: true,
+        ..SHARED
+    },
+    Row {
+        line: "rist gate 127.0.0.1:5000 127.0.0.1:5002 127.0.0.1:5004 --in 2 --keep 64",
+        ..SHARED
+    },
+    Row {
+        line: "rist gate 127.0.0.1:5000 127.0.0.1:5002 127.0.0.1:5004 --in 2 --keep 64",
+        meet: true,
+        ..SHARED
     },
     PAIR,
 ];

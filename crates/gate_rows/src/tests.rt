@@ -1,6 +1,6 @@
 //! What the links that are sent on took, and how a gateway ended.
 use crate::rows::{BREAKS, DRAWS, ENDS, REFUSALS, Row};
-use crate::waiting::{WaitingHost, packet_taken};
+use crate::waiting::{WaitingHost, meetings, packet_taken};
 use outside_host::{MemHost, MemParts, Place};
 use outside_io::{Channel, Words};
 use outside_net::{Octets, ScriptClock, ScriptLink, ScriptRead};
@@ -96,7 +96,12 @@ fn host(alloc: Global, row: &Row<'_>) -> Result<WaitingHost, Fail> {
         clocks,
         failing: Vec::new(alloc),
     };
-    Ok(WaitingHost::over(MemHost::with(alloc, parts)?, row.asks_after))
+    let meetings = if row.meet {
+        meetings(alloc)?
+    } else {
+        Vec::new(alloc)
+    };
+    Ok(WaitingHost::over(MemHost::with(alloc, parts)?, row.asks_after, meetings))
 }
 
 /// Whether a link took just these packets, numbered from 0, and then number 1 again where that is told.
@@ -137,7 +142,7 @@ fn is_as_told<R: Threads + Wait + Sync>(
     if status == Status::Memory {
         return Err(Fail::new("out of memory"));
     }
-    Ok(status.exit_code() == row.exit && stands_as_told(&host, row))
+    Ok(status.exit_code() == row.exit && stands_as_told(&host, row) && host.all_met())
 }
 
 #[test]

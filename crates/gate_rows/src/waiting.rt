@@ -1,9 +1,68 @@
-//! A host in memory whose links give nothing until they took so many packets.
+//! A host in memory whose links wait: those that are sent on until they took so many packets, and the first two that are
+//! received on for one another.
 ghost use Rattle.std.specs.Prelude.{◌≡◌};
 
 use outside_host::{Host, HostBad, MemHost, Reception};
 use outside_io::{Channel, Failed, MemSource, Profile, Store8, Words};
 use outside_net::{Got, Link, LinkSpec, Role, ScriptClock, ScriptLink};
+use std::alloc::Global;
+use std::sync::Arc;
+use std::sync::atomic::{AtomicU64, Ordering};
+use std::test::Fail;
+
+/// How often a read looks for the other link's.
+const LOOKS: u64 = 1_000_000_000;
+
+/// Where two links tell one another that their second reads were entered.
+#[derive(Drop)]
+pub struct Meeting {
+    reads: u64,
+    own: Arc<AtomicU64, Global>,
+    other: Arc<AtomicU64, Global>,
+    /// It waited in vain.
+    missed: bool,
+}
+
+/// The meetings of two links, that of the second one first.
+pub fn meetings(alloc: Global) -> Result<Vec<Meeting>, Fail> {
+    let first = Arc::new(alloc, AtomicU64::new(0))?;
+    let second = Arc::new(alloc, AtomicU64::new(0))?;
+    let mut meetings = Vec::new(alloc);
+    meetings.push(Meeting {
+        reads: 0,
+        own: Arc::try_clone(&second)?,
+        other: Arc::try_clone(&first)?,
+        missed: false,
+    })?;
+    meetings.push(Meeting {
+        reads: 0,
+        own: first,
+        other: second,
+        missed: false,
+    })?;
+    Ok(meetings)
+}
+
+/// Whether the other's second read is entered, before the looks are spent.
+fn is_entered(other: &AtomicU64) -> bool {
+    for _ in 0..LOOKS {
+        if other.load(Ordering::SeqCst) != 0 {
+            return true;
+        }
+    }
+    false
+}
+
+impl Meeting {
+    /// One more read is entered; the second one waits for the other link's second read.
+    fn enter(&mut self) {
+        self.reads = self.reads.saturating_add(1);
+        if self.reads == 2 {
+            self.own.store(1, Ordering::SeqCst);
+            self.missed = !is_entered(&self.other);
+        }
+    }
+}
 
 /// The packet of this place, from 0, among those that a link took as media.
 pub fn packet_taken(link: &ScriptLink, place: usize) -> Option<&[u8]> {
@@ -23,11 +82,12 @@ pub fn packet_taken(link: &ScriptLink, place: usize) -> Option<&[u8]> {
     None
 }
 
-/// A link that answers no read before it took so many packets.
+/// A link that answers no read before it took so many packets, and none before a meeting where it has one.
 #[derive(Drop)]
 pub struct WaitingLink {
     link: ScriptLink,
     packets: usize,
+    meeting: Option<Meeting>,
 }
 
 impl Link for WaitingLink {
@@ -50,6 +110,9 @@ impl Link for WaitingLink {
         if self.packets > 0 && packet_taken(&self.link, self.packets - 1).is_none() {
             return Got::Quiet;
         }
+        if let Some(meeting) = &mut self.meeting {
+            meeting.enter();
+        }
         self.link.read(buf)
     }
 
@@ -62,17 +125,31 @@ impl Link for WaitingLink {
     }
 }
 
-/// A host of such links: those that are sent on wait for so many packets, and the others for none. It doesn't tell.
+/// A host of such links: those that are sent on wait for so many packets, and the others for none, but have the last of
+/// these meetings each while there are any. It doesn't tell.
 #[derive(Drop)]
 pub struct WaitingHost {
     host: MemHost,
     packets: usize,
+    meetings: Vec<Meeting>,
+    /// A link waited for another in vain.
+    has_missed: bool,
 }
 
 impl WaitingHost {
     /// Over a host in memory.
-    pub fn over(host: MemHost, packets: usize) -> WaitingHost {
-        WaitingHost { host, packets }
+    pub fn over(host: MemHost, packets: usize, meetings: Vec<Meeting>) -> WaitingHost {
+        WaitingHost {
+            host,
+            packets,
+            meetings,
+            has_missed: false,
+        }
+    }
+
+    /// Whether each meeting was handed out, and no link waited for another in vain.
+    pub fn all_met(&self) -> bool {
+        self.meetings.is_empty() && !self.has_missed
     }
 
     /// The link that came back at this place.
@@ -120,14 +197,19 @@ impl Host for WaitingHost {
         role: Role,
         profile: Profile,
     ) -> Result<WaitingLink, HostBad> {
-        let packets = match role {
-            Role::Forwards => self.packets,
-            Role::Receives | Role::Sends => 0,
+        let link = match self.host.link(spec, role, profile) {
+            Ok(link) => link,
+            Err(bad) => return Err(bad),
         };
-        match self.host.link(spec, role, profile) {
-            Ok(link) => Ok(WaitingLink { link, packets }),
-            Err(bad) => Err(bad),
-        }
+        let (packets, meeting) = match role {
+            Role::Forwards => (self.packets, None),
+            Role::Receives | Role::Sends => (0, self.meetings.pop()),
+        };
+        Ok(WaitingLink {
+            link,
+            packets,
+            meeting,
+        })
     }
 
     fn clock(&mut self) -> Result<ScriptClock, HostBad> {
@@ -147,7 +229,11 @@ impl Host for WaitingHost {
     }
 
     fn back_link(&mut self, place: u8, object: WaitingLink) {
-        self.host.back_link(place, object.link);
+        let WaitingLink { link, meeting, .. } = object;
+        if let Some(meeting) = meeting {
+            self.has_missed = self.has_missed || meeting.missed;
+        }
+        self.host.back_link(place, link);
     }
 
     fn back_clock(&mut self, place: u8, object: ScriptClock) {

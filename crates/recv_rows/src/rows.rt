@@ -51,6 +51,12 @@ const FIRST: Brings<'static> = Brings {
     ..WHOLE
 };
 
+/// A link that brings one packet twice.
+const REPEATED: Brings<'static> = Brings {
+    letters: b"AA",
+    ..WHOLE
+};
+
 /// Two links that share three packets, one of them on both.
 const SHARED: Row<'static> = Row {
     line: "rist recv out 127.0.0.1:5000 127.0.0.1:5002",
@@ -86,7 +92,8 @@ const NO_LINE: Row<'static> = Row {
     ..SINGLE
 };
 
-/// Two links whose steps are kept or not, or of which one fails; and one link to its end, and for one turn.
+/// Two links whose steps are kept or not, or of which one fails; and one link to its end, for one turn, and with a packet
+/// that comes twice.
 pub const ENDS: &[Row<'static>] = &[
     Row {
         line: "rist recv out 127.0.0.1:5000 127.0.0.1:5002 --keep 64",
@@ -102,6 +109,12 @@ pub const ENDS: &[Row<'static>] = &[
     Row {
         line: "rist recv out 127.0.0.1:5000 --turns 1",
         written: Some(b"A"),
+        ..SINGLE
+    },
+    Row {
+        links: &[REPEATED],
+        written: Some(b"A"),
+        counted: Some((1, 1)),
         ..SINGLE
     },
 ];

@@ -1,4 +1,4 @@
-//! The program: words and the real host in, a status out. Its text goes to the error output.
+//! The program: words and the real host in, a status out. Its text goes to the error output, and behind it what was wrong.
 #![tactic(auto)]
 
 ghost use Rattle.std.specs.Prelude.{◌≡◌};
@@ -6,7 +6,7 @@ ghost use Rattle.std.specs.Process.{exit_status};
 ghost use Rattle.rist_top.specs.ExitCodes.{exit_code_of};
 
 use outside_host::RealHost;
-use rist_top::{Status, USAGE, run};
+use rist_top::{Status, complaint, run};
 use std::env;
 use std::process::ExitCode;
 use std::sync::Wait;
@@ -27,28 +27,70 @@ fn words_of(rt: &HostRuntime) -> Result<Vec<String>, Status> {
 }
 
 /// How the words of the command line end with the real host, and with threads of this runtime.
-fn status_of<R: Threads + Wait + Sync>(rt: &HostRuntime, threads: &R) -> Status {
-    match words_of(rt) {
-        Ok(words) => run(threads, rt.alloc(), &words, &mut RealHost::new(rt)),
-        Err(status) => status,
+fn status_of<R: Threads + Wait + Sync>(
+    rt: &HostRuntime,
+    threads: &R,
+    words: &[String],
+    host: &mut RealHost<'_, HostRuntime>,
+) -> Status {
+    run(threads, rt.alloc(), words, host)
+}
+
+/// Says on the error output what was wrong with the words, what couldn't be opened and why, or whose call failed. A line that
+/// can't be written changes no status.
+fn explain(rt: &HostRuntime, status: &Status, words: &[String], host: &RealHost<'_, HostRuntime>) {
+    match status {
+        Status::Usage if words.is_empty() => {
+            let _ = eprintln!(rt; "rist: a word isn't UTF-8 (rist --help)");
+        }
+        Status::Usage => {
+            if let Ok(complaint) = complaint(rt.alloc(), words) {
+                let _ = eprintln!(rt; "rist: {complaint}");
+            }
+        }
+        Status::OpenFault => {
+            if let Some(trouble) = host.trouble() {
+                let _ = eprintln!(rt; "rist: {trouble}");
+            }
+        }
+        Status::ReadFault => {
+            if let Some(name) = host.source_name() {
+                let _ = eprintln!(rt; "rist: {name}");
+            }
+        }
+        Status::WriteFault => {
+            if let Some(name) = host.sink_name() {
+                let _ = eprintln!(rt; "rist: {name}");
+            }
+        }
+        _ => {}
     }
 }
 
 /// Says on the error output how the program ended, and gives its exit status.
-fn ended(rt: &HostRuntime, status: Status) -> ExitCode
+fn ended(
+    rt: &HostRuntime,
+    status: Status,
+    words: &[String],
+    host: &RealHost<'_, HostRuntime>,
+) -> ExitCode
     ensures exit { exit_status result ≡ exit_code_of status }
 {
     if status != Status::Done {
         // A text that can't be written changes no status.
         let _ = eprintln!(rt; "rist: {status}");
-    }
-    if status == Status::Usage {
-        let _ = eprint!(rt; "{USAGE}");
+        explain(rt, &status, words, host);
     }
     ExitCode::from(status.exit_code())
 }
 
 fn main(rt: HostRuntime) -> ExitCode {
-    let status = status_of(&rt, &rt);
-    ended(&rt, status)
+    let mut host = RealHost::with_memory(&rt, rt.alloc());
+    match words_of(&rt) {
+        Ok(words) => {
+            let status = status_of(&rt, &rt, words.as_slice(), &mut host);
+            ended(&rt, status, words.as_slice(), &host)
+        }
+        Err(status) => ended(&rt, status, &[], &host),
+    }
 }

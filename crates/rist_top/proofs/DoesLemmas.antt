@@ -192,5 +192,5 @@ gates_nothing told tells live words faults old = record {
   };
   links_opened = λ unused ran c is. absurd (ran refuses);
   random = λ unused failed c is. absurd (cc (failed));
-  complete = λ unused opened c is none stays behind. inr (inr (inr (inr refl)));
+  complete = λ unused opened c is none stays behind. inr (inr (inl refl));
 }

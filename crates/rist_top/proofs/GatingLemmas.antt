@@ -1,5 +1,5 @@
 -- What a gateway leaves, part by part, and how it ends where nothing fails but links.
-use Rattle.std.proofs.Common.{◌≡◌, ◌∙◌, ◌⊎◌, ◌<◌, ◌≤◌, ◌+◌, ℕ, List, length, map, take, drop, Option, None, Some, IfSome, [], is_some, refl, sym, ap, subst, slice_get, slice_index_or, get_or-drop, get_or-take, length-drop, length-take-le, arith}
+use Rattle.std.proofs.Common.{◌≡◌, ◌∙◌, ◌⊎◌, ◌<◌, ◌≤◌, ◌+◌, ℕ, List, length, map, take, drop, Option, None, Some, IfSome, [], is_some, true, refl, sym, ap, subst, slice_get, slice_index_or, get_or-drop, get_or-take, length-drop, length-take-le, arith}
 use Rattle.std.proofs.lemmas.List.{length-map, get_or-map}
 use Rattle.std.proofs.lemmas.Option.{get_or_from_slice_get}
 use mathlib.Core.Logic.{inl, inr}
@@ -16,6 +16,7 @@ use Rattle.rist_sender.specs.declared.send_bad.SendBad.{SendBad}
 use Rattle.rist_sender.specs.declared.send_bad.SendBad.TheVariants as bads
 use Rattle.rist_ends.specs.declared.counts.Counts.{Counts}
 use Rattle.rist_ends.specs.declared.settings.Settings.{Settings as ReceiverSettings}
+use Rattle.rist_compare.specs.declared.tear.Tear.{Tear}
 use Rattle.rist_recv.specs.declared.ending.Ending.{Ending}
 use Rattle.rist_recv.specs.declared.ending.Ending.TheVariants as endings
 use Rattle.rist_recv.specs.Run.{EndsAs}
@@ -41,7 +42,7 @@ use Rattle.rist_top.specs.Sent.{TellsLive}
 use Rattle.rist_top.specs.Sessions.{bonding_with, limits_served, sender_gated, session_gated, session_read, settings_with, setup_gated, steps_kept}
 use Rattle.rist_top.specs.declared.status.Status.{Status}
 use Rattle.rist_top.specs.declared.status.Status.TheVariants as statuses
-use Rattle.rist_top.proofs.HeardLemmas.{at_place, failed_at}
+use Rattle.rist_top.proofs.HeardLemmas.{at_place, failed_at, no_limit}
 use Rattle.rist_top.proofs.ReceiveLemmas.{words_between}
 use Rattle.rist_top.proofs.WholeLemmas.{is_refused}
 
@@ -53,17 +54,17 @@ made_setup receiving settings session sealer = record { receiving = receiving; r
 
 -- a run is set to what a line says
 pub same_gate_setup : (c : GateCommand) (receiving : ReceiveSetup) (settings : SenderSettings) (session : Session) (first second : Option SealerState)
-    → receiving ≡ setup_made (settings_with c.receiver) (session_read c.session) first (steps_kept c.serving) → settings ≡ sender_gated c → session ≡ session_gated c
+    → receiving ≡ setup_made (settings_with c.receiver) (session_read c.session) first (steps_kept c.serving) true → settings ≡ sender_gated c → session ≡ session_gated c
     → made_setup receiving settings session second ≡ setup_gated c first second
 same_gate_setup c receiving settings session first second a b d =
     ap (λ x. made_setup x settings session second) a
-    ∙ (ap (λ x. made_setup (setup_made (settings_with c.receiver) (session_read c.session) first (steps_kept c.serving)) x session second) b
-    ∙ ap (λ x. made_setup (setup_made (settings_with c.receiver) (session_read c.session) first (steps_kept c.serving)) (sender_gated c) x second) d)
+    ∙ (ap (λ x. made_setup (setup_made (settings_with c.receiver) (session_read c.session) first (steps_kept c.serving) true) x session second) b
+    ∙ ap (λ x. made_setup (setup_made (settings_with c.receiver) (session_read c.session) first (steps_kept c.serving) true) (sender_gated c) x second) d)
 
 -- a receiving end is set to what a line says
-pub same_receiving_end : (settings settings' : ReceiverSettings) (session session' : Session) (sealer : Option SealerState) (keep keep' : Option ℕ) → settings ≡ settings' → session ≡ session' → keep ≡ keep'
-    → setup_made settings session sealer keep ≡ setup_made settings' session' sealer keep'
-same_receiving_end settings settings' session session' sealer keep keep' a b d = rw (a, b, d) refl
+pub same_receiving_end : (settings settings' : ReceiverSettings) (session session' : Session) (sealer : Option SealerState) (limit limit' : Option ℕ) → settings ≡ settings' → session ≡ session' → limit ≡ limit'
+    → setup_made settings session sealer limit true ≡ setup_made settings' session' sealer limit' true
+same_receiving_end settings settings' session session' sealer limit limit' a b d = rw (a, b, d) refl
 
 -- the links that share are as many as there are
 pub as_many_links : (links : ℕ) (share : Option (List ℕ)) → IfSome share (λ weights. (length weights ≡ links) × All IsWeight weights) → link_count (bonding_with links share) ≡ links
@@ -170,6 +171,48 @@ down_by endings.Done put None ends = absurd (cc (ends))
 down_by endings.Done put (Some bads.Spent) ends = absurd (cc (ends))
 down_by endings.Done put (Some bads.LinksDown) ends = inr (inr refl)
 
+-- the receiving end's trace was full, or its lists are torn, where the gateway's are
+full_by : (ended : Ending) (put looked : Option SendBad) → EndsGate ended put looked gates.TraceFull → ended ≡ endings.TraceFull
+full_by endings.WriteFault None looked ends = absurd ends
+full_by endings.WriteFault (Some bads.Spent) looked ends = absurd (cc (ends))
+full_by endings.WriteFault (Some bads.LinksDown) looked ends = absurd (cc (ends))
+full_by endings.Spent put None ends = absurd (cc (ends))
+full_by endings.Spent put (Some bads.Spent) ends = absurd (cc (ends))
+full_by endings.Spent put (Some bads.LinksDown) ends = absurd (cc (ends))
+full_by endings.TraceFull put looked ends = refl
+full_by (endings.Torn tear) put None ends = absurd (cc (ends))
+full_by (endings.Torn tear) put (Some bads.Spent) ends = absurd (cc (ends))
+full_by (endings.Torn tear) put (Some bads.LinksDown) ends = absurd (cc (ends))
+full_by endings.LinksDown put None ends = absurd (cc (ends))
+full_by endings.LinksDown put (Some bads.Spent) ends = absurd (cc (ends))
+full_by endings.LinksDown put (Some bads.LinksDown) ends = absurd (cc (ends))
+full_by endings.Done put None ends = absurd (cc (ends))
+full_by endings.Done put (Some bads.Spent) ends = absurd (cc (ends))
+full_by endings.Done put (Some bads.LinksDown) ends = absurd (cc (ends))
+
+same_tear : (a b : Tear) → gates.Torn a ≡ gates.Torn b → endings.Torn b ≡ endings.Torn a
+same_tear a b e = cc (e)
+
+torn_by : (tear : Tear) (ended : Ending) (put looked : Option SendBad) → EndsGate ended put looked (gates.Torn tear) → ended ≡ endings.Torn tear
+torn_by tear endings.WriteFault None looked ends = absurd ends
+torn_by tear endings.WriteFault (Some bads.Spent) looked ends = absurd (cc (ends))
+torn_by tear endings.WriteFault (Some bads.LinksDown) looked ends = absurd (cc (ends))
+torn_by tear endings.Spent put None ends = absurd (cc (ends))
+torn_by tear endings.Spent put (Some bads.Spent) ends = absurd (cc (ends))
+torn_by tear endings.Spent put (Some bads.LinksDown) ends = absurd (cc (ends))
+torn_by tear endings.TraceFull put None ends = absurd (cc (ends))
+torn_by tear endings.TraceFull put (Some bads.Spent) ends = absurd (cc (ends))
+torn_by tear endings.TraceFull put (Some bads.LinksDown) ends = absurd (cc (ends))
+torn_by tear (endings.Torn other) put None ends = same_tear tear other ends
+torn_by tear (endings.Torn other) put (Some bads.Spent) ends = absurd (cc (ends))
+torn_by tear (endings.Torn other) put (Some bads.LinksDown) ends = same_tear tear other ends
+torn_by tear endings.LinksDown put None ends = absurd (cc (ends))
+torn_by tear endings.LinksDown put (Some bads.Spent) ends = absurd (cc (ends))
+torn_by tear endings.LinksDown put (Some bads.LinksDown) ends = absurd (cc (ends))
+torn_by tear endings.Done put None ends = absurd (cc (ends))
+torn_by tear endings.Done put (Some bads.Spent) ends = absurd (cc (ends))
+torn_by tear endings.Done put (Some bads.LinksDown) ends = absurd (cc (ends))
+
 -- one of the links behind the first ones, as it shows itself
 shown_at : {L : Type 0} (line : Line L) (xs : List L) (n k : ℕ) (x : L) (d : LinkState) → slice_get xs (n + k) ≡ Some x → k < length (drop n xs)
     → slice_index_or (map (shown line) (drop n xs)) k d ≡ shown line x
@@ -236,20 +279,26 @@ not_down tells live old new c status r (inr (inr looked)) stays behind =
 
 ended_by : {I O E L C : Type 0} (tells : Tells I O E) (live : TellsLive L C) (old new : Shelf I O E L C) (c : GateCommand) (status : Status) (r : Gated tells live old new c status) (end : GateEnding)
     → r.gated.gates.ending ≡ end → status ≡ gate_status end → StaysUp live.line old.links new.links (length c.inputs)
-    → StaysUpBehind live.line old.links new.links (length c.inputs) (length c.outputs) → IsGateWhole status
+    → StaysUpBehind live.line old.links new.links (length c.inputs) (length c.outputs) → IsGateWhole c status
 ended_by tells live old new c status r gates.Done is answer stays behind = inl answer
 ended_by tells live old new c status r gates.Spent is answer stays behind = inr (inl answer)
-ended_by tells live old new c status r gates.TraceFull is answer stays behind = inr (inr (inl answer))
-ended_by tells live old new c status r (gates.Torn tear) is answer stays behind = inr (inr (inr (inl (tear, answer))))
+ended_by tells live old new c status r gates.TraceFull is answer stays behind =
+    let run = r.gated.gates.run in
+    let full = full_by run.ended run.last.put_bad run.last.aside_bad (subst (EndsGate run.ended run.last.put_bad run.last.aside_bad) is run.ends) in
+    inr (inr (inr (λ zero. (run.receives.sure (no_limit c.serving.keep zero) refl).room full, inl answer)))
+ended_by tells live old new c status r (gates.Torn tear) is answer stays behind =
+    let run = r.gated.gates.run in
+    let torn = torn_by tear run.ended run.last.put_bad run.last.aside_bad (subst (EndsGate run.ended run.last.put_bad run.last.aside_bad) is run.ends) in
+    inr (inr (inr (λ zero. (run.receives.sure (no_limit c.serving.keep zero) refl).whole tear torn, inr (tear, answer))))
 ended_by tells live old new c status r gates.LinksDown is answer stays behind =
     let run = r.gated.gates.run in
     absurd (not_down tells live old new c status r
     (down_by run.ended run.last.put_bad run.last.aside_bad (subst (EndsGate run.ended run.last.put_bad run.last.aside_bad) is run.ends)) stays behind)
 
-refused_ends : (s : Status) → (s ≡ statuses.OpenFault → ⊥) → (s ≡ statuses.EntropyFault → ⊥) → CanRefuse s → IsGateWhole s
-refused_ends s opened words (inl e) = absurd (opened e)
-refused_ends s opened words (inr (inl e)) = inr (inr (inr (inr e)))
-refused_ends s opened words (inr (inr e)) = absurd (words e)
+refused_ends : (c : GateCommand) (s : Status) → (s ≡ statuses.OpenFault → ⊥) → (s ≡ statuses.EntropyFault → ⊥) → CanRefuse s → IsGateWhole c s
+refused_ends c s opened words (inl e) = absurd (opened e)
+refused_ends c s opened words (inr (inl e)) = inr (inr (inl e))
+refused_ends c s opened words (inr (inr e)) = absurd (words e)
 
 -- a gateway in which nothing fails but links, of which one of each end doesn't, comes to its end
 pub gated_completes : {I O E L C : Type 0} (tells : Tells I O E) (live : TellsLive L C) (old new : Shelf I O E L C) (c : GateCommand) (status : Status)
@@ -257,8 +306,8 @@ pub gated_completes : {I O E L C : Type 0} (tells : Tells I O E) (live : TellsLi
     → CompletesGating tells live.line old new c status
 gated_completes tells live old new c status opened words gated none stays behind = by_refusal (is_refused status)
   where
-    by_refusal : CanRefuse status ⊎ (CanRefuse status → ⊥) → IsGateWhole status
-    by_refusal (inl refused) = refused_ends status opened (λ e. none (words e)) refused
+    by_refusal : CanRefuse status ⊎ (CanRefuse status → ⊥) → IsGateWhole c status
+    by_refusal (inl refused) = refused_ends c status opened (λ e. none (words e)) refused
     by_refusal (inr ran) =
         let r = gated ran in
         ended_by tells live old new c status r r.gated.gates.ending refl r.gated.gates.answer stays behind

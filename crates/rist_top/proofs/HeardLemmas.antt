@@ -1,5 +1,5 @@
 -- A receiving in which nothing fails but links, of which one doesn't, comes to its end.
-use Rattle.std.proofs.Common.{◌≡◌, ◌∙◌, ◌⊎◌, ◌<◌, ℕ, List, [], ◌∷◌, length, map, Bool, true, Option, Some, refl, sym, ap, subst, slice_get, get_or, arith}
+use Rattle.std.proofs.Common.{◌≡◌, ◌∙◌, ◌⊎◌, ◌<◌, ℕ, List, [], ◌∷◌, length, map, Bool, true, if◌then◌else◌, ◌==◌, Option, None, Some, refl, sym, ap, subst, slice_get, get_or, arith}
 use Rattle.std.proofs.lemmas.List.{length-map, get_or-map}
 use Rattle.std.proofs.lemmas.List.Sums.{AllPass-from_list_all}
 use Rattle.std.proofs.lemmas.Option.{get_or_from_slice_get, slice_get-get_or}
@@ -86,12 +86,18 @@ each_failed tells live old new c status r failed stays =
     (tells.contents r.sink) (tells.contents r.filled) (tells.write_faults r.sink) (tells.write_faults r.filled) o.received.counts o.received.receives.ending o.received.receives.run failed stays.place among in
     stays.up f.0 f.1 (o.links.took stays.place f.0 among ∙ ap Here f.2) (o.links.gave stays.place f.1 among ∙ ap Back f.3) f.4
 
+-- a line that keeps no steps has no limit on them
+pub no_limit : (keep : ℕ) → keep ≡ 0 → (if keep == 0 then None else Some keep) ≡ None
+no_limit keep is = ap (λ (n : ℕ). if n == 0 then None else Some n) is
+
 ended_by : {I O E L C : Type 0} (tells : Tells I O E) (live : TellsLive L C) (old new : Shelf I O E L C) (c : RecvCommand) (status : Status) (r : Received tells live old new c status) (end : Ending)
     → r.received.received.receives.ending ≡ end → status ≡ receive_status end → NoWriteFailed tells old new c → StaysUp live.line old.links new.links (length c.links) → IsHeard c status
 ended_by tells live old new c status r endings.Done is answer none stays = inl answer
 ended_by tells live old new c status r endings.Spent is answer none stays = inr (inl answer)
-ended_by tells live old new c status r endings.TraceFull is answer none stays = inr (inr (inl answer))
-ended_by tells live old new c status r (endings.Torn tear) is answer none stays = inr (inr (inr (inl (tear, answer))))
+ended_by tells live old new c status r endings.TraceFull is answer none stays =
+    inr (inr (inr (λ zero. (r.received.received.receives.run.sure (no_limit c.serving.keep zero) refl).room is, inl answer)))
+ended_by tells live old new c status r (endings.Torn tear) is answer none stays =
+    inr (inr (inr (λ zero. (r.received.received.receives.run.sure (no_limit c.serving.keep zero) refl).whole tear is, inr (tear, answer))))
 ended_by tells live old new c status r endings.WriteFault is answer none stays =
     absurd (none.writes r.sink r.filled r.took r.gave
     (rose_by (is_write_fault r.received.received.receives.ending) (tells.write_faults r.sink) (tells.write_faults r.filled) (ap is_write_fault is) r.received.received.receives.run.fault))
@@ -103,7 +109,7 @@ ended_by tells live old new c status r endings.LinksDown is answer none stays =
 
 refused_ends : (c : RecvCommand) (s : Status) → (s ≡ statuses.OpenFault → ⊥) → (s ≡ statuses.EntropyFault → ⊥) → CanRefuse s → IsHeard c s
 refused_ends c s opened words (inl e) = absurd (opened e)
-refused_ends c s opened words (inr (inl e)) = inr (inr (inr (inr e)))
+refused_ends c s opened words (inr (inl e)) = inr (inr (inl e))
 refused_ends c s opened words (inr (inr e)) = absurd (words e)
 
 pub received_completes : {I O E L C : Type 0} (tells : Tells I O E) (live : TellsLive L C) (old new : Shelf I O E L C) (c : RecvCommand) (status : Status)

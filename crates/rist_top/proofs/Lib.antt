@@ -1,3 +1,4 @@
+pub mod AskLemmas
 pub mod PlaceLemmas
 pub mod ExactLemmas
 pub mod CompleteLemmas
@@ -11,4 +12,5 @@ pub mod ReceiveLemmas
 pub mod HeardLemmas
 pub mod GatingLemmas
 pub mod DoesLemmas
+pub mod PrintLemmas
 pub mod DrillLemmas

@@ -1,6 +1,7 @@
 -- What a receiving leaves, part by part.
-use Rattle.std.proofs.Common.{◌≡◌, ◌∙◌, ◌<◌, ℕ, List, length, map, Bool, true, false, Option, None, Some, IfSome, is_some, refl, sym, ap, subst}
+use Rattle.std.proofs.Common.{◌≡◌, ◌∙◌, ◌<◌, ◌==◌, ℕ, arith, List, length, map, Bool, true, false, Option, None, Some, IfSome, is_some, refl, sym, ap, subst}
 use Rattle.std.specs.Prelude.{if◌then◌else◌}
+use Rattle.std.proofs.lemmas.Bool.Decides.{nat_tests}
 use mathlib.Core.Logic.{inr}
 use Rattle.outside_io.specs.declared.profile.Profile.{Profile}
 use Rattle.outside_net.specs.declared.link_spec.LinkSpec.{LinkSpec}
@@ -25,6 +26,13 @@ use Rattle.rist_top.specs.Sent.{IsUnused, TellsLive}
 use Rattle.rist_top.specs.Sessions.{kept_steps, session_read, settings_received, setup_received}
 use Rattle.rist_top.specs.declared.status.Status.{Status}
 
+-- a line that keeps steps limits them, and one that keeps none doesn't
+pub kept_some : (n : ℕ) → 0 < n → Some n ≡ (if n == 0 then None else Some n)
+kept_some n some = elim (n == 0) as (λ b. (n == 0) ≡ b → Some n ≡ (if b then None else Some n)) [
+  | true ↦ λ t. let is : n ≡ 0 = grind (arith, nat_tests) in absurd (omega (arith, some, is))
+  | false ↦ λ t. refl
+] refl
+
 -- a kind of trace that keeps steps where a line says so keeps as many as it says
 pub kept_as : (b t : Bool) (n : ℕ) → b ≡ is_some (if t then None else Some n) → (if b then Some n else None) ≡ (if t then None else Some n)
 kept_as true true n is = absurd (cc (is))
@@ -32,12 +40,15 @@ kept_as true false n is = refl
 kept_as false true n is = refl
 kept_as false false n is = absurd (cc (is))
 
+pub kept_none : (n : ℕ) → n ≡ 0 → None ≡ (if n == 0 then None else Some n)
+kept_none n is = ap (λ (k : ℕ). if k == 0 then None else Some k) (sym is)
+
 -- a run is set to what a line says
-pub same_setup : (c : RecvCommand) (settings : ReceiverSettings) (session : Session) (sealer : Option SealerState) (keep : Option ℕ) → settings ≡ settings_received c → session ≡ session_read c.session
-    → keep ≡ kept_steps c → setup_made settings session sealer keep ≡ setup_received c sealer
-same_setup c settings session sealer keep a b d =
-    ap (λ x. setup_made x session sealer keep) a
-    ∙ (ap (λ x. setup_made (settings_received c) x sealer keep) b ∙ ap (λ x. setup_made (settings_received c) (session_read c.session) sealer x) d)
+pub same_setup : (c : RecvCommand) (settings : ReceiverSettings) (session : Session) (sealer : Option SealerState) (limit : Option ℕ) → settings ≡ settings_received c → session ≡ session_read c.session
+    → limit ≡ kept_steps c → setup_made settings session sealer limit true ≡ setup_received c sealer
+same_setup c settings session sealer limit a b d =
+    ap (λ x. setup_made x session sealer limit true) a
+    ∙ (ap (λ x. setup_made (settings_received c) x sealer limit true) b ∙ ap (λ x. setup_made (settings_received c) (session_read c.session) sealer x true) d)
 
 -- objects that were handed out from the first places, and came back there
 pub from_first : {X : Type 0} (old mid later new : ℕ → Place X) (were are : List X) → AreOut old mid were → later ≡ mid → AreBack later new are → length are ≡ length were

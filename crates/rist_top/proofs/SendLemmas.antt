@@ -1,7 +1,7 @@
 -- What a sending leaves, part by part.
 use Rattle.std.proofs.Common.{◌≡◌, ◌*◌, ◌<◌, ◌∷◌, ◌++◌, take, drop, ℕ, List, [], length, map, Option, IfSome, refl, sym, ap, ◌∙◌, subst, slice_index_or}
-use mathlib.Core.Logic.{inl}
-use Rattle.std.specs.Prelude.{Result, Bool}
+use mathlib.Core.Logic.{inl, inr}
+use Rattle.std.specs.Prelude.{Result, Ok, Err, Bool}
 use Rattle.outside_host.specs.Shelf.{Shelf}
 use Rattle.outside_host.specs.declared.host.Place.{Place}
 use Rattle.outside_host.specs.declared.host.Place.TheVariants.{Here, Back}
@@ -14,12 +14,16 @@ use Rattle.rist_send.specs.Run.{setup_of}
 use Rattle.rist_send.specs.Sending.{SendsSource}
 use Rattle.rist_send.specs.Served.{Outside, AreServed, Runs, new_run}
 use Rattle.rist_send.specs.declared.fault.SendFault.{SendFault}
+use Rattle.rist_send.specs.declared.fault.SendFault.TheVariants as faults
+use Rattle.rist_send.specs.declared.settings.SendSettings.{SendSettings}
 use Rattle.rist_words.specs.CommandLine.{SendCommand}
 use Rattle.rist_top.specs.Objects.{Tells}
 use Rattle.rist_top.specs.Sealing.{DrawnFirst}
 use Rattle.rist_top.specs.Sessions.{bonding_with, session_sent, setup_sent}
 use Rattle.rist_top.specs.Sent.{IsUnused, SendsAs, SentByClock, SentOnLinks, TellsLive, no_work, send_status}
 use Rattle.rist_top.specs.declared.status.Status.{Status}
+use Rattle.rist_top.specs.declared.status.Status.TheVariants as statuses
+use Rattle.rist_top.specs.Causes.{CanRefuse}
 
 -- a sender is set to what a line says
 pub record IsSetTo (s : SenderState) (c : SendCommand) : Type 0 where
@@ -30,26 +34,59 @@ pub record IsSetTo (s : SenderState) (c : SendCommand) : Type 0 where
   pub bonding : s.bonding ≡ bonding_with (length c.links) c.share
   pub session : s.session ≡ session_sent c
 
-same_setup : (c : SendCommand) (s : SenderState) (links : ℕ) → IsSetTo s c → links ≡ length c.links
-    → setup_of (record { gap = c.gap; linger = 1000 * c.linger; turns = c.turns }) s links ≡ setup_sent c
+-- the pace of a line
+abbrev pub pace_with : SendCommand → SendSettings
+pace_with c = record { lead = 1000 * c.lead; gap = c.gap; linger = 1000 * c.linger; turns = c.turns }
+
+same_setup : (c : SendCommand) (s : SenderState) (links : ℕ) → IsSetTo s c → links ≡ length c.links → setup_of (pace_with c) s links ≡ setup_sent c
 same_setup c s links set is = rw (set.flow, set.first, set.hold, set.size, set.bonding, set.session, is) refl
 
 -- what a run left is what the line asks for
-pub sends_as : {L : Type 0} (line : Line L) (c : SendCommand) (sealer : Option SealerState) (s after : SenderState) (had has : Outside) (was is : List L) (end : Result Unit SendFault) (status : Status)
-    → IsSetTo s c → length was ≡ length c.links → status ≡ send_status end
-    → Runs line s after has was is (no_work sealer) (SendsSource (setup_of (record { gap = c.gap; linger = 1000 * c.linger; turns = c.turns }) s (length was)) end (new_run (no_work sealer) had))
+pub sends_as : {L : Type 0} (line : Line L) (c : SendCommand) (sealer : Option SealerState) (pace : SendSettings) (s after : SenderState) (had has : Outside) (was is : List L) (end : Result Unit SendFault) (status : Status)
+    → pace ≡ pace_with c → IsSetTo s c → length was ≡ length c.links → status ≡ send_status end
+    → Runs line s after has was is (no_work sealer) (SendsSource (setup_of pace s (length was)) end (new_run (no_work sealer) had))
     → SendsAs line c sealer had has was is status
-sends_as line c sealer s after had has was is end status set count answer runs = record {
+sends_as line c sealer pace s after had has was is end status paced set count answer runs = record {
   end = end;
   answer = answer;
   to = runs.to;
-  sends = subst (λ setup. SendsSource setup end (new_run (no_work sealer) had) runs.to) (same_setup c s (length was) set count) runs.fact;
+  sends = subst (λ setup. SendsSource setup end (new_run (no_work sealer) had) runs.to) (ap (λ p. setup_of p s (length was)) paced ∙ same_setup c s (length was) set count) runs.fact;
   moments = runs.moments;
   octets = runs.octets;
   answers = runs.answers;
   given = subst (λ f. AreServed line f (session_sent c) [] runs.to.work.history was is) set.flow
       (subst (λ x. AreServed line s.flow x [] runs.to.work.history was is) set.session runs.given);
 }
+
+-- a run of a sending refuses nothing
+not_open : (end : Result Unit SendFault) → send_status end ≡ statuses.OpenFault → ⊥
+not_open (Ok x) e = cc
+not_open (Err faults.ReadFault) e = cc
+not_open (Err faults.LinksDown) e = cc
+not_open (Err faults.Spent) e = cc
+not_open (Err faults.TooLong) e = cc
+not_open (Err faults.TurnsSpent) e = cc
+
+not_memory : (end : Result Unit SendFault) → send_status end ≡ statuses.Memory → ⊥
+not_memory (Ok x) e = cc
+not_memory (Err faults.ReadFault) e = cc
+not_memory (Err faults.LinksDown) e = cc
+not_memory (Err faults.Spent) e = cc
+not_memory (Err faults.TooLong) e = cc
+not_memory (Err faults.TurnsSpent) e = cc
+
+not_entropy : (end : Result Unit SendFault) → send_status end ≡ statuses.EntropyFault → ⊥
+not_entropy (Ok x) e = cc
+not_entropy (Err faults.ReadFault) e = cc
+not_entropy (Err faults.LinksDown) e = cc
+not_entropy (Err faults.Spent) e = cc
+not_entropy (Err faults.TooLong) e = cc
+not_entropy (Err faults.TurnsSpent) e = cc
+
+pub refuses_none : (end : Result Unit SendFault) (status : Status) → status ≡ send_status end → CanRefuse status → ⊥
+refuses_none end status is (inl e) = not_open end (sym is ∙ e)
+refuses_none end status is (inr (inl e)) = not_memory end (sym is ∙ e)
+refuses_none end status is (inr (inr e)) = not_entropy end (sym is ∙ e)
 
 -- links that were handed out and are given back as they were
 pub links_as_they_were : {L : Type 0} (old mid later new : ℕ → Place L) (links given : List L) → AreOut old mid links → later ≡ mid → given ≡ links → AreBack later new given → AreAsTheyWere old new

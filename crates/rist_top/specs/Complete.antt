@@ -1,5 +1,5 @@
 -- A command whose calls don't fail comes to its end, or memory is refused.
-use Rattle.std.specs.Prelude.{◌≡◌, ◌⊎◌, ◌<◌, ◌≤◌, ◌+◌, ◌^◌, ℕ, List, length, Some, true, is_some}
+use Rattle.std.specs.Prelude.{◌≡◌, ◌≢◌, ◌⊎◌, ◌<◌, ◌≤◌, ◌+◌, ◌^◌, ℕ, List, length, Some, true, is_some}
 use Rattle.outside_io.specs.Causes.{Rose}
 use Rattle.outside_host.specs.Shelf.{Shelf}
 use Rattle.outside_host.specs.declared.host.Place.{Place}
@@ -71,12 +71,16 @@ pub record NoWriteFailed {I O E L C : Type 0} (tells : Tells I O E) (old new : S
       → Rose (tells.write_faults sink) (tells.write_faults filled) → ⊥
   pub words : FailedAt tells old new → ⊥
 
--- a receiving came to its end, or too few pairs were left, or its kept steps had no room or differ, or memory was
--- refused
+-- the steps that a run is to keep had no room, or differ
+abbrev pub IsKeptBadly : Status → Type 0
+IsKeptBadly status = (status ≡ statuses.TraceFull) ⊎ ((tear : Tear) × (status ≡ statuses.Torn tear))
+
+-- a receiving came to its end, or too few pairs were left, or memory was refused; or its steps were to be kept, and had no
+-- room or differ
 abbrev pub IsHeard : RecvCommand → Status → Type 0
 IsHeard c status =
     (status ≡ statuses.Done)
-    ⊎ ((status ≡ statuses.Spent) ⊎ ((status ≡ statuses.TraceFull) ⊎ (((tear : Tear) × (status ≡ statuses.Torn tear)) ⊎ (status ≡ statuses.Memory))))
+    ⊎ ((status ≡ statuses.Spent) ⊎ ((status ≡ statuses.Memory) ⊎ ((c.serving.keep ≢ 0) × IsKeptBadly status)))
 
 -- a receiving in which nothing failed but links, of which one stays up, ends so
 abbrev pub CompletesReceiving : {I O E L C : Type 0} → Tells I O E → Line L → Shelf I O E L C → Shelf I O E L C → RecvCommand → Status → Type 0
@@ -89,16 +93,16 @@ pub record StaysUpBehind {L : Type 0} (line : Line L) (old new : ℕ → Place L
   pub among : place < count
   pub up : (was is : L) → old (first + place) ≡ Here was → new (first + place) ≡ Back is → Rose (line.faults was) (line.faults is) → ⊥
 
--- a gateway came to its end, or too few pairs were left at either end, or its kept steps had no room or differ, or
--- memory was refused
-abbrev pub IsGateWhole : Status → Type 0
-IsGateWhole status =
+-- a gateway came to its end, or too few pairs were left at either end, or memory was refused; or its steps were to be
+-- kept, and had no room or differ
+abbrev pub IsGateWhole : GateCommand → Status → Type 0
+IsGateWhole c status =
     (status ≡ statuses.Done)
-    ⊎ ((status ≡ statuses.Spent) ⊎ ((status ≡ statuses.TraceFull) ⊎ (((tear : Tear) × (status ≡ statuses.Torn tear)) ⊎ (status ≡ statuses.Memory))))
+    ⊎ ((status ≡ statuses.Spent) ⊎ ((status ≡ statuses.Memory) ⊎ ((c.serving.keep ≢ 0) × IsKeptBadly status)))
 
 -- a gateway in which nothing failed but links, of which one that is received on and one that is sent on stay up, ends
 -- so
 abbrev pub CompletesGating : {I O E L C : Type 0} → Tells I O E → Line L → Shelf I O E L C → Shelf I O E L C → GateCommand → Status → Type 0
 CompletesGating tells line old new c status =
     (FailedAt tells old new → ⊥) → StaysUp line old.links new.links (length c.inputs)
-    → StaysUpBehind line old.links new.links (length c.inputs) (length c.outputs) → IsGateWhole status
+    → StaysUpBehind line old.links new.links (length c.inputs) (length c.outputs) → IsGateWhole c status

@@ -18,5 +18,7 @@ pub mod Exact
 pub mod Complete
 pub mod Does
 pub mod DoesGate
+pub mod Printing
 pub mod DoesDrill
+pub mod DoesAsk
 pub mod Inside

@@ -2,6 +2,8 @@
 use Rattle.std.specs.Prelude.{◌≡◌, Bool, List, Option, Some, None, IsTrue, map, string_bytes}
 use Rattle.std.specs.declared.string.String.{String}
 use Rattle.outside_host.specs.Shelf.{Shelf}
+use Rattle.rist_help.specs.Asks.{ask_of}
+use Rattle.rist_help.specs.declared.Ask.{Ask}
 use Rattle.rist_words.specs.CommandLine.{CommandLine, Replay, Show, Count, Pack, Send, Recv, Gate, Drill, SendCommand, RecvCommand, GateCommand, DrillCommand, line_of}
 
 -- they are this line
@@ -35,9 +37,17 @@ plain_line (Some (Drill c)) = Some (Drill c)
 abbrev pub IsNoPlainLine : {A : Type 0} → List (String A) → Type 0
 IsNoPlainLine words = plain_line (line_of (map string_bytes words)) ≡ None
 
--- they are no line
+-- they are no line of a command
 abbrev pub IsNoLine : {A : Type 0} → List (String A) → Type 0
 IsNoLine words = line_of (map string_bytes words) ≡ None
+
+-- they ask neither for help nor for the version
+abbrev pub AsksNothing : {A : Type 0} → List (String A) → Type 0
+AsksNothing words = ask_of (map string_bytes words) ≡ None
+
+-- P holds of what they ask for, if they do
+abbrev pub IfAsk : {A : Type 0} → List (String A) → (Ask → Type 0) → Type 0
+IfAsk words P = (ask : Ask) → ask_of (map string_bytes words) ≡ Some ask → P ask
 
 -- a command over a source and a sink: any but those over links, and a simulated run, which reads nothing
 abbrev pub IsOverFiles : CommandLine → Type 0

@@ -1,5 +1,5 @@
 -- The session and the settings that a line speaks of.
-use Rattle.std.specs.Prelude.{◌*◌, ◌==◌, ℕ, List, length, Option, Some, None, Bool, false, if◌then◌else◌}
+use Rattle.std.specs.Prelude.{◌*◌, ◌==◌, ℕ, List, length, Option, Some, None, Bool, true, false, if◌then◌else◌}
 use Rattle.seq_unwrap.specs.declared.width.Width.TheVariants.{W16, W32}
 use Rattle.receiver_rules.specs.declared.limits.Limits.{Limits}
 use Rattle.rist_wire.specs.declared.session.Session.{Session}
@@ -29,6 +29,8 @@ session_with s nulls wide =
       nulls = nulls;
       width = if wide then W32 else W16;
       full = s.full;
+      tunnel = s.tunnel;
+      echo = s.echo;
     }
 
 -- one whose datagrams are read alone
@@ -71,7 +73,7 @@ rules_sent c = record {
 -- what its run is set to, with times in microseconds
 abbrev pub setup_sent : SendCommand → Setup
 setup_sent c = record {
-  settings = record { gap = c.gap; linger = 1000 * c.linger; turns = c.turns };
+  settings = record { lead = 1000 * c.lead; gap = c.gap; linger = 1000 * c.linger; turns = c.turns };
   rules = rules_sent c;
   session = session_sent c;
   links = length c.links;
@@ -96,7 +98,7 @@ settings_with r = record {
 abbrev pub settings_received : RecvCommand → ReceiverSettings
 settings_received c = settings_with c.receiver
 
--- how many steps a run keeps at most, where it keeps any
+-- how many steps a run's lists take at most, where its line limits them
 abbrev pub steps_kept : Serving → Option ℕ
 steps_kept s = if s.keep == 0 then None else Some s.keep
 
@@ -104,9 +106,9 @@ steps_kept s = if s.keep == 0 then None else Some s.keep
 abbrev pub kept_steps : RecvCommand → Option ℕ
 kept_steps c = steps_kept c.serving
 
--- what its run is set to, under a sealer where there is one
+-- what its run is set to, under a sealer where there is one: its steps are told, with that limit or, in turns, with none
 abbrev pub setup_received : RecvCommand → Option SealerState → ReceiveSetup
-setup_received c sealer = setup_made (settings_received c) (session_read c.session) sealer (kept_steps c)
+setup_received c sealer = setup_made (settings_received c) (session_read c.session) sealer (kept_steps c) true
 
 -- when a run's workers end, with times in microseconds
 abbrev pub limits_served : Serving → WorkerLimits
@@ -130,10 +132,11 @@ sender_gated c = record {
   bond = bonding_with (length c.outputs) c.share;
 }
 
--- what its run is set to, under these sealers of its receiver and of its sender, where there are any
+-- what its run is set to, under these sealers of its receiver and of its sender, where there are any: the receiver's steps
+-- are told, with that limit or, in turns, with none
 abbrev pub setup_gated : GateCommand → Option SealerState → Option SealerState → GateSetup
 setup_gated c receiving sending = record {
-  receiving = setup_made (settings_with c.receiver) (session_read c.session) receiving (steps_kept c.serving);
+  receiving = setup_made (settings_with c.receiver) (session_read c.session) receiving (steps_kept c.serving) true;
   rules = rules_with (sender_gated c) (session_gated c);
   session = session_gated c;
   sealer = sending;

@@ -6,7 +6,8 @@ ghost use Rattle.outside_host.specs.Shelf.{ChangesSinks, Stays};
 ghost use Rattle.rist_words.specs.Shown.{shown_drill};
 ghost use Rattle.rist_words.specs.Ranges.{IsInDrill};
 ghost use Rattle.rist_top.specs.Causes.{CanRefuse, fault_of};
-ghost use Rattle.rist_top.specs.DoesDrill.{Drills, IsDrillEnd, IsSummary, script_of};
+ghost use Rattle.rist_top.specs.DoesDrill.{IsSummary, script_of};
+ghost use Rattle.rist_top.specs.Printing.{IsPrintEnd, Prints};
 
 use crate::status::Status;
 use crate::telling::Telling;
@@ -46,11 +47,11 @@ fn put_text<K: Sink>(sink: &mut K, text: &[u8]) -> Status
 /// Does the line of a simulated run.
 pub fn drill_line<H: Host>(alloc: Global, host: &mut H, line: &DrillLine) -> Status
     requires range { IsInDrill (shown_drill line.now) }
-    ensures ends { IsDrillEnd result }
+    ensures ends { IsPrintEnd result }
     ensures opened { HasOpenCause (fault_of result) (H.faults host.old) (H.faults host.new) }
-    ensures summed { IsTrue H.tells → (CanRefuse result → ⊥)
-        → Drills ⟦<H as Telling>⟧.objects (H.shelf host.old) (H.shelf host.new) (shown_drill line.now) result }
-    ensures unsummed { IsTrue H.tells → CanRefuse result → Stays (H.shelf host.old).sinks (H.shelf host.new).sinks }
+    ensures printed { IsTrue H.tells → (CanRefuse result → ⊥) → Prints ⟦<H as Telling>⟧.objects
+        (IsSummary (script_of (shown_drill line.now))) (H.shelf host.old) (H.shelf host.new) result }
+    ensures unprinted { IsTrue H.tells → CanRefuse result → Stays (H.shelf host.old).sinks (H.shelf host.new).sinks }
     ensures around { IsTrue H.tells → ChangesSinks (H.shelf host.old) (H.shelf host.new) }
     ensures others { IsTrue H.tells → (n : _) → n ≢ codes "-"
         → (H.shelf host.new).sinks n ≡ (H.shelf host.old).sinks n }

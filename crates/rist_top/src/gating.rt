@@ -1,5 +1,5 @@
 //! A gateway, from its objects to its status.
-ghost use Rattle.std.specs.Prelude.{◌≡◌, ◌≢◌, ◌+◌, IsTrue, IfOk, OnErr, length, is_some};
+ghost use Rattle.std.specs.Prelude.{◌≡◌, ◌≢◌, ◌<◌, ◌+◌, IsTrue, IfOk, OnErr, length, is_some};
 ghost use Rattle.outside_io.specs.Causes.{HasOpenCause};
 ghost use Rattle.outside_host.specs.Shelf.{ChangesReport};
 ghost use Rattle.host_links.specs.Opening.{AreAsTheyWere};
@@ -8,7 +8,7 @@ ghost use Rattle.rist_words.specs.Shown.{shown_gate};
 ghost use Rattle.rist_words.specs.Ranges.{IsInGate};
 ghost use Rattle.rist_top.specs.Causes.{CanRefuse, fault_of};
 ghost use Rattle.rist_top.specs.Sealing.{FailedAt};
-ghost use Rattle.rist_top.specs.Sessions.{bonding_with, sender_gated, setup_gated, steps_kept};
+ghost use Rattle.rist_top.specs.Sessions.{bonding_with, sender_gated, setup_gated};
 ghost use Rattle.rist_top.specs.Works.{IsFreshFor};
 ghost use Rattle.rist_top.specs.Sent.{IsUnused, live_of};
 ghost use Rattle.rist_top.specs.Gated.{GatedByClocks, Gated, GatesAs, Ungated};
@@ -25,11 +25,10 @@ use bond_links::Bond;
 use host_links::{back_clocks, back_links, open_both, open_clocks};
 use outside_host::Host;
 use outside_io::NoMemory;
-use outside_net::{Clock, Kept, Link, Quiet};
+use outside_net::{Clock, Kept, Link, Trace};
 use rist_desk::{Limits, Step};
 use rist_ends::Counts;
 use rist_gateway::{Made, gate_on};
-use rist_recv::MadeTrace;
 use rist_sender::Settings;
 use rist_words::GateLine;
 use std::alloc::Global;
@@ -61,23 +60,24 @@ fn sender_settings(line: &GateLine<'_>) -> Settings
     }
 }
 
-// Takes the memory for the run of a line, with traces of one kind.
-fn made_for<T: MadeTrace + Drop, L: Drop, C: Drop>(
+// Takes the memory for the run of a line whose steps are kept.
+fn made_kept<L: Drop, C: Drop>(
     alloc: Global,
     line: &GateLine<'_>,
     sealers: Sealers,
-) -> Result<Made<T, L, C>, NoMemory>
+) -> Result<Made<Kept<Step>, L, C>, NoMemory>
     requires range { IsInGate (shown_gate line.now) }
-    requires kind { T.told ≡ is_some (steps_kept (shown_gate line.now).serving) }
+    requires kept { 0 < (shown_gate line.now).serving.keep }
     requires receiving { IsFreshFor (shown_gate line.now).session sealers.receiving }
     requires sending { IsFreshFor (shown_gate line.now).session sealers.sending }
-    ensures setup { IfOk result (λ made. gate_setup_of T.limit made
+    ensures setup { IfOk result (λ made. gate_setup_of ⟦<Kept<Step> as Trace<Step>>⟧.limit made
         ≡ setup_gated (shown_gate line.now) sealers.receiving sealers.sending) }
-    ensures made { IfOk result (λ made. IsGateMade T.list T.limit
+    ensures made { IfOk result (λ made. IsGateMade ⟦<Kept<Step> as Trace<Step>>⟧.list
+        ⟦<Kept<Step> as Trace<Step>>⟧.limit
         (length line.now.inputs.items) (length line.now.outputs.items) made) }
 {
     let session = session_of(&line.session, false, false);
-    let receiving = match rist_recv::make::<T, L, C>(
+    let receiving = match rist_recv::make::<Kept<Step>, L, C>(
         alloc,
         &settings_of(&line.receiver),
         &session,
@@ -100,13 +100,69 @@ fn made_for<T: MadeTrace + Drop, L: Drop, C: Drop>(
     )
 }
 
-// Receives on the first links and sends on over the others, with traces of one kind.
-fn gate_with<
-    T: MadeTrace + Drop + Send,
-    L: Link + Drop + Send,
-    C: Clock + Drop + Send,
-    R: Threads + Wait + Sync,
->(
+// Takes the memory for the run of a line in turns.
+fn made_in_turns<L: Drop, C: Drop>(
+    alloc: Global,
+    line: &GateLine<'_>,
+    sealers: Sealers,
+) -> Result<Made<Kept<Step>, L, C>, NoMemory>
+    requires range { IsInGate (shown_gate line.now) }
+    requires none { (shown_gate line.now).serving.keep ≡ 0 }
+    requires receiving { IsFreshFor (shown_gate line.now).session sealers.receiving }
+    requires sending { IsFreshFor (shown_gate line.now).session sealers.sending }
+    ensures setup { IfOk result (λ made. gate_setup_of ⟦<Kept<Step> as Trace<Step>>⟧.limit made
+        ≡ setup_gated (shown_gate line.now) sealers.receiving sealers.sending) }
+    ensures made { IfOk result (λ made. IsGateMade ⟦<Kept<Step> as Trace<Step>>⟧.list
+        ⟦<Kept<Step> as Trace<Step>>⟧.limit
+        (length line.now.inputs.items) (length line.now.outputs.items) made) }
+{
+    let session = session_of(&line.session, false, false);
+    let receiving = match rist_recv::make_in_turns(
+        alloc,
+        &settings_of(&line.receiver),
+        &session,
+        sealers.receiving,
+        line.inputs.len(),
+    ) {
+        Ok(receiving) => receiving,
+        Err(refused) => return Err(refused),
+    };
+    let onward = session_of(&line.session, line.stream.nulls, line.stream.wide);
+    rist_gateway::make_in_turns(
+        alloc,
+        receiving,
+        line.inputs.len(),
+        sender_settings(line),
+        &onward,
+        sealers.sending,
+        line.outputs.len(),
+    )
+}
+
+// Takes the memory for the run of a line: in turns, or with steps that are kept where the line says so.
+fn made_for<L: Drop, C: Drop>(
+    alloc: Global,
+    line: &GateLine<'_>,
+    sealers: Sealers,
+) -> Result<Made<Kept<Step>, L, C>, NoMemory>
+    requires range { IsInGate (shown_gate line.now) }
+    requires receiving { IsFreshFor (shown_gate line.now).session sealers.receiving }
+    requires sending { IsFreshFor (shown_gate line.now).session sealers.sending }
+    ensures setup { IfOk result (λ made. gate_setup_of ⟦<Kept<Step> as Trace<Step>>⟧.limit made
+        ≡ setup_gated (shown_gate line.now) sealers.receiving sealers.sending) }
+    ensures made { IfOk result (λ made. IsGateMade ⟦<Kept<Step> as Trace<Step>>⟧.list
+        ⟦<Kept<Step> as Trace<Step>>⟧.limit
+        (length line.now.inputs.items) (length line.now.outputs.items) made) }
+{
+    if line.serving.keep == 0 {
+        made_in_turns(alloc, line, sealers)
+    } else {
+        made_kept(alloc, line, sealers)
+    }
+}
+
+// Receives on the first links and sends on over the others, in turns or with steps that are kept, as the line says.
+fn gate_with<L: Link + Drop + Send, C: Clock + Drop + Send, R: Threads + Wait + Sync>(
     rt: &R,
     alloc: Global,
     line: &GateLine<'_>,
@@ -115,7 +171,6 @@ fn gate_with<
     clocks: &mut Vec<C>,
 ) -> Result<(Status, Counts), NoMemory>
     requires range { IsInGate (shown_gate line.now) }
-    requires kind { T.told ≡ is_some (steps_kept (shown_gate line.now).serving) }
     requires receiving { IsFreshFor (shown_gate line.now).session sealers.receiving }
     requires sending { IsFreshFor (shown_gate line.now).session sealers.sending }
     requires count { length links.old.items ≡ length line.now.inputs.items + length line.now.outputs.items }
@@ -125,13 +180,13 @@ fn gate_with<
         C.moments)
         (shown_gate line.now) sealers.receiving sealers.sending links.old.items links.new.items
         clocks.old.items clocks.new.items ended.1 ended.0) }
-    ensures memory { OnErr result ((links.new ≡ links.old) × (clocks.new ≡ clocks.old)) }
+    ensures memory { OnErr result ((links.new.items ≡ links.old.items) × (clocks.new.items ≡ clocks.old.items)) }
     ensures line { IfOk result (λ ended. ended.0 ≢ Status.Usage) }
     ensures ran { IfOk result (λ ended. CanRefuse ended.0 → ⊥) }
     ensures links { length links.new.items ≡ length links.old.items }
     ensures clocks { length clocks.new.items ≡ length clocks.old.items }
 {
-    let made = match made_for::<T, L, C>(alloc, line, sealers) {
+    let made = match made_for(alloc, line, sealers) {
         Ok(made) => made,
         Err(refused) => return Err(refused),
     };
@@ -139,47 +194,18 @@ fn gate_with<
         turns: line.serving.turns,
         idle: 1000 * line.serving.idle,
     };
-    let rist_gateway::Gated { ending, counts } = gate_on(
+    match gate_on(
         rt,
+        alloc,
         made,
         links,
         clocks,
         line.inputs.len(),
         line.outputs.len(),
         &limits,
-    );
-    Ok((Status::of_gate(ending), counts))
-}
-
-// Receives on the first links and sends on over the others; the receiver's steps are kept where the line says so.
-fn gate_kept<L: Link + Drop + Send, C: Clock + Drop + Send, R: Threads + Wait + Sync>(
-    rt: &R,
-    alloc: Global,
-    line: &GateLine<'_>,
-    sealers: Sealers,
-    links: &mut Vec<L>,
-    clocks: &mut Vec<C>,
-) -> Result<(Status, Counts), NoMemory>
-    requires range { IsInGate (shown_gate line.now) }
-    requires receiving { IsFreshFor (shown_gate line.now).session sealers.receiving }
-    requires sending { IsFreshFor (shown_gate line.now).session sealers.sending }
-    requires count { length links.old.items ≡ length line.now.inputs.items + length line.now.outputs.items }
-    requires clocks { length clocks.old.items ≡ length line.now.inputs.items + length line.now.outputs.items + 1 }
-    ensures work { IfOk result (λ ended. GatesAs
-        (live_of (record { taken = L.taken; knows = L.knows; faults = L.faults; reads = L.reads; ends = L.ends })
-        C.moments)
-        (shown_gate line.now) sealers.receiving sealers.sending links.old.items links.new.items
-        clocks.old.items clocks.new.items ended.1 ended.0) }
-    ensures memory { OnErr result ((links.new ≡ links.old) × (clocks.new ≡ clocks.old)) }
-    ensures line { IfOk result (λ ended. ended.0 ≢ Status.Usage) }
-    ensures ran { IfOk result (λ ended. CanRefuse ended.0 → ⊥) }
-    ensures links { length links.new.items ≡ length links.old.items }
-    ensures clocks { length clocks.new.items ≡ length clocks.old.items }
-{
-    if line.serving.keep == 0 {
-        gate_with::<Quiet, L, C, R>(rt, alloc, line, sealers, links, clocks)
-    } else {
-        gate_with::<Kept<Step>, L, C, R>(rt, alloc, line, sealers, links, clocks)
+    ) {
+        Ok(gated) => Ok((Status::of_gate(gated.ending), gated.counts)),
+        Err(refused) => Err(refused),
     }
 }
 
@@ -201,15 +227,15 @@ fn gate_sealed<R: Threads + Wait + Sync, H: Host>(
     ensures work { (CanRefuse result → ⊥) → Passes ⟦<H as Telling>⟧.live H.tells (H.shelf host.new)
         (shown_gate line.now) sealers.receiving sealers.sending links.old.items links.new.items
         clocks.old.items clocks.new.items result }
-    ensures refused { CanRefuse result → (result ≡ Status.Memory) × (links.new ≡ links.old)
-        × (clocks.new ≡ clocks.old) × (host.new ≡ host.old) }
+    ensures refused { CanRefuse result → (result ≡ Status.Memory) × (links.new.items ≡ links.old.items)
+        × (clocks.new.items ≡ clocks.old.items) × (host.new ≡ host.old) }
     ensures line { result ≢ Status.Usage }
     ensures same { IsTrue H.tells → ChangesReport (H.shelf host.old) (H.shelf host.new) }
     ensures opened { H.faults host.new ≡ H.faults host.old }
     ensures links { length links.new.items ≡ length links.old.items }
     ensures clocks { length clocks.new.items ≡ length clocks.old.items }
 {
-    match gate_kept(rt, alloc, line, sealers, links, clocks) {
+    match gate_with(rt, alloc, line, sealers, links, clocks) {
         Ok((status, counts)) => {
             host.report(&reception_of(&counts));
             status
@@ -231,7 +257,7 @@ fn gate_by_clocks<R: Threads + Wait + Sync, H: Host>(
     ensures gated { IsTrue H.tells → (H.shelf host.old).next_clock ≡ 0 → (H.shelf host.old).next_entropy ≡ 0
         → (CanRefuse result → ⊥) → GatedByClocks ⟦<H as Telling>⟧.objects ⟦<H as Telling>⟧.live
         (H.shelf host.old) (H.shelf host.new) (shown_gate line.now) links.old.items links.new.items result }
-    ensures ungated { CanRefuse result → links.new ≡ links.old }
+    ensures ungated { CanRefuse result → links.new.items ≡ links.old.items }
     ensures clocks { IsTrue H.tells → (H.shelf host.old).next_clock ≡ 0 → CanRefuse result
         → AreAsTheyWere (H.shelf host.old).clocks (H.shelf host.new).clocks }
     ensures unreported { IsTrue H.tells → CanRefuse result → (H.shelf host.new).report ≡ (H.shelf host.old).report }

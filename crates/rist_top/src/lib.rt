@@ -2,6 +2,7 @@
 //! sinks tell before and after.
 #![tactic(auto)]
 
+mod asking;
 mod drilling;
 mod gating;
 mod receiving;
@@ -13,6 +14,6 @@ mod telling;
 mod top;
 mod working;
 
-pub use rist_words::USAGE;
+pub use rist_help::complaint;
 pub use status::Status;
 pub use top::{plain, run};

@@ -8,7 +8,7 @@ ghost use Rattle.rist_words.specs.Shown.{shown_recv};
 ghost use Rattle.rist_words.specs.Ranges.{IsInRecv};
 ghost use Rattle.rist_top.specs.Causes.{CanRefuse, fault_of};
 ghost use Rattle.rist_top.specs.Sealing.{FailedAt};
-ghost use Rattle.rist_top.specs.Sessions.{kept_steps, limits_received, setup_received};
+ghost use Rattle.rist_top.specs.Sessions.{limits_received, setup_received};
 ghost use Rattle.rist_top.specs.Works.{IsFreshFor};
 ghost use Rattle.rist_top.specs.Sent.{IsUnused, live_of};
 ghost use Rattle.rist_top.specs.Received.{ReceivedByClocks, ReceivedOnLinks, Received};
@@ -24,11 +24,11 @@ use crate::telling::Telling;
 use host_links::{back_clocks, back_links, open_clocks, open_links};
 use outside_host::{Host, Reception};
 use outside_io::{NoMemory, Sink};
-use outside_net::{Clock, Kept, Link, Quiet, Role};
+use outside_net::{Clock, Kept, Link, Role};
 use psk_seal::Sealer;
 use rist_desk::{Limits, Step};
 use rist_ends::Counts;
-use rist_recv::{MadeTrace, Run, make, receive_on};
+use rist_recv::{Run, make, make_in_turns, receive_in_turns, receive_on};
 use rist_words::RecvLine;
 use std::alloc::Global;
 use std::sync::Wait;
@@ -57,9 +57,8 @@ struct Heard<K> {
     end: Result<(Status, Counts), NoMemory>,
 }
 
-// Receives on links with traces of one kind.
-fn receive_with<
-    T: MadeTrace + Drop + Send,
+// Receives on links, with steps that are kept.
+fn receive_kept<
     K: Sink + Drop + Send,
     L: Link + Drop + Send,
     C: Clock + Drop + Send,
@@ -74,7 +73,7 @@ fn receive_with<
     sink: K,
 ) -> Heard<K>
     requires range { IsInRecv (shown_recv line.now) }
-    requires kind { T.told ≡ is_some (kept_steps (shown_recv line.now)) }
+    requires kept { 0 < (shown_recv line.now).serving.keep }
     requires fresh { IsFreshFor (shown_recv line.now).session sealer }
     requires count { length links.old.items ≡ length line.now.links.items }
     requires clocks { length clocks.old.items ≡ length line.now.links.items }
@@ -91,7 +90,7 @@ fn receive_with<
     ensures clocks { length clocks.new.items ≡ length clocks.old.items }
 {
     let session = session_of(&line.session, false, false);
-    let made = match make::<T, L, C>(
+    let made = match make::<Kept<Step>, L, C>(
         alloc,
         &settings_of(&line.receiver),
         &session,
@@ -122,8 +121,73 @@ fn receive_with<
     }
 }
 
-// Receives on links; its steps are kept where the line says so.
-fn receive_kept<
+// Receives on links in turns: no steps are kept.
+fn receive_turning<
+    K: Sink + Drop + Send,
+    L: Link + Drop + Send,
+    C: Clock + Drop + Send,
+    R: Threads + Wait + Sync,
+>(
+    rt: &R,
+    alloc: Global,
+    line: &RecvLine<'_>,
+    sealer: Option<Sealer>,
+    links: &mut Vec<L>,
+    clocks: &mut Vec<C>,
+    sink: K,
+) -> Heard<K>
+    requires range { IsInRecv (shown_recv line.now) }
+    requires none { (shown_recv line.now).serving.keep ≡ 0 }
+    requires fresh { IsFreshFor (shown_recv line.now).session sealer }
+    requires count { length links.old.items ≡ length line.now.links.items }
+    requires clocks { length clocks.old.items ≡ length line.now.links.items }
+    requires empty { IsEmpty (K.contents sink) }
+    ensures work { IfOk result.end (λ ended. ReceivesAs
+        (live_of (record { taken = L.taken; knows = L.knows; faults = L.faults; reads = L.reads; ends = L.ends }) C.moments)
+        (shown_recv line.now) sealer links.old.items links.new.items clocks.old.items clocks.new.items
+        (K.contents sink) (K.contents result.sink) (K.faults sink) (K.faults result.sink) ended.1 ended.0) }
+    ensures memory { OnErr result.end
+        ((links.new ≡ links.old) × (clocks.new ≡ clocks.old) × (result.sink ≡ sink)) }
+    ensures line { IfOk result.end (λ ended. ended.0 ≢ Status.Usage) }
+    ensures ran { IfOk result.end (λ ended. CanRefuse ended.0 → ⊥) }
+    ensures links { length links.new.items ≡ length links.old.items }
+    ensures clocks { length clocks.new.items ≡ length clocks.old.items }
+{
+    let session = session_of(&line.session, false, false);
+    let settings = settings_of(&line.receiver);
+    let made = match make_in_turns(alloc, &settings, &session, sealer, links.len()) {
+        Ok(made) => made,
+        Err(refused) => {
+            return Heard {
+                sink,
+                end: Err(refused),
+            };
+        }
+    };
+    let limits = Limits {
+        turns: line.serving.turns,
+        idle: 1000 * line.serving.idle,
+    };
+    match receive_in_turns(rt, alloc, made, links, clocks, sink, &limits) {
+        Ok(
+            Run {
+                ending,
+                counts,
+                sink,
+            },
+        ) => Heard {
+            sink,
+            end: Ok((Status::of_ending(ending), counts)),
+        },
+        Err(sink) => Heard {
+            sink,
+            end: Err(NoMemory),
+        },
+    }
+}
+
+// Receives on links: in turns, or with steps that are kept where the line says so.
+fn receive_any<
     K: Sink + Drop + Send,
     L: Link + Drop + Send,
     C: Clock + Drop + Send,
@@ -154,9 +218,9 @@ fn receive_kept<
     ensures clocks { length clocks.new.items ≡ length clocks.old.items }
 {
     if line.serving.keep == 0 {
-        receive_with::<Quiet, K, L, C, R>(rt, alloc, line, sealer, links, clocks, sink)
+        receive_turning(rt, alloc, line, sealer, links, clocks, sink)
     } else {
-        receive_with::<Kept<Step>, K, L, C, R>(rt, alloc, line, sealer, links, clocks, sink)
+        receive_kept(rt, alloc, line, sealer, links, clocks, sink)
     }
 }
 
@@ -187,7 +251,7 @@ fn receive_sealed<R: Threads + Wait + Sync, H: Host>(
     ensures links { length links.new.items ≡ length links.old.items }
     ensures clocks { length clocks.new.items ≡ length clocks.old.items }
 {
-    let Heard { sink, end } = receive_kept(rt, alloc, line, sealer, links, clocks, sink);
+    let Heard { sink, end } = receive_any(rt, alloc, line, sealer, links, clocks, sink);
     match end {
         Ok((status, counts)) => {
             host.report(&reception_of(&counts));

@@ -1,5 +1,5 @@
 //! A sending, from its objects to its status.
-ghost use Rattle.std.specs.Prelude.{◌≡◌, ◌≢◌, IsTrue, length, map, is_some};
+ghost use Rattle.std.specs.Prelude.{◌*◌, ◌≡◌, ◌≢◌, IsTrue, length, map, is_some};
 ghost use Rattle.outside_io.specs.Causes.{HasOpenCause, HasReadCause};
 ghost use Rattle.outside_host.specs.Shelf.{Stays};
 ghost use Rattle.host_links.specs.Opening.{AreAsTheyWere};
@@ -38,6 +38,24 @@ fn bond_of(line: &SendLine<'_>) -> Bond
     match &line.share {
         None => Bond::duplicate(line.links.len() as u8),
         Some(weights) => Bond::share(weights.as_slice()),
+    }
+}
+
+// How a line paces its sending.
+fn pace_of(line: &SendLine<'_>) -> SendSettings
+    requires range { IsInSend (shown_send line.now) }
+    ensures value { result ≡ record {
+      lead = 1000 * (shown_send line.now).lead;
+      gap = (shown_send line.now).gap;
+      linger = 1000 * (shown_send line.now).linger;
+      turns = (shown_send line.now).turns;
+    } }
+{
+    SendSettings {
+        lead: 1000 * line.lead,
+        gap: line.gap,
+        linger: 1000 * line.linger,
+        turns: line.turns,
     }
 }
 
@@ -84,11 +102,7 @@ fn send_with<S: Source, L: Link, C: Clock>(
     let Ok(mut sender) = Sender::with(alloc, settings, &session, sealer) else {
         return Status::Memory;
     };
-    let pace = SendSettings {
-        gap: line.gap,
-        linger: 1000 * line.linger,
-        turns: line.turns,
-    };
+    let pace = pace_of(line);
     let end = send(&pace, &mut sender, &mut opener, source, links, clock);
     Status::of_sending(end)
 }

@@ -31,6 +31,8 @@ pub fn session_of(words: &SessionWords<'_>, nulls: bool, wide: bool) -> Session
         nulls,
         width: if wide { Width::W32 } else { Width::W16 },
         full: words.full,
+        tunnel: words.tunnel,
+        echo: words.echo,
     }
 }
 

@@ -6,7 +6,8 @@ ghost use Rattle.rist_words.specs.CommandLine.{Recv, RecvCommand, Send, SendComm
 ghost use Rattle.rist_words.specs.Shown.{shown, shown_gate, shown_recv};
 ghost use Rattle.rist_words.specs.Ranges.{IsInRange};
 ghost use Rattle.rist_top.specs.Causes.{CanRefuse, fault_of};
-ghost use Rattle.rist_top.specs.Lines.{IfDrill, IfReceiving, IsFresh, IsLine};
+ghost use Rattle.rist_top.specs.DoesAsk.{DoesAsk};
+ghost use Rattle.rist_top.specs.Lines.{AsksNothing, IfAsk, IfDrill, IfReceiving, IsFresh, IsLine};
 ghost use Rattle.rist_top.specs.Lines.{IsNoLine, IsNoPlainLine, IsOverFiles, IsPlain};
 ghost use Rattle.rist_top.specs.Ran.{Ran, source_name, sink_name};
 ghost use Rattle.rist_top.specs.Frame.{KeepsAround, KeepsOthers, OpensLinksAfter, OpensSourceFirst, links_opened};
@@ -20,6 +21,7 @@ ghost use Rattle.rist_top.specs.Does.{Does};
 ghost use Rattle.rist_top.specs.DoesGate.{DoesGate};
 ghost use Rattle.rist_top.specs.DoesDrill.{DoesDrill};
 
+use crate::asking::answer;
 use crate::drilling::drill_line;
 use crate::gating::gate_line;
 use crate::receiving::receive_line;
@@ -41,15 +43,22 @@ pub fn run<R: Threads + Wait + Sync, H: Host>(
     words: &[String],
     host: &mut H,
 ) -> Status
-    // The words are refused exactly where they are no line, memory aside.
+    // The words are refused exactly where they are no line and ask for nothing, memory aside.
     ensures usage { result ≡ Status.Usage → IsNoLine words.now }
-    ensures refused { IsNoLine words.now → (result ≡ Status.Usage) ⊎ (result ≡ Status.Memory) }
+    ensures unasked { result ≡ Status.Usage → AsksNothing words.now }
+    ensures refused { IsNoLine words.now → AsksNothing words.now
+        → (result ≡ Status.Usage) ⊎ (result ≡ Status.Memory) }
 
     // A fault at opening comes exactly where a call of the host failed.
     ensures opened { HasOpenCause (fault_of result) (H.faults host.old) (H.faults host.new) }
 
-    // What is no line touches nothing.
-    ensures same { IsTrue H.tells → IsNoLine words.now → H.shelf host.new ≡ H.shelf host.old }
+    // What is no line and asks for nothing touches nothing.
+    ensures same { IsTrue H.tells → IsNoLine words.now → AsksNothing words.now
+        → H.shelf host.new ≡ H.shelf host.old }
+
+    // The help and the version go to the standard output, where words ask for them.
+    ensures asks { IfAsk words.now (λ ask. DoesAsk H.tells ⟦<H as Telling>⟧.objects ask
+        (H.faults host.old) (H.faults host.new) (H.shelf host.old) (H.shelf host.new) result) }
 
     // What every command leaves that waits for nobody.
     ensures does { Does H.tells ⟦<H as Telling>⟧.objects ⟦<H as Telling>⟧.live words.now
@@ -125,14 +134,19 @@ fn waiting_line<'a>(alloc: Global, words: &'a [String]) -> Waiting<'a>
     }
 }
 
-/// Does each command that waits for nobody: all but a receiving and a gateway, whose lines are none here. It always
-/// returns.
+/// Does each command that waits for nobody, and answers what is asked for: all but a receiving and a gateway, whose lines
+/// are none here. It always returns.
 pub fn plain<H: Host>(alloc: Global, words: &[String], host: &mut H) -> Status
-    // The words are refused exactly where they are no such line, memory aside.
+    // The words are refused exactly where they are no such line and ask for nothing, memory aside.
     ensures usage { result ≡ Status.Usage → IsNoPlainLine words.now }
-    ensures refused { IsNoPlainLine words.now → (result ≡ Status.Usage) ⊎ (result ≡ Status.Memory) }
+    ensures unasked { result ≡ Status.Usage → AsksNothing words.now }
+    ensures refused { IsNoPlainLine words.now → AsksNothing words.now
+        → (result ≡ Status.Usage) ⊎ (result ≡ Status.Memory) }
     ensures opened { HasOpenCause (fault_of result) (H.faults host.old) (H.faults host.new) }
-    ensures same { IsTrue H.tells → IsNoPlainLine words.now → H.shelf host.new ≡ H.shelf host.old }
+    ensures same { IsTrue H.tells → IsNoPlainLine words.now → AsksNothing words.now
+        → H.shelf host.new ≡ H.shelf host.old }
+    ensures asks { IfAsk words.now (λ ask. DoesAsk H.tells ⟦<H as Telling>⟧.objects ask
+        (H.faults host.old) (H.faults host.new) (H.shelf host.old) (H.shelf host.new) result) }
     ensures does { Does H.tells ⟦<H as Telling>⟧.objects ⟦<H as Telling>⟧.live words.now
         (H.faults host.old) (H.faults host.new) (H.shelf host.old) (H.shelf host.new) result }
     ensures drills { IfDrill words.now (λ c. DoesDrill H.tells ⟦<H as Telling>⟧.objects c
@@ -140,7 +154,7 @@ pub fn plain<H: Host>(alloc: Global, words: &[String], host: &mut H) -> Status
 {
     match plain_line(alloc, words) {
         Ok(line) => run_line(alloc, host, &line),
-        Err(Refused::Usage) => Status::Usage,
+        Err(Refused::Usage) => answer(words, host),
         Err(Refused::Memory) => Status::Memory,
     }
 }

@@ -9,7 +9,7 @@ use outside_net::{Full, Kept, Quiet, Trace};
 use receiver_rules::{Arrival, Verdict};
 use rist_desk::{Beside, Desk, Mark, Name, Side, Step, StepTrace};
 use rist_ends::{Answer, Outs, Receiver, Settings, Told, What};
-use rist_wire::Session;
+use rist_wire::{Session, Tunnel};
 use seq_unwrap::Width;
 use std::alloc::Global;
 use std::marker::Brand;
@@ -53,6 +53,8 @@ pub fn simple() -> Session
         nulls: false,
         width: Width::W16,
         full: false,
+        tunnel: Tunnel::Own,
+        echo: false,
     }
 }
 

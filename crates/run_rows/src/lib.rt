@@ -16,3 +16,5 @@ mod receiving;
 mod sending;
 #[cfg(test)]
 mod serving;
+#[cfg(test)]
+mod turning;

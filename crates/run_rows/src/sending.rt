@@ -11,7 +11,7 @@ use psk_keys::Phrase;
 use psk_seal::Sealer;
 use rist_send::{SendFault, SendSettings, send};
 use rist_sender::{Sender, Settings};
-use rist_wire::{Item, Opener, Profile, Session};
+use rist_wire::{Item, Opener, Profile, Session, Tunnel};
 use seq_unwrap::Width;
 use std::alloc::Global;
 use std::process::Abort;
@@ -30,6 +30,8 @@ fn tunnel(pass: Option<Phrase>, nulls: bool, width: Width) -> Session
         nulls,
         width,
         full: false,
+        tunnel: Tunnel::Own,
+        echo: false,
     }
 }
 
@@ -97,6 +99,7 @@ fn sent_over(
     let mut opener = Opener::with(alloc, session)?;
     let mut clock = ScriptClock::with(alloc, moments)?;
     let pace = SendSettings {
+        lead: 0,
         gap: 1000,
         linger,
         turns,

@@ -22,13 +22,13 @@ const LOOKS: u64 = 1_000_000_000;
 
 /// A link in memory whose second read waits until the other link's second read was entered.
 #[derive(Drop)]
-struct GateLink {
+pub struct GateLink {
     inner: ScriptLink,
     reads: u64,
     own: Arc<AtomicU64, Global>,
     other: Arc<AtomicU64, Global>,
     /// It waited in vain.
-    is_shut: bool,
+    pub is_shut: bool,
 }
 
 /// Whether the other's second read is entered, before the looks are spent.
@@ -82,6 +82,22 @@ fn plain(
     worker(alloc, link(alloc, letters, &[])?, Kept::with(alloc, 8)?)
 }
 
+/// A link behind a gate.
+pub fn gate_link(
+    alloc: Global,
+    letters: &[u8],
+    own: &Arc<AtomicU64, Global>,
+    other: &Arc<AtomicU64, Global>,
+) -> Result<GateLink, Fail> {
+    Ok(GateLink {
+        inner: link(alloc, letters, &[])?,
+        reads: 0,
+        own: Arc::try_clone(own)?,
+        other: Arc::try_clone(other)?,
+        is_shut: false,
+    })
+}
+
 /// A worker behind a gate.
 fn gated(
     alloc: Global,
@@ -89,14 +105,11 @@ fn gated(
     own: &Arc<AtomicU64, Global>,
     other: &Arc<AtomicU64, Global>,
 ) -> Result<Worker<GateLink, ScriptClock, Kept<Step>>, Fail> {
-    let gate = GateLink {
-        inner: link(alloc, letters, &[])?,
-        reads: 0,
-        own: Arc::try_clone(own)?,
-        other: Arc::try_clone(other)?,
-        is_shut: false,
-    };
-    worker(alloc, gate, Kept::with(alloc, 8)?)
+    worker(
+        alloc,
+        gate_link(alloc, letters, own, other)?,
+        Kept::with(alloc, 8)?,
+    )
 }
 
 /// What was answered at the end, and what trace and sink hold.

@@ -41,7 +41,7 @@ returns-clause-clocks g c told clock_is refused =
           let none = w.gate_sealed-status.ensures.refused (subst CanRefuse w.status-is refused) in
           links_as_they_were _ _ _ _ _ _ (c.in-Ok.ensures.ok (told, clock_is))
           (ap (λ h. (g.H.Host.shelf h).clocks) w.host-is ∙ (ap (λ s. s.clocks) (w.gate_sealed-status.ensures.same told) ∙ (c.sealers_for.ensures.others told).live.clocks))
-          (ap (λ v. v.items) (w.clocks-is ∙ none.2)) (c.back_clocks.ensures.state told)
+          (ap (λ v. v.items) w.clocks-is ∙ none.2) (c.back_clocks.ensures.state told)
       | in-Err-sealers_for w ↦
           links_as_they_were _ _ _ _ _ _ (c.in-Ok.ensures.ok (told, clock_is))
           (ap (λ h. (g.H.Host.shelf h).clocks) w.host-is ∙ (c.sealers_for.ensures.others told).live.clocks)

@@ -24,7 +24,7 @@ returns-clause-ungated g c unused refused =
     let e = c.in-Ok.ensures.same unused.told in
     ungated_between (g.H.Host.shelf c.args.host.now) (g.H.Host.shelf c.open_both.new.host) (g.H.Host.shelf c.gate_by_clocks-status.new.host) (g.H.Host.shelf c.back_links.new.host) e (c.back_links.ensures.same unused.told)
     (links_as_they_were _ _ _ _ _ _ (c.in-Ok.ensures.ok (unused.told, unused.links)) (c.gate_by_clocks-status.ensures.others unused.told).links
-    (ap (λ v. v.items) (c.gate_by_clocks-status.ensures.ungated refused)) (c.back_links.ensures.state unused.told))
+    (c.gate_by_clocks-status.ensures.ungated refused) (c.back_links.ensures.state unused.told))
     (c.gate_by_clocks-status.ensures.clocks unused.told (ap (λ s. s.next_clock) e ∙ unused.clock) refused) (c.gate_by_clocks-status.ensures.unreported unused.told refused)
 
 pub returns-clause-around : goal.returns-clause-around

@@ -6,20 +6,21 @@ use Rattle.rist_words.specs.Shown.{shown_gate}
 use Rattle.rist_top.specs.Sessions.{limits_served, setup_gated}
 use Rattle.rist_top.proofs.gating.gate_with.Goals as goal
 
-pub returns-clause-work : goal.returns-clause-work
-returns-clause-work g c =
+pub returns-in-Ok-gate_on-clause-work : goal.returns-in-Ok-gate_on-clause-work
+returns-in-Ok-gate_on-clause-work g c =
     let line = shown_gate c.args.line.now in
     let tells = line_of g.L.Link.taken g.L.Link.knows g.L.Link.faults g.L.Link.reads g.L.Link.ends in
     let inputs : c.len.result ≡ length c.args.line.now.inputs.items = omega (arith, c.len.ensures) in
+    let gated = c.in-Ok-gate_on.gated in
     record {
-      ending = c.gate_on-ending.result.ending;
+      ending = gated.ending;
       answer = c.of_gate.ensures.value;
       run = subst
           (λ n. Forwards g.C.Clock.moments tells (setup_gated line c.args.sealers.receiving c.args.sealers.sending) (limits_served line.serving) n
-          c.args.links.now.items c.gate_on-ending.new.links.items c.args.clocks.now.items c.gate_on-ending.new.clocks.items
-          c.gate_on-ending.result.counts c.gate_on-ending.result.ending) inputs
+          c.args.links.now.items c.gate_on.new.links.items c.args.clocks.now.items c.gate_on.new.clocks.items
+          gated.counts gated.ending) inputs
           (subst
           (λ s. Forwards g.C.Clock.moments tells s (limits_served line.serving) c.len.result
-          c.args.links.now.items c.gate_on-ending.new.links.items c.args.clocks.now.items c.gate_on-ending.new.clocks.items
-          c.gate_on-ending.result.counts c.gate_on-ending.result.ending) c.in-Ok.ensures.setup c.gate_on-ending.ensures.work);
+          c.args.links.now.items c.gate_on.new.links.items c.args.clocks.now.items c.gate_on.new.clocks.items
+          gated.counts gated.ending) c.in-Ok.ensures.setup c.in-Ok-gate_on.ensures.work);
     }

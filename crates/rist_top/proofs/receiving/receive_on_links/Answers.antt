@@ -2,6 +2,7 @@
 use Rattle.std.proofs.Common.{◌∙◌, ap, length}
 use Rattle.rist_top.proofs.SendLemmas.{links_as_they_were}
 use Rattle.rist_top.proofs.FrameLemmas.{links_back}
+use Rattle.rist_top.proofs.ReceiveLemmas.{by_clocks_between, from_first}
 use Rattle.rist_top.proofs.receiving.receive_on_links.Goals as goal
 
 pub returns-clause-kept : goal.returns-clause-kept
@@ -14,3 +15,17 @@ pub returns-clause-links : goal.returns-clause-links
 returns-clause-links g c unused refused =
     links_as_they_were _ _ _ _ _ _ (c.in-Ok.ensures.ok (unused.told, unused.links)) (c.receive_by_clocks-sink.ensures.others unused.told).links
     (ap (λ v. v.items) (c.receive_by_clocks-sink.ensures.unreceived refused).0) (c.back_links.ensures.state unused.told)
+
+pub returns-clause-received : goal.returns-clause-received
+returns-clause-received g c unused ran =
+    let e = c.in-Ok.ensures.same unused.told in
+    let f = c.back_links.ensures.same unused.told in
+    record {
+      links_were = c.in-Ok.links.items;
+      links_are = c.receive_by_clocks-sink.new.links.items;
+      count = c.in-Ok.ensures.count ∙ ap length c.as_slice.ensures.value;
+      links = from_first _ _ _ _ _ _ (c.in-Ok.ensures.ok (unused.told, unused.links)) (c.receive_by_clocks-sink.ensures.others unused.told).links
+          (c.back_links.ensures.state unused.told) c.receive_by_clocks-sink.ensures.links;
+      received = by_clocks_between _ _ _ _ _ _ _ _ _ _ _ _ (ap (λ s. s.clocks) e) (ap (λ s. s.entropies) e) (ap (λ s. s.clocks) f) (ap (λ s. s.entropies) f) (ap (λ s. s.report) f)
+          (c.receive_by_clocks-sink.ensures.received unused.told (ap (λ s. s.next_clock) e ∙ unused.clock) (ap (λ s. s.next_entropy) e ∙ unused.entropy) ran);
+    }

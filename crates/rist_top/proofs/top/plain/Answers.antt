@@ -9,6 +9,8 @@ use Rattle.rist_top.specs.Frame.{KeepsOthers, OpensSourceFirst}
 use Rattle.rist_top.specs.Lines.{IsOverFiles}
 use Rattle.rist_top.specs.Untouched.{Untouched}
 use Rattle.rist_top.specs.declared.status.Status.TheVariants as statuses
+use Rattle.rist_help.proofs.AskLemmas.{asks_none}
+use Rattle.rist_top.proofs.AskLemmas.{line_asks_nothing}
 use Rattle.rist_top.proofs.LineLemmas.{same_line, ran_line}
 use Rattle.rist_top.proofs.ExactLemmas.{ran_reached, ran_epochs}
 use Rattle.rist_top.proofs.CompleteLemmas.{ran_completes}
@@ -16,7 +18,8 @@ use Rattle.rist_top.proofs.UntouchedLemmas.{line_at_memory}
 use Rattle.rist_top.proofs.PiecesLemmas.{in_pieces}
 use Rattle.rist_top.proofs.WholeLemmas.{sent_completes}
 use Rattle.rist_top.proofs.DoesLemmas.{does_no_line, does_nothing}
-use Rattle.rist_top.proofs.DrillLemmas.{drills_nothing, no_drill}
+use Rattle.rist_top.proofs.DrillLemmas.{no_drill}
+use Rattle.rist_top.proofs.PrintLemmas.{prints_nothing}
 use Rattle.rist_top.proofs.top.plain.Goals as goal
 
 not_open : statuses.Done ≡ statuses.OpenFault → ⊥
@@ -94,4 +97,10 @@ pub returns-in-Err-Usage-clause-drills : goal.returns-in-Err-Usage-clause-drills
 returns-in-Err-Usage-clause-drills g c k is = absurd (no_drill _ k (c.in-Err-Usage.ensures.usage (search rules)) is)
 
 pub returns-in-Err-Memory-clause-drills : goal.returns-in-Err-Memory-clause-drills
-returns-in-Err-Memory-clause-drills g c k is = drills_nothing _ _ k _ _
+returns-in-Err-Memory-clause-drills g c k is = prints_nothing _ _ _ _ _
+
+pub returns-in-Ok-clause-asks : goal.returns-in-Ok-clause-asks
+returns-in-Ok-clause-asks g c ask is = absurd (line_asks_nothing _ _ c.in-Ok.ensures.ok (asks_none _ ask is))
+
+pub returns-in-Err-Memory-clause-asks : goal.returns-in-Err-Memory-clause-asks
+returns-in-Err-Memory-clause-asks g c ask is = prints_nothing _ _ _ _ _

@@ -6,8 +6,10 @@ use Rattle.rist_words.specs.CommandLine.{Gate, Recv}
 use Rattle.rist_top.specs.Causes.{fault_of}
 use Rattle.rist_top.specs.Frame.{KeepsAroundGate, KeepsAroundSink, OpensLinksAfterSink, links_gated, links_received}
 use Rattle.rist_top.specs.Received.{Unreceived}
+use Rattle.rist_help.proofs.AskLemmas.{asks_none}
 use Rattle.rist_top.proofs.DoesLemmas.{does_no_gate, does_no_line, gate_is_none, gates_nothing, is_line, no_both, no_line, no_plain_line, receiving_is_none, same_gate, same_receiving}
-use Rattle.rist_top.proofs.DrillLemmas.{drills_nothing, no_drill}
+use Rattle.rist_top.proofs.DrillLemmas.{no_drill}
+use Rattle.rist_top.proofs.PrintLemmas.{prints_nothing}
 use Rattle.rist_top.proofs.GatingLemmas.{gated_completes, gated_same, gating_same}
 use Rattle.rist_top.proofs.HeardLemmas.{completes_same, received_completes, received_same}
 use Rattle.rist_top.proofs.top.run.Goals as goal
@@ -135,4 +137,13 @@ pub returns-in-Gate-clause-drills : goal.returns-in-Gate-clause-drills
 returns-in-Gate-clause-drills g c k is = absurd (no_drill _ k (gate_is_none _ _ (c.waiting_line.ensures.gate _ c.in-Gate.is)) is)
 
 pub returns-in-Memory-clause-drills : goal.returns-in-Memory-clause-drills
-returns-in-Memory-clause-drills g c k is = drills_nothing _ _ k _ _
+returns-in-Memory-clause-drills g c k is = prints_nothing _ _ _ _ _
+
+pub returns-in-Receive-clause-asks : goal.returns-in-Receive-clause-asks
+returns-in-Receive-clause-asks g c ask is = absurd (is_line _ _ (c.waiting_line.ensures.receive _ c.in-Receive.is) (asks_none _ ask is))
+
+pub returns-in-Gate-clause-asks : goal.returns-in-Gate-clause-asks
+returns-in-Gate-clause-asks g c ask is = absurd (is_line _ _ (c.waiting_line.ensures.gate _ c.in-Gate.is) (asks_none _ ask is))
+
+pub returns-in-Memory-clause-asks : goal.returns-in-Memory-clause-asks
+returns-in-Memory-clause-asks g c ask is = prints_nothing _ _ _ _ _

@@ -1,7 +1,8 @@
 -- A line that is a sending, or a simulated run, is done as one.
 use Rattle.std.proofs.Common.{◌∙◌, sym, ap}
 use Rattle.rist_words.specs.Shown.{shown, shown_drill, shown_send}
-use Rattle.rist_top.proofs.DrillLemmas.{does_drill, drilled_same, same_drill}
+use Rattle.rist_top.proofs.DrillLemmas.{drilled_same, same_drill}
+use Rattle.rist_top.proofs.PrintLemmas.{does_print}
 use Rattle.rist_top.proofs.LineLemmas.{sent_line}
 use Rattle.rist_top.proofs.top.run_line.Goals as goal
 
@@ -12,5 +13,5 @@ returns-in-Send-clause-sent g c k is unused ran =
 pub returns-in-Drill-clause-drill : goal.returns-in-Drill-clause-drill
 returns-in-Drill-clause-drill g c k is =
     drilled_same _ _ (shown_drill c.in-Drill.line) k _ _ _ _ _ (same_drill (shown_drill c.in-Drill.line) k (sym (ap shown c.in-Drill.is) ∙ is))
-    (does_drill _ _ _ _ _ _ _ _ c.drill_line.ensures.ends c.drill_line.ensures.opened c.drill_line.ensures.summed c.drill_line.ensures.unsummed
+    (does_print _ _ _ _ _ _ _ _ c.drill_line.ensures.ends c.drill_line.ensures.opened c.drill_line.ensures.printed c.drill_line.ensures.unprinted
     c.drill_line.ensures.around c.drill_line.ensures.others)

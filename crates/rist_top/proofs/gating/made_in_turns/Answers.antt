@@ -1,19 +1,19 @@
 -- What is made is what the line says.
-use Rattle.std.proofs.Common.{◌≡◌, ◌==◌, ◌∙◌, subst}
+use Rattle.std.proofs.Common.{◌≡◌, ◌∙◌, Option, Some, subst}
 use Rattle.std.specs.Prelude.{IfOk}
 use Rattle.rist_gateway.specs.Setup.{gate_setup_of}
 use Rattle.rist_words.specs.Shown.{shown_gate}
 use Rattle.rist_top.proofs.GatingLemmas.{same_gate_setup, same_receiving_end}
-use Rattle.rist_top.proofs.ReceiveLemmas.{kept_as}
-use Rattle.rist_top.proofs.gating.made_for.Goals as goal
+use Rattle.rist_top.proofs.ReceiveLemmas.{kept_none}
+use Rattle.rist_top.proofs.gating.made_in_turns.Goals as goal
 
 pub returns-clause-setup : goal.returns-clause-setup
 returns-clause-setup g c =
     let line = shown_gate c.args.line.now in
-    subst (λ x. IfOk c.make-2.result (λ made. gate_setup_of g.T.Trace.limit made ≡ x))
+    subst (λ x. IfOk c.make_in_turns-2.result (λ made. gate_setup_of (λ kept. Some kept.limit) made ≡ x))
     (same_gate_setup line _ _ _ _ _
     (c.in-Ok.ensures.setup
     ∙ same_receiving_end _ _ _ _ _ _ _ c.settings_of.ensures.value c.session_of-session.ensures.value
-    (kept_as g.T.MadeTrace.told (line.serving.keep == 0) line.serving.keep c.requires.kind))
+    (kept_none line.serving.keep c.requires.none))
     c.sender_settings.ensures.value c.session_of-onward.ensures.value)
-    c.make-2.ensures.setup
+    c.make_in_turns-2.ensures.setup

@@ -1,21 +1,20 @@
 -- What was made is what the line says, and what the run left is the line's.
-use Rattle.std.proofs.Common.{◌≡◌, ◌==◌, ◌∙◌, subst}
+use Rattle.std.proofs.Common.{◌∙◌, Some, subst}
 use Rattle.rist_desk.specs.Serving.{LinkTells}
 use Rattle.rist_recv.specs.Run.{Receives}
-use Rattle.rist_recv.specs.Setup.{setup_of}
 use Rattle.rist_words.specs.Shown.{shown_recv}
-use Rattle.rist_top.specs.Sessions.{limits_received, setup_received}
-use Rattle.rist_top.proofs.ReceiveLemmas.{kept_as, same_setup}
-use Rattle.rist_top.proofs.receiving.receive_with.Goals as goal
+use Rattle.rist_top.specs.Sessions.{limits_received}
+use Rattle.rist_top.proofs.ReceiveLemmas.{kept_some, same_setup}
+use Rattle.rist_top.proofs.receiving.receive_kept.Goals as goal
 
 pub returns-clause-work : goal.returns-clause-work
 returns-clause-work g c =
     let line = shown_recv c.args.line.now in
     let tells : LinkTells g.row.L.Denot = record { reads = g.L.Link.reads; taken = g.L.Link.taken; knows = g.L.Link.knows; ends = g.L.Link.ends; faults = g.L.Link.faults } in
-    let setup : setup_of g.T.Trace.limit c.in-Ok.made ≡ setup_received line c.args.sealer =
+    let setup =
     c.in-Ok.ensures.setup
-    ∙ same_setup line _ _ c.args.sealer _ c.settings_of.ensures.value c.session_of-session.ensures.value
-    (kept_as g.T.MadeTrace.told (line.serving.keep == 0) line.serving.keep c.requires.kind) in
+    ∙ same_setup line _ _ c.args.sealer (Some line.serving.keep) c.settings_of.ensures.value c.session_of-session.ensures.value
+    (kept_some line.serving.keep c.requires.kept) in
     record {
       ending = c.receive_on-ending.result.ending;
       answer = c.of_ending.ensures.value;

@@ -1,0 +1,26 @@
+-- What was made is what the line says, and what the run left is the line's.
+use Rattle.std.proofs.Common.{◌∙◌, None, subst}
+use Rattle.rist_desk.specs.Serving.{LinkTells}
+use Rattle.rist_recv.specs.Run.{Receives}
+use Rattle.rist_words.specs.Shown.{shown_recv}
+use Rattle.rist_top.specs.Sessions.{limits_received}
+use Rattle.rist_top.proofs.ReceiveLemmas.{kept_none, same_setup}
+use Rattle.rist_top.proofs.receiving.receive_turning.Goals as goal
+
+pub returns-in-Ok-receive_in_turns-clause-work : goal.returns-in-Ok-receive_in_turns-clause-work
+returns-in-Ok-receive_in_turns-clause-work g c =
+    let line = shown_recv c.args.line.now in
+    let tells : LinkTells g.row.L.Denot = record { reads = g.L.Link.reads; taken = g.L.Link.taken; knows = g.L.Link.knows; ends = g.L.Link.ends; faults = g.L.Link.faults } in
+    let setup =
+    c.in-Ok.ensures.setup
+    ∙ same_setup line _ _ c.args.sealer None c.settings_of-settings.ensures.value c.session_of-session.ensures.value
+    (kept_none line.serving.keep c.requires.none) in
+    let ran = c.in-Ok-receive_in_turns.field-0 in
+    record {
+      ending = ran.ending;
+      answer = c.of_ending.ensures.value;
+      run = subst
+          (λ s. Receives g.C.Clock.moments tells s (limits_received line) c.args.links.now.items c.receive_in_turns.new.links.items c.args.clocks.now.items c.receive_in_turns.new.clocks.items
+          (g.K.Sink.contents c.args.sink) (g.K.Sink.contents ran.sink) (g.K.Sink.faults c.args.sink) (g.K.Sink.faults ran.sink)
+          ran.counts ran.ending) setup c.in-Ok-receive_in_turns.ensures.work;
+    }
