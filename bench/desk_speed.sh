@@ -1,17 +1,19 @@
 #!/bin/bash
-# Measures the steps of a receiver that 1, 2, 4 and 16 workers share behind a lock, with no socket: a stream of 400 Mbit/s in packets
-# of 1,316 octets, in clear, of which each worker takes the next when it comes to read, and a tick of each worker's clock each 5 ms.
-# Nothing is kept. It prints the processor time and the wall time for each packet, its opening and its step. It takes some minutes,
-# most of them for the proofs, needs rt and bash, and writes only below a new folder in /tmp.
+# Measures the steps of a receiver that 1, 4 and 16 workers share, with no socket: a stream of 400 Mbit/s in packets of 1,316 octets,
+# in clear, of which each worker takes the next when it comes to read, and a tick of each worker's clock each 5 ms. Nothing is kept.
+# The receiver stands behind a turn lock, as in `recv`, and then behind the lock of the standard library, in turns. It prints the
+# processor time and the wall time for each packet, its opening and its step, the least of the rounds, and the ratio of both locks.
+# It takes some minutes, most of them for the proofs, needs rt, bash and awk, and writes only below a new folder in /tmp.
 set -e
-for tool in rt bash; do command -v "$tool" > /dev/null || { echo "no $tool here"; exit 3; }; done
-top=$(cd "$(dirname "$0")/.." && pwd)
-work=$(mktemp -d /tmp/desk_speed.XXXXXX)
-trap 'rm -rf "$work"' EXIT
+for tool in rt bash awk; do command -v "$tool" > /dev/null || { echo "no $tool here"; exit 3; }; done
+top=${TREE:-$(cd "$(dirname "$0")/.." && pwd)}
+work=${WORK:-$(mktemp -d /tmp/desk_speed.XXXXXX)}
+[ -n "$WORK" ] || trap 'rm -rf "$work"' EXIT
 count=${1:-200000}
-mkdir -p "$work/crates/speed/src" "$work/crates/speed/proofs/made"
+rounds=${2:-5}
+mkdir -p "$work/crates/speed/src"
 cp "$top/HANDLES" "$work/"
-needed=" rist_desk "
+needed=" rist_recv "
 add() {
     local name
     for name in $(sed -n "s/^$1://p" "$top/crates.txt"); do
@@ -21,35 +23,35 @@ add() {
         esac
     done
 }
-add rist_desk
+add rist_recv
 for crate in $needed; do
     grep "^$crate:" "$top/crates.txt" >> "$work/crates.txt"
-    mkdir "$work/crates/$crate"
+    mkdir -p "$work/crates/$crate"
     for part in src specs proofs; do
         if [ -d "$top/crates/$crate/$part" ]; then
             cp -r "$top/crates/$crate/$part" "$work/crates/$crate/"
         fi
     done
 done
-echo 'speed: outside_io outside_net seq_unwrap request_rules rist_wire rist_ends rist_desk' >> "$work/crates.txt"
+echo 'speed: gre_tunnel outside_io outside_net seq_unwrap request_rules rist_wire rist_ends rist_desk rist_recv' >> "$work/crates.txt"
 cat > "$work/crates/speed/src/main.rt" <<'RATTLE'
 #![tactic(auto)]
-ghost use Rattle.std.specs.Prelude.{◌≡◌, ◌<◌, ◌≤◌, ◌^◌, None, Some, length};
+ghost use Rattle.std.specs.Prelude.{◌≡◌, ◌<◌, ◌≤◌, None, Some, length};
 ghost use Rattle.rist_wire.specs.Session.{IsSession};
 ghost use Rattle.rist_ends.specs.Settings.{IsInRange};
-ghost use Rattle.rist_desk.specs.Desk.{IsNew, state_of};
 
+use gre_tunnel::Tunnel;
 use outside_io::{Channel, Failed, Profile, Store8};
 use outside_net::{Clock, Got, Link, Quiet};
 use request_rules::NackKind;
-use rist_desk::{Desk, Limits, Name, Worker, serve};
-use rist_ends::{Receiver, Settings};
-use rist_wire::{Opener, Session};
+use rist_desk::Limits;
+use rist_ends::Settings;
+use rist_recv::{make, make_in_turns, receive_in_turns, receive_on};
+use rist_wire::Session;
 use seq_unwrap::Width;
 use std::alloc::Global;
-use std::marker::Brand;
 use std::sync::atomic::{AtomicU64, Ordering};
-use std::sync::{Arc, Mutex, Wait};
+use std::sync::{Arc, Wait};
 use std::thread::Threads;
 use std::{env, io};
 
@@ -148,108 +150,125 @@ fn session() -> Session
         nulls: false,
         width: Width::W16,
         full: false,
+        tunnel: Tunnel::Own,
+        echo: false,
     }
 }
 
-// How many packets were kept, once all are served.
-fn run<N: Name + Send + Sync, R: Threads + Wait + Sync>(
-    rt: &R,
-    receiver: Receiver,
-    sink: Store8,
-    workers: &mut [Worker<Flood, Pace, Quiet>],
-) -> u64
-    requires fresh { IsNew N.given (state_of receiver None None (Some sink.contents) sink.calls.faults) }
-    requires some { 0 < length workers.old }
-    requires few { length workers.old ≤ 16 }
-{
-    let desk: Mutex<Desk<N, Quiet, Store8>> = Mutex::new(Desk::with(receiver, Quiet::new(), sink));
-    let limits = Limits { turns: 1 << 40, idle: 0 };
-    serve(rt, workers, &desk, &limits);
-    let (receiver, _trace, _sink) = desk.into_inner().apart();
-    receiver.counts().kept
+fn room(count: u64) -> usize {
+    (count.min(1 << 20) as usize) * 1_316
 }
 
-fn made<R: Threads + Wait + Sync>(
+// How many packets were kept behind a turn lock.
+fn in_turns<R: Threads + Wait + Sync>(
     rt: &R,
     alloc: Global,
     count: u64,
-    workers: &mut [Worker<Flood, Pace, Quiet>],
+    links: &mut Vec<Flood>,
+    clocks: &mut Vec<Pace>,
 ) -> Option<u64>
-    requires some { 0 < length workers.old }
-    requires few { length workers.old ≤ 16 }
+    requires some { 0 < length links.old.items }
+    requires few { length links.old.items ≤ 16 }
+    requires clocks { length clocks.old.items ≡ length links.old.items }
 {
-    let room = (count.min(1 << 30) as usize).saturating_mul(1_316);
-    let Ok(sink) = Store8::with(alloc, room, &[]) else {
+    let limits = Limits { turns: 1 << 40, idle: 0 };
+    let Ok(sink) = Store8::with(alloc, room(count), &[]) else {
         return None;
     };
-    let Ok(receiver) = Receiver::with(alloc, &settings(), &session(), None) else {
+    let Ok(made) = make_in_turns(alloc, &settings(), &session(), None, links.len()) else {
         return None;
     };
-    Some(run::<Brand, R>(rt, receiver, sink, workers))
+    match receive_in_turns(rt, alloc, made, links, clocks, sink, &limits) {
+        Ok(run) => Some(run.counts.kept),
+        Err(_) => None,
+    }
 }
 
-fn worker(alloc: Global, next: &Next, count: u64) -> Option<Worker<Flood, Pace, Quiet>> {
-    let Ok(first) = Arc::try_clone(next) else {
+// How many packets were kept behind a lock of the standard library.
+fn in_a_lock<R: Threads + Wait + Sync>(
+    rt: &R,
+    alloc: Global,
+    count: u64,
+    links: &mut Vec<Flood>,
+    clocks: &mut Vec<Pace>,
+) -> Option<u64>
+    requires some { 0 < length links.old.items }
+    requires few { length links.old.items ≤ 16 }
+    requires clocks { length clocks.old.items ≡ length links.old.items }
+{
+    let limits = Limits { turns: 1 << 40, idle: 0 };
+    let Ok(sink) = Store8::with(alloc, room(count), &[]) else {
         return None;
     };
-    let Ok(second) = Arc::try_clone(next) else {
+    let Ok(made) = make::<Quiet, Flood, Pace>(alloc, &settings(), &session(), None, links.len(), 0) else {
         return None;
     };
-    let Ok(opener) = Opener::with(alloc, &session()) else {
-        return None;
-    };
-    Some(Worker {
-        link: Flood { next: first, count, ends: 0 },
-        clock: Pace { next: second },
-        opener,
-        trace: Quiet::new(),
-        end: None,
-    })
+    let run = receive_on(rt, made, links, clocks, sink, &limits);
+    Some(run.counts.kept)
+}
+
+fn number(word: Option<String>) -> u64 {
+    match word {
+        Some(text) => text.parse().unwrap_or(0),
+        None => 0,
+    }
 }
 
 fn main(rt: HostRuntime) -> io::Result<()> {
     let mut words = env::args(&rt)?;
     let _program = words.next();
-    let count: u64 = match words.next() {
-        Some(text) => text.parse().unwrap_or(0),
-        None => 0,
-    };
-    let many: u64 = match words.next() {
-        Some(text) => text.parse().unwrap_or(1),
-        None => 1,
-    };
+    let count = number(words.next());
+    let many = number(words.next());
+    let turns = number(words.next()) == 1;
     let next = Arc::new(rt.alloc(), AtomicU64::new(0))?;
-    let mut workers = Vec::new(rt.alloc());
+    let mut links = Vec::new(rt.alloc());
+    let mut clocks = Vec::new(rt.alloc());
     for _ in 0..many {
-        let Some(one) = worker(rt.alloc(), &next, count) else {
+        let Ok(first) = Arc::try_clone(&next) else {
             return println!(rt; "out of memory");
         };
-        workers.push(one)?;
+        let Ok(second) = Arc::try_clone(&next) else {
+            return println!(rt; "out of memory");
+        };
+        links.push(Flood { next: first, count, ends: 0 })?;
+        clocks.push(Pace { next: second })?;
     }
-    let all = workers.as_mut_slice();
-    let few = all.len().min(16);
-    if few == 0 {
+    if links.len() == 0 || links.len() > 16 || clocks.len() != links.len() {
         return Ok(());
     }
-    match made(&rt, rt.alloc(), count, &mut all[..few]) {
+    let kept = if turns {
+        in_turns(&rt, rt.alloc(), count, &mut links, &mut clocks)
+    } else {
+        in_a_lock(&rt, rt.alloc(), count, &mut links, &mut clocks)
+    };
+    match kept {
         Some(kept) => println!(rt; "{kept}"),
         None => println!(rt; "out of memory"),
     }
 }
 RATTLE
-cat > "$work/crates/speed/proofs/made/Invariants.antt" <<'ANTT'
--- The name of this run's desk.
-use Rattle.std.specs.Prelude.{None, true, false}
-use Rattle.rist_ends.specs.Receiver.{settings_of}
-use Rattle.speed.proofs.made.Given as goal
-
-abbrev pub ghosts-run : goal.ghosts-run
-ghosts-run g a = record { given = record { settings = settings_of a.receiver; shutter = a.receiver.reporter.shutter; limit = None; tells_steps = false; tells_octets = true; faults = 0 } }
-ANTT
 (cd "$work/crates/speed" && rt run -- 0 > "$work/log" 2>&1) || { tail -30 "$work/log"; exit 1; }
 program=$work/crates/speed/out/speed
 TIMEFORMAT='%R %U %S'
-for workers in 1 2 4 16; do
-    { time kept=$("$program" "$count" "$workers"); } 2> "$work/time"
-    awk -v workers="$workers" -v kept="$kept" -v count="$count" '{ printf "%d workers: %.2f us of wall time a packet, %.2f us of processor time; %d packets kept\n", workers, $1 * 1000000 / count, ($2 + $3) * 1000000 / count, kept }' "$work/time"
-done
+for workers in 1 4 16; do
+    for round in $(seq "$rounds"); do
+        for turns in 1 0; do
+            { time kept=$("$program" "$count" "$workers" "$turns"); } 2> "$work/time"
+            [ "$kept" = "$count" ] || { echo "$workers workers: $kept of $count kept"; exit 1; }
+            echo "$workers $turns $(cat "$work/time")"
+        done
+    done
+done | awk -v count="$count" '
+    $1 ~ /^[0-9]+$/ && NF == 5 {
+        key = $1 " " $2; cpu = ($4 + $5) * 1000000 / count; wall = $3 * 1000000 / count
+        if (!(key in least) || cpu < least[key]) least[key] = cpu
+        if (!(key in clock) || wall < clock[key]) clock[key] = wall
+        if (!($1 in seen)) { seen[$1] = 1; order[++n] = $1 }
+        next
+    }
+    { print; bad = 1 }
+    END {
+        for (i = 1; i <= n; i++) { w = order[i]
+            printf "%d workers: turn lock %.2f us of processor time a packet, %.2f us by the clock; lock %.2f and %.2f; ratio %.2f and %.2f\n",
+                w, least[w " 1"], clock[w " 1"], least[w " 0"], clock[w " 0"], least[w " 1"] / least[w " 0"], clock[w " 1"] / clock[w " 0"] }
+        exit bad }'
