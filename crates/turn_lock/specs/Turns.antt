@@ -1,22 +1,20 @@
--- The rule of a lock's table, and what each step on it tells. Word 0 is how many tickets were drawn, and word 1 which one
--- is served: as many as there were turns. The slot has the value, which is out with the pass whose turn it is. Lists stand
--- with the newest first.
-use Rattle.std.specs.Prelude.{◌≡◌, ◌≢◌, ◌⊎◌, ℕ, ◌+◌, ◌-◌, ◌*◌, ◌^◌, ◌<◌, ◌≤◌, List, [], ◌∷◌, ◌++◌, map, length, replicate, if◌then◌else◌, ◌==◌, Option, Some, None}
+-- The rule of a lock's table, and what each step on it tells. The one word is 0 where any pass may take the turn, and 4
+-- where one may that has slept. Where it is another number, the turn is taken, and the value, else in the slot, is out with
+-- the pass that has it. Lists stand with the newest first.
+use Rattle.std.specs.Prelude.{◌≡◌, ◌≢◌, ◌⊎◌, ℕ, ◌+◌, ◌-◌, ◌*◌, ◌<◌, ◌≤◌, List, [], ◌∷◌, ◌++◌, map, length, replicate, if◌then◌else◌, ◌==◌, Option, Some, None}
 use mathlib.Core.Option.{some, none}
 use mathlib.Core.Option as maybe
 use lib.ListN.{get_elem?}
 use Rattle.atomic_table.specs.Table.{State, Me, Step, rest}
 use Rattle.turn_lock.specs.declared.rule.Stage.{Stage}
-use Rattle.turn_lock.specs.declared.rule.Stage.TheVariants.{Idle, Waits, Holds}
+use Rattle.turn_lock.specs.declared.rule.Stage.TheVariants.{Idle, Holds}
 use Rattle.turn_lock.specs.declared.rule.Turn.{Turn}
 use Rattle.turn_lock.specs.declared.rule.View.{View}
 use Rattle.turn_lock.specs.History.{added}
 
--- the pass waits for this ticket, or has its turn
-abbrev pub Has : ℕ → ℕ → Stage → Type 0
-Has serving t Idle = ⊥
-Has serving t (Waits u) = t ≡ u
-Has serving t Holds = t ≡ serving
+-- no pass has the turn where this is the word
+abbrev pub IsFree : ℕ → Type 0
+IsFree n = (n ≡ 0) ⊎ (n ≡ 4)
 
 module _ {A : Type 0} where
   abbrev pub only_first : List A → List A
@@ -38,26 +36,21 @@ module _ {E : Type 0} where
   of p [] = []
   of p (t ∷ ts) = if t.pass == p then added t.entry (of p ts) else of p ts
 
-  abbrev pub lefts : List (View E) → ℕ
-  lefts [] = 0
-  lefts (v ∷ vs) = v.left + lefts vs
-
   -- the pass has turns under this number
   abbrev pub Names : ℕ → View E → Type 0
   Names k v = (v.first ≤ k) × (k < v.first + length v.owns)
 
-  abbrev pub StageOk : List (Turn E) → ℕ → View E → Stage → Type 0
-  StageOk turns ticket v Idle = Unit {0}
-  StageOk turns ticket v (Waits t) = (length turns ≤ t) × (t < ticket) × (length v.owns ≡ 1)
-  StageOk turns ticket v Holds = (v.seen ≡ turns) × (length turns < ticket) × (length v.owns ≡ 1)
+  abbrev pub StageOk : List (Turn E) → View E → Stage → Type 0
+  StageOk turns v Idle = Unit {0}
+  StageOk turns v Holds = (v.seen ≡ turns) × (length v.owns ≡ 1)
 
   -- the earlier turns are those of ts, and others may have come since
   abbrev pub Begins : List (Turn E) → List (Turn E) → Type 0
   Begins turns ts = (later : List (Turn E)) × (turns ≡ later ++ ts)
 
   -- what one pass knows is so
-  pub record Knows (count : ℕ) (turns : List (Turn E)) (ticket : ℕ) (v : View E) : Type 0 where
-    pub stage : StageOk turns ticket v v.stage
+  pub record Knows (count : ℕ) (turns : List (Turn E)) (v : View E) : Type 0 where
+    pub stage : StageOk turns v v.stage
     pub saw : Begins turns v.seen
     pub met : (k : ℕ) (ts : List (Turn E)) → get_elem? v.met k ≡ some ts → Begins turns ts
     pub own : (k : ℕ) (l : List E) → get_elem? v.owns k ≡ some l → of (v.first + k) turns ≡ l
@@ -106,35 +99,42 @@ module _ {X E : Type 0} where
 
   pub record Kept (stands : X → List E → Type 0) (count : ℕ) (s : State (Option X) (View E)) : Type 0 where
     pub turns : List (Turn E)
-    pub ticket : ℕ
-    pub words : s.words ≡ ticket ∷ length turns ∷ []
-    pub behind : length turns ≤ ticket
-    pub room : ticket + lefts s.views ≤ 2 ^ 63
+    pub word : ℕ
+    pub words : s.words ≡ word ∷ []
     pub named : (k : ℕ) (t : Turn E) → get_elem? turns k ≡ some t → t.pass < count
-    pub home : AtHome stands turns s.homes ⊎ Away s.views s.homes
+    pub home : (IsFree word × AtHome stands turns s.homes) ⊎ ((IsFree word → ⊥) × Away s.views s.homes)
     pub out : (j : ℕ) (v : View E) → get_elem? s.views j ≡ some v → v.stage ≡ Holds → s.homes ≡ none ∷ []
-    pub each : (j : ℕ) (v : View E) → get_elem? s.views j ≡ some v → Knows count turns ticket v
-    pub one_ticket : One (λ t v. Has (length turns) t v.stage) s.views
+    pub each : (j : ℕ) (v : View E) → get_elem? s.views j ≡ some v → Knows count turns v
+    pub one_turn : One (λ _ v. v.stage ≡ Holds) s.views
     pub one_name : One Names s.views
 
-  abbrev pub drawn : Step (Option X) → Me (Option X) (View E) → ℕ → Me (Option X) (View E) → Type 0
-  drawn st m n m' = m' ≡ (record { stage = Waits n; seen = m.0.seen; first = m.0.first; owns = m.0.owns; met = m.0.met; left = m.0.left - 1 }, m.1)
-
   -- the pass has its turn, and the value, which stands for all turns before
-  pub record Took (stands : X → List E → Type 0) (m : Me (Option X) (View E)) (n : ℕ) (m' : Me (Option X) (View E)) : Type 0 where
+  pub record Took (stands : X → List E → Type 0) (m m' : Me (Option X) (View E)) : Type 0 where
     pub turns : List (Turn E)
     pub later : List (Turn E)
     pub value : X
-    pub now : m' ≡ (record { stage = Holds; seen = turns; first = m.0.first; owns = m.0.owns; met = m.0.met; left = m.0.left }, (0, Some value) ∷ m.1)
+    pub now : m' ≡ (record { stage = Holds; seen = turns; first = m.0.first; owns = m.0.owns; met = m.0.met; left = m.0.left - 1 }, (0, Some value) ∷ m.1)
     pub stood : stands value (entries turns)
     pub saw : turns ≡ later ++ m.0.seen
-    pub count : length turns ≡ n
 
-  abbrev pub looked : (X → List E → Type 0) → Step (Option X) → Me (Option X) (View E) → ℕ → Me (Option X) (View E) → Type 0
-  looked stands st m n m' = (t : ℕ) → m.0.stage ≡ Waits t → (n ≡ t → Took stands m n m') × (n ≢ t → m' ≡ m)
+  -- the turn is taken where the word was the first operand, and else nothing is
+  abbrev pub taken : (X → List E → Type 0) → Step (Option X) → Me (Option X) (View E) → ℕ → Me (Option X) (View E) → Type 0
+  taken stands st m n m' = (n ≡ st.first → Took stands m m') × (n ≢ st.first → m' ≡ m)
+
+  -- the pass is where it was
+  abbrev pub stayed : Step (Option X) → Me (Option X) (View E) → ℕ → Me (Option X) (View E) → Type 0
+  stayed st m n m' = m' ≡ m
 
   abbrev pub passed : Option E → Step (Option X) → Me (Option X) (View E) → ℕ → Me (Option X) (View E) → Type 0
   passed e st m n m' = m' ≡ (after m.0 e, rest m.1)
+
+  -- the turn is passed on where the word was the first operand, and else it is kept
+  abbrev pub passed_if : Option E → Step (Option X) → Me (Option X) (View E) → ℕ → Me (Option X) (View E) → Type 0
+  passed_if e st m n m' = (n ≡ st.first → m' ≡ (after m.0 e, rest m.1)) × (n ≢ st.first → m' ≡ m)
+
+  -- the value that the pass has out stands for the turns before, and what its own adds
+  abbrev pub GivesBack : (X → List E → Type 0) → Option E → Me (Option X) (View E) → Type 0
+  GivesBack stands e m = (x : X) × (m.1 ≡ (0, Some x) ∷ []) × stands x (added e (entries m.0.seen))
 
   -- the pass has its turn, and x stands for the turns before
   pub record HasTurn (stands : X → List E → Type 0) (v : View E) (m : Me (Option X) (View E)) (x : X) : Type 0 where

@@ -18,7 +18,6 @@ fn laid<E, X: Turned<E>>(
     passes: u64,
 ) -> Result<(TurnLock<E, X>, Seat<Option<X>, View<E>>), X>
     requires stands { X.stands value [] }
-    requires few { passes ≤ 32 }
     ensures ok { IfOk result (λ r. (r.0.table.shared.key ≡ passes)
         × (r.1.table_id ≡ r.0.table.shared.table_id) × (r.1.me ≡ (opener passes, []))) }
     ensures err { IfErr result (λ x. x ≡ value) }
@@ -29,7 +28,7 @@ fn laid<E, X: Turned<E>>(
         slots.destroy_empty();
         return Err(value.unwrap());
     }
-    match Table::new(alloc, &[0, 0], slots, &passes) {
+    match Table::new(alloc, &[0], slots, &passes) {
         Ok((table, seat)) => Ok((TurnLock { table }, seat)),
         Err(Refused { mut slots }) => {
             let value = slots.pop().unwrap();
@@ -48,7 +47,7 @@ impl<E, X: Turned<E>> TurnLock<E, X> {
         passes: u64,
     ) -> Result<(TurnLock<E, X>, Vec<Pass<E, X>>), X>
         requires stands { X.stands value [] }
-        requires few { (0 < passes) × (passes ≤ 32) }
+        requires some { 0 < passes }
         ensures ok { IfOk result (λ r. (passes_of r.0 ≡ passes) × AreFresh r.0 r.1.items) }
         ensures err { IfErr result (λ x. x ≡ value) }
     {
@@ -64,7 +63,7 @@ impl<E, X: Turned<E>> TurnLock<E, X> {
     fn deal(&self, seat: Seat<Option<X>, View<E>>, passes: u64, all: &mut Vec<Pass<E, X>>)
         requires own { seat.table_id ≡ self.now.table.shared.table_id }
         requires opens { seat.me ≡ (opener passes, []) }
-        requires few { (0 < passes) × (passes ≤ 32) }
+        requires some { 0 < passes }
         requires room { (all.old.items ≡ []) × (passes ≤ vec_capacity all.old) }
         ensures { AreDealt self.now.table.shared.table_id passes all.new.items }
     {

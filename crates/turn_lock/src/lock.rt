@@ -5,10 +5,11 @@ use crate::rule::{Law, Turned, View};
 use atomic_table::Table;
 use std::alloc::Global;
 
-/// A lock over a value that stands for a history. Turns are served in the order in which they were asked for.
+/// A lock over a value that stands for a history. A turn goes to whichever thread comes to it first, as with a `Mutex`. One
+/// that was woken some times and found the turn taken asks for the next, which is then left to those that have slept.
 #[derive(Drop)]
 pub struct TurnLock<E, X: Turned<E>> {
-    /// Its two words are how many tickets were drawn, and which one is served. Its slot has the value between two turns.
+    /// Its one word says whether the turn is taken, and whether a thread may sleep. Its slot has the value between two turns.
     pub table: Table<Option<X>, View<E>, u64, Law<X>, Global>,
-    ghost two: { (table.shared.table_id.words ≡ 2) × (table.shared.table_id.slots ≡ 1) },
+    ghost one: { (table.shared.table_id.words ≡ 1) × (table.shared.table_id.slots ≡ 1) },
 }

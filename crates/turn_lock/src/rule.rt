@@ -42,10 +42,8 @@ pub struct Turn<E> {
 
 /// Where a pass stands.
 pub enum Stage {
-    /// It has drawn no ticket.
+    /// It has no turn.
     Idle,
-    /// It waits until this ticket is served.
-    Waits(u64),
     /// It has its turn, and the value with it.
     Holds,
 }
