@@ -1,40 +1,51 @@
 #!/bin/bash
 # Measures the steps of a receiver that 1, 4 and 16 workers share, with no socket: a stream of 400 Mbit/s in packets of 1,316 octets,
 # in clear, of which each worker takes the next when it comes to read, and a tick of each worker's clock each 5 ms. Nothing is kept.
-# The receiver stands behind a turn lock, as in `recv`, and then behind the lock of the standard library, in turns. It prints the
-# processor time and the wall time for each packet, its opening and its step, the least of the rounds, and the ratio of both locks.
-# It takes some minutes, most of them for the proofs, needs rt, bash and awk, and writes only below a new folder in /tmp.
+# The receiver stands behind a turn lock, as in `recv`, and then behind the lock of the standard library, as an earlier commit had it, in
+# turns. It prints the processor time and the wall time for each packet, its opening and its step, the least of the rounds, and the ratio
+# of both locks. It takes half an hour or more, most of it for the proofs of both, needs rt, git, bash and awk, a clone with the earlier
+# commit, and writes only below a new folder in /tmp.
+# Usage: bench/desk_speed.sh [COUNT [ROUNDS [COMMIT]]]
 set -e
-for tool in rt bash awk; do command -v "$tool" > /dev/null || { echo "no $tool here"; exit 3; }; done
-top=${TREE:-$(cd "$(dirname "$0")/.." && pwd)}
+for tool in rt git bash awk; do command -v "$tool" > /dev/null || { echo "no $tool here"; exit 3; }; done
+top=$(cd "$(dirname "$0")/.." && pwd)
 work=${WORK:-$(mktemp -d /tmp/desk_speed.XXXXXX)}
 [ -n "$WORK" ] || trap 'rm -rf "$work"' EXIT
 count=${1:-200000}
 rounds=${2:-5}
-mkdir -p "$work/crates/speed/src"
-cp "$top/HANDLES" "$work/"
-needed=" rist_recv "
+earlier=${3:-ffb3fe0}
+
+# Puts `rist_recv` and the crates below it, as a commit has them, below a folder.
+lay() {
+    mkdir -p "$work/$1/tree" "$work/$1/crates/speed/src"
+    git -C "$top" archive "$2" crates crates.txt HANDLES | tar -x -C "$work/$1/tree"
+    cp "$work/$1/tree/HANDLES" "$work/$1/"
+    needed=" rist_recv "
+    add "$work/$1/tree" rist_recv
+    for crate in $needed; do
+        grep "^$crate:" "$work/$1/tree/crates.txt" >> "$work/$1/crates.txt"
+        mkdir -p "$work/$1/crates/$crate"
+        for part in src specs proofs; do
+            if [ -d "$work/$1/tree/crates/$crate/$part" ]; then
+                mv "$work/$1/tree/crates/$crate/$part" "$work/$1/crates/$crate/"
+            fi
+        done
+    done
+    rm -r "$work/$1/tree"
+    echo 'speed: gre_tunnel outside_io outside_net seq_unwrap request_rules rist_wire rist_ends rist_desk rist_recv' >> "$work/$1/crates.txt"
+}
 add() {
     local name
-    for name in $(sed -n "s/^$1://p" "$top/crates.txt"); do
+    for name in $(sed -n "s/^$2://p" "$1/crates.txt"); do
         case "$needed" in
             *" $name "*) ;;
-            *) if [ -d "$top/crates/$name" ]; then needed="$needed$name "; add "$name"; fi ;;
+            *) if [ -d "$1/crates/$name" ]; then needed="$needed$name "; add "$1" "$name"; fi ;;
         esac
     done
 }
-add rist_recv
-for crate in $needed; do
-    grep "^$crate:" "$top/crates.txt" >> "$work/crates.txt"
-    mkdir -p "$work/crates/$crate"
-    for part in src specs proofs; do
-        if [ -d "$top/crates/$crate/$part" ]; then
-            cp -r "$top/crates/$crate/$part" "$work/crates/$crate/"
-        fi
-    done
-done
-echo 'speed: gre_tunnel outside_io outside_net seq_unwrap request_rules rist_wire rist_ends rist_desk rist_recv' >> "$work/crates.txt"
-cat > "$work/crates/speed/src/main.rt" <<'RATTLE'
+lay turns HEAD
+lay lock "$earlier"
+cat > "$work/turns/crates/speed/src/main.rt" <<'RATTLE'
 #![tactic(auto)]
 ghost use Rattle.std.specs.Prelude.{◌≡◌, ◌<◌, ◌≤◌, None, Some, length};
 ghost use Rattle.rist_wire.specs.Session.{IsSession};
@@ -42,11 +53,10 @@ ghost use Rattle.rist_ends.specs.Settings.{IsInRange};
 
 use gre_tunnel::Tunnel;
 use outside_io::{Channel, Failed, Profile, Store8};
-use outside_net::{Clock, Got, Link, Quiet};
+use outside_net::{Clock, Got, Link};
 use request_rules::NackKind;
 use rist_desk::Limits;
 use rist_ends::Settings;
-use rist_recv::{make, make_in_turns, receive_in_turns, receive_on};
 use rist_wire::Session;
 use seq_unwrap::Width;
 use std::alloc::Global;
@@ -158,9 +168,14 @@ fn session() -> Session
 fn room(count: u64) -> usize {
     (count.min(1 << 20) as usize) * 1_316
 }
+RATTLE
+cp "$work/turns/crates/speed/src/main.rt" "$work/lock/crates/speed/src/main.rt"
+cat >> "$work/turns/crates/speed/src/main.rt" <<'RATTLE'
+
+use rist_recv::{make_in_turns, receive_in_turns};
 
 // How many packets were kept behind a turn lock.
-fn in_turns<R: Threads + Wait + Sync>(
+fn kept_of<R: Threads + Wait + Sync>(
     rt: &R,
     alloc: Global,
     count: u64,
@@ -183,9 +198,14 @@ fn in_turns<R: Threads + Wait + Sync>(
         Err(_) => None,
     }
 }
+RATTLE
+cat >> "$work/lock/crates/speed/src/main.rt" <<'RATTLE'
+
+use outside_net::Quiet;
+use rist_recv::{make, receive_on};
 
 // How many packets were kept behind a lock of the standard library.
-fn in_a_lock<R: Threads + Wait + Sync>(
+fn kept_of<R: Threads + Wait + Sync>(
     rt: &R,
     alloc: Global,
     count: u64,
@@ -206,6 +226,8 @@ fn in_a_lock<R: Threads + Wait + Sync>(
     let run = receive_on(rt, made, links, clocks, sink, &limits);
     Some(run.counts.kept)
 }
+RATTLE
+cat > "$work/rest" <<'RATTLE'
 
 fn number(word: Option<String>) -> u64 {
     match word {
@@ -219,7 +241,6 @@ fn main(rt: HostRuntime) -> io::Result<()> {
     let _program = words.next();
     let count = number(words.next());
     let many = number(words.next());
-    let turns = number(words.next()) == 1;
     let next = Arc::new(rt.alloc(), AtomicU64::new(0))?;
     let mut links = Vec::new(rt.alloc());
     let mut clocks = Vec::new(rt.alloc());
@@ -236,27 +257,24 @@ fn main(rt: HostRuntime) -> io::Result<()> {
     if links.len() == 0 || links.len() > 16 || clocks.len() != links.len() {
         return Ok(());
     }
-    let kept = if turns {
-        in_turns(&rt, rt.alloc(), count, &mut links, &mut clocks)
-    } else {
-        in_a_lock(&rt, rt.alloc(), count, &mut links, &mut clocks)
-    };
-    match kept {
+    match kept_of(&rt, rt.alloc(), count, &mut links, &mut clocks) {
         Some(kept) => println!(rt; "{kept}"),
         None => println!(rt; "out of memory"),
     }
 }
 RATTLE
-(cd "$work/crates/speed" && rt run -- 0 > "$work/log" 2>&1) || { tail -30 "$work/log"; exit 1; }
-program=$work/crates/speed/out/speed
+for kind in turns lock; do
+    cat "$work/rest" >> "$work/$kind/crates/speed/src/main.rt"
+    (cd "$work/$kind/crates/speed" && rt run -- 0 > "$work/log" 2>&1) || { tail -30 "$work/log"; exit 1; }
+done
 TIMEFORMAT='%R %U %S'
 for workers in 1 4 16; do
     for round in $(seq "$rounds"); do
-        for turns in 1 0; do
-            { time kept=$("$program" "$count" "$workers" "$turns"); } 2> "$work/time"
+        for kind in turns lock; do
+            { time kept=$("$work/$kind/crates/speed/out/speed" "$count" "$workers"); } 2> "$work/time"
             # A worker that had to wait while others went on may come too late with its packet.
-            [ "$kept" = "$count" ] || echo "note $workers workers, $([ $turns = 1 ] && echo turn lock || echo lock): $kept of $count kept"
-            echo "$workers $turns $(cat "$work/time")"
+            [ "$kept" = "$count" ] || echo "note $workers workers, $kind: $kept of $count kept"
+            echo "$workers $kind $(cat "$work/time")"
         done
     done
 done | awk -v count="$count" '
@@ -272,5 +290,5 @@ done | awk -v count="$count" '
     END {
         for (i = 1; i <= n; i++) { w = order[i]
             printf "%d workers: turn lock %.2f us of processor time a packet, %.2f us by the clock; lock %.2f and %.2f; ratio %.2f and %.2f\n",
-                w, least[w " 1"], clock[w " 1"], least[w " 0"], clock[w " 0"], least[w " 1"] / least[w " 0"], clock[w " 1"] / clock[w " 0"] }
+                w, least[w " turns"], clock[w " turns"], least[w " lock"], clock[w " lock"], least[w " turns"] / least[w " lock"], clock[w " turns"] / clock[w " lock"] }
         exit bad }'

@@ -6,8 +6,8 @@ ghost use Rattle.outside_net.specs.Scripts.{FitsDatagram};
 use crate::asserts::{assert_got, assert_octets, assert_written};
 use outside_io::{Channel, Failed, Profile};
 use outside_net::{
-    Clock, Full, Got, Kept, Link, LinkSpec, Octets, ProcessClock, Quiet, Role, ScriptClock,
-    ScriptLink, ScriptRead, Trace, UdpLink,
+    Clock, Full, Got, Kept, Link, LinkSpec, Octets, ProcessClock, Role, ScriptClock, ScriptLink,
+    ScriptRead, Trace, UdpLink,
 };
 use std::process::Abort;
 use std::test::Fail;
@@ -73,9 +73,6 @@ fn a_trace_keeps_up_to_its_limit(rt: HostRuntime) -> Result<(), Fail> {
     }
     assert!(rt; kept.room() == Err(Full));
     assert!(rt; kept.kept() == [3, 4].as_slice());
-    let mut quiet = Quiet::new();
-    quiet.add(3_u64);
-    assert!(rt; Trace::<u64>::room(&quiet) == Ok(()));
     Ok(())
 }
 

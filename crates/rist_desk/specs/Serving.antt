@@ -60,7 +60,7 @@ pub record MayServe {S L C U : Type 0} (is_of : S → ℕ → U → Type 0) (lef
   pub own : is_of shared place w.trace
   pub left_is : 2 * limits.turns ≤ left w.trace
 
--- It ended: what is its own is still of what is shared; and where a failed write of the sink ended it, that is known by
+-- A worker ended: what is its own is still of what is shared; and where a failed write of the sink ended it, that is known by
 -- what it has seen.
 pub record Leaves {S L C U : Type 0} (is_of : S → ℕ → U → Type 0) (broken : U → Type 0) (shared : S) (place : ℕ) (w : Worker L C U) : Type 0 where
   pub own : is_of shared place w.trace

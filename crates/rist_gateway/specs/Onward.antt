@@ -88,7 +88,7 @@ why_of None aside = aside
 abbrev pub setup_of : OnwardState → Setup
 setup_of o = record { rules = rules_of o.sender; session = o.sender.session; links = length o.links }
 
--- it is as far as this
+-- the sending end is as far as this
 pub record IsAt (o : OnwardState) (course : Course) : Type 0 where
   pub sender : IsSenderAfter o.sender course.work
   pub passed : course.passed ≡ o.passed
@@ -133,7 +133,7 @@ pub record IsOnward (first o : OnwardState) : Type 0 where
   pub put_down : HasRisen o.put_bad first.links o.links
   pub aside_down : HasRisen o.aside_bad first.links o.links
 
--- it was called by nobody yet: its sender is new, and has these 1 to 16 links
+-- a sending end that nobody called yet: its sender is new, and has these 1 to 16 links
 pub record IsUncalled (o : OnwardState) : Type 0 where
   pub sender : IsSenderAfter o.sender (no_work o.sender)
   pub opener : o.opener ≡ o.sender.session

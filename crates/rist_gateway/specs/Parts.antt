@@ -34,6 +34,7 @@ pub record SharedTells (S U P : Type 0) : Type 1 where
 abbrev pub sides_as : {S P : Type 0} → (S → ℕ → P → Type 0) → (P → ℕ) → SidesTell S P
 sides_as is_of left = record { is_of = is_of; left = left }
 
+-- what is shared, as a trait has it, with what its side workers look at
 abbrev pub shared_as : {S U P : Type 0} → Given → (U → Option (List Step)) → (U → Option ℕ) → (S → ℕ → U → Type 0) → (U → ℕ) → (U → Type 0) → SidesTell S P → SharedTells S U P
 shared_as given list limit is_of left broken sides =
     record {

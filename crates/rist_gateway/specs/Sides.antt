@@ -54,7 +54,7 @@ abbrev pub AllGoOn : Limits → (ℕ → ℕ) → List Side → Type 0
 AllGoOn limits moments [] = Unit {0}
 AllGoOn limits moments (side ∷ before) = AllGoOn limits moments before × (end_at limits moments side before ≡ None)
 
--- It made turns up to one that was the last, of which each took one moment and made one aside.
+-- A side worker made turns up to one that was the last, of which each took one moment and made one aside.
 pub record IsSideServed (limits : Limits) (moments : ℕ → ℕ) (end : SideEnded) (left : Option (ℕ → ℕ)) : Type 0 where
   pub before : List Side
   pub last : Side

@@ -21,7 +21,7 @@ pub trait SharesBeside<P> {
     ghost looks_left: { P → ℕ };
 
     /// Hands one aside on to the sink: one read of its link at a place, at a moment in microseconds, and what is due there.
-    /// It is no step.
+    /// A look is no step.
     fn aside<R: Wait>(&self, rt: &R, own: &mut P, us: u64, link: u8) -> Side
         requires own { (number : ℕ) × is_beside self.now number own.old }
         requires left { 1 ≤ looks_left own.old }

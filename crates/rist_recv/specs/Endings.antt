@@ -12,7 +12,7 @@ use Rattle.rist_recv.specs.declared.ending.Ending.TheVariants as endings
 
 -- ---- workers
 
--- it ended since pairs were wanting
+-- a worker that ended since pairs were wanting
 abbrev pub is_spent : Option Ended → Bool
 is_spent None = false
 is_spent (Some ends.End) = false
@@ -24,7 +24,7 @@ is_spent (Some ends.WriteFault) = false
 is_spent (Some ends.Spent) = true
 is_spent (Some ends.TraceFull) = false
 
--- it ended since a trace had no room for its next step
+-- a worker that ended since a trace had no room for its next step
 abbrev pub is_without_room : Option Ended → Bool
 is_without_room None = false
 is_without_room (Some ends.End) = false

@@ -26,7 +26,7 @@ trace_of w = w.trace
 abbrev pub seat_of : {L C U : Type 0} → Worker L C U → Seat U
 seat_of w = record { opener = w.opener; trace = w.trace }
 
--- it has not ended
+-- a worker that has not ended
 abbrev pub is_unended : {L C U : Type 0} → Worker L C U → Type 0
 is_unended w = w.end ≡ None
 
@@ -35,7 +35,7 @@ pub record ToldTrace : Type 0 where
   pub list : Option (List Step)
   pub limit : Option ℕ
 
--- it tells just that
+-- a trace that tells just that
 abbrev pub told_trace : TraceTells ToldTrace
 told_trace = record { list = λ t. t.list; limit = λ t. t.limit }
 

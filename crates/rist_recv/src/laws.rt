@@ -1,15 +1,14 @@
 //! Laws of a run of receiving.
-ghost use Rattle.std.specs.Prelude.{◌≡◌, ◌≤◌, ℕ, false, List, [], length, reverse, slice_get, Option, None, Some};
+ghost use Rattle.std.specs.Prelude.{◌≡◌, ◌≤◌, ℕ, false, List, [], length, reverse, slice_get, Option, Some};
 ghost use Rattle.std.specs.List.{concat};
 ghost use Rattle.receiver_rules.specs.Sent.{SentStream, Delivery, HasSteadyTimestamps, AreDeliveriesOf};
 ghost use Rattle.rist_desk.specs.declared.step.Step.{Step};
 ghost use Rattle.rist_desk.specs.Desk.{Given};
-ghost use Rattle.rist_compare.specs.declared.tear.Tear.{Tear};
-ghost use Rattle.rist_compare.specs.Tears.{Agree, own_of};
+ghost use Rattle.rist_compare.specs.Tears.{Agree};
 ghost use Rattle.turn_lock.specs.declared.rule.Turn.{Turn};
 ghost use Rattle.turn_lock.specs.Turns.{entries, of};
 ghost use Rattle.turn_desk.specs.Own.{AreOf};
-ghost use Rattle.rist_recv.specs.Receiving.{IsWhole, IsTorn};
+ghost use Rattle.rist_recv.specs.Receiving.{IsWhole};
 ghost use Rattle.receiver_rules.specs.SentEpochs.{SentStreams, Transfer, AreTransfersOf, sent_epochs, reached_payloads as payloads_of_epochs};
 ghost use Rattle.rist_recv.specs.Exact.{IsRunOf, IsRunOfAll, reached_payloads};
 
@@ -34,12 +33,6 @@ pub fn what_was_reached_is_received_epoch_after_epoch()
         → 1 ≤ given.settings.limits.playout_delay → ((epoch : ℕ) → HasSteadyTimestamps (streams epoch))
         → AreTransfersOf given.settings.limits streams run
         → octets ≡ concat (payloads_of_epochs streams (sent_epochs given.settings.limits streams run)) }
-{}
-
-/// Where nothing was kept, nothing is torn.
-pub fn what_was_not_kept_is_not_torn()
-    ensures { (given : Given) (contents : Option (List ℕ)) (own : List (List Step)) (tear : Tear)
-        → ((link : ℕ) → own_of link own ≡ []) → IsTorn given None contents own tear → ⊥ }
 {}
 
 /// Where the turns of each pass added steps of its own link alone, the history is made of the passes' own lists: each step

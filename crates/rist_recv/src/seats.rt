@@ -7,7 +7,7 @@ ghost use Rattle.rist_ends.specs.Settings.{IsInRange};
 ghost use Rattle.rist_recv.specs.Setup.{IsSeat, IsMade, setup_kept, setup_of};
 
 use outside_io::NoMemory;
-use outside_net::{Kept, Quiet};
+use outside_net::Kept;
 use psk_seal::Sealer;
 use rist_desk::{Step, StepTrace, Worker};
 use rist_ends::{Receiver, Settings};
@@ -32,16 +32,6 @@ impl MadeTrace for Kept<Step> {
 
     fn with_room(alloc: Global, room: usize) -> Result<Kept<Step>, NoMemory> {
         Kept::with(alloc, room)
-    }
-}
-
-impl MadeTrace for Quiet {
-    ghost use Rattle.std.specs.Prelude.{false};
-
-    ghost told = { false };
-
-    fn with_room(_alloc: Global, _room: usize) -> Result<Quiet, NoMemory> {
-        Ok(Quiet::new())
     }
 }
 

@@ -5,7 +5,7 @@ ghost use Rattle.rist_desk.specs.Desk.{IsNew, state_of};
 ghost use Rattle.rist_ends.specs.Told.{IsFit, IsNoEnd};
 
 use outside_io::{Failed, Profile, Sink, Store8};
-use outside_net::{Full, Kept, Quiet, Trace};
+use outside_net::{Full, Kept, Trace};
 use receiver_rules::{Arrival, Verdict};
 use rist_desk::{Beside, Desk, Mark, Name, Side, Step, StepTrace};
 use rist_ends::{Answer, Outs, Receiver, Settings, Told, What};
@@ -130,19 +130,17 @@ fn stepped<N: Name, T: StepTrace + Drop>(
     })
 }
 
-/// The same with a trace of so many steps.
-fn kept(alloc: Global, limit: usize, order: &[u8; 4]) -> Result<Run<Kept<Step>>, Fail> {
+/// The same with a trace of so many steps, and a sink of which these writes fail.
+fn kept(
+    alloc: Global,
+    limit: usize,
+    failing: &[u64],
+    order: &[u8; 4],
+) -> Result<Run<Kept<Step>>, Fail> {
     let receiver = Receiver::with(alloc, &Settings::muted(1000, 8, 0, false), &simple(), None)?;
     let trace: Kept<Step> = Kept::with(alloc, limit)?;
-    let sink = Store8::with(alloc, 64, &[])?;
+    let sink = Store8::with(alloc, 64, failing)?;
     stepped::<Brand, Kept<Step>>(alloc, receiver, trace, sink, order)
-}
-
-/// The same with a trace that keeps nothing, and a sink whose third write fails.
-fn silent(alloc: Global, order: &[u8; 4]) -> Result<Run<Quiet>, Fail> {
-    let receiver = Receiver::with(alloc, &Settings::muted(1000, 8, 0, false), &simple(), None)?;
-    let sink = Store8::with(alloc, 64, &[2])?;
-    stepped::<Brand, Quiet>(alloc, receiver, Quiet::new(), sink, order)
 }
 
 /// All was written in order, and of five steps one packet came twice.
@@ -174,7 +172,7 @@ static ORDERS: [[u8; 4]; 6] = [
 #[test]
 fn two_links_are_merged_in_each_order(rt: HostRuntime) -> Result<(), Fail> {
     for order in &ORDERS {
-        let run = kept(rt.alloc(), 64, order)?;
+        let run = kept(rt.alloc(), 64, &[], order)?;
         expect_merged(&rt, &run);
         expect_order(&rt, run.trace.kept(), order);
     }
@@ -183,7 +181,7 @@ fn two_links_are_merged_in_each_order(rt: HostRuntime) -> Result<(), Fail> {
 
 #[test]
 fn a_full_trace_takes_no_step(rt: HostRuntime) -> Result<(), Fail> {
-    let run = kept(rt.alloc(), 3, &[0, 1, 0, 1])?;
+    let run = kept(rt.alloc(), 3, &[], &[0, 1, 0, 1])?;
     assert!(rt; run.answers.get(2) == Some(&Ok(Answer::Verdict(Verdict::Kept))));
     assert!(rt; run.answers.get(3) == Some(&Err(Full)));
     assert!(rt; run.last == Err(Full));
@@ -193,8 +191,8 @@ fn a_full_trace_takes_no_step(rt: HostRuntime) -> Result<(), Fail> {
 }
 
 #[test]
-fn a_silent_desk_steps_as_well(rt: HostRuntime) -> Result<(), Fail> {
-    let run = silent(rt.alloc(), &[0, 1, 0, 1])?;
+fn a_third_write_that_fails_ends_the_desk(rt: HostRuntime) -> Result<(), Fail> {
+    let run = kept(rt.alloc(), 64, &[2], &[0, 1, 0, 1])?;
     assert!(rt; run.answers.get(3) == Some(&Ok(TWICE)));
     assert!(rt; run.last == Ok(Answer::WriteFault));
     assert!(rt; run.sink.octets() == b"AB".as_slice());

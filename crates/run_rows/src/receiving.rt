@@ -5,7 +5,7 @@ ghost use Rattle.rist_desk.specs.declared.step.Step.{Step};
 use crate::desk::{count_of, simple};
 use crate::links::{link, worker};
 use outside_io::Store8;
-use outside_net::{Kept, Quiet, ScriptClock, ScriptLink, Trace};
+use outside_net::{Kept, ScriptClock, ScriptLink, Trace};
 use receiver_rules::Verdict;
 use rist_desk::{Event, Limits, Mark, Step, StepTrace, Worker};
 use rist_ends::{Receiver, Settings};
@@ -122,12 +122,4 @@ fn expect_one_list(rt: &impl Abort, steps: &[Step]) -> Result<(), Fail> {
 fn two_links_make_one_list(rt: HostRuntime) -> Result<(), Fail> {
     let received = run_kept(&rt, rt.alloc(), BOTH, 64, &[])?;
     expect_one_list(&rt, received.trace.kept())
-}
-
-#[test]
-fn a_run_of_which_nothing_is_kept_writes_as_well(rt: HostRuntime) -> Result<(), Fail> {
-    let quiet = (Quiet::new(), Quiet::new());
-    let received = run(&rt, rt.alloc(), BOTH, quiet, Quiet::new(), &[])?;
-    expect_end(&rt, &received.ending, &received.sink, End::Done, b"ABC");
-    Ok(())
 }

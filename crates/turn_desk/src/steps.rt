@@ -93,7 +93,8 @@ impl<N: Name, K: Beside + Drop> TurnDesk<N, K> {
         requires left { 0 < turns_left pass.old }
         ensures own { (number : ℕ) → IsBeside self.now number pass.old → IsBeside self.now number pass.new }
         ensures left { turns_left pass.old ≡ turns_left pass.new + 1 }
-        ensures stepped { Stepped no_added (λ h ask was is answer. LooksAt K.contents K.faults K.looks ask.us ask.link answer)
+        ensures stepped { Stepped no_added
+            (λ h ask was is answer. LooksAt K.contents K.faults K.looks ask.us ask.link answer)
             pass.old pass.new (record { us = us; link = link }) (record {}) (record {}) result }
     {
         let mut room = NoRoom;
