@@ -42,7 +42,7 @@ fn all_asked(alloc: Global) -> Result<bool, Fail> {
 }
 
 /// Words that are no line, and what is said of them.
-static COMPLAINTS: [(&str, &str); 30] = [
+static COMPLAINTS: [(&str, &str); 41] = [
     ("rist", "a command is missing (rist --help)"),
     (
         "rist play a b",
@@ -133,6 +133,50 @@ static COMPLAINTS: [(&str, &str); 30] = [
         "--share 1:2: a weight of 1 to 100 for each link that sends, as 3:1 (rist gate --help)",
     ),
     (
+        "rist gate 127.0.0.1:2 127.0.0.1:5",
+        "LINK 127.0.0.1:5: in the Simple Profile a port is even, from 2 to 65534 (rist gate --help)",
+    ),
+    (
+        "rist gate 127.0.0.1:2 127.0.0.1",
+        "LINK 127.0.0.1: an address and a port, as 127.0.0.1:5000 (rist gate --help)",
+    ),
+    (
+        "rist gate 127.0.0.1:3 127.0.0.1:5 --profile main --in-profile simple",
+        "LINK 127.0.0.1:3: in the Simple Profile a port is even, from 2 to 65534 (rist gate --help)",
+    ),
+    (
+        "rist gate 127.0.0.1:3 127.0.0.1:5 --in-profile main",
+        "LINK 127.0.0.1:5: in the Simple Profile a port is even, from 2 to 65534 (rist gate --help)",
+    ),
+    (
+        "rist gate 127.0.0.1:2 127.0.0.1:4 --in-profile simple --in-pass p",
+        "--in-pass: only with --in-profile main (rist gate --help)",
+    ),
+    (
+        "rist gate 127.0.0.1:2 127.0.0.1:4 --in-profile simple --in-full",
+        "--in-full: only with --in-profile main (rist gate --help)",
+    ),
+    (
+        "rist gate 127.0.0.1:2 127.0.0.1:4 --in-port 1970",
+        "--in-port: only with --in-profile (rist gate --help)",
+    ),
+    (
+        "rist gate 127.0.0.1:2 127.0.0.1:4 --profile main --in-full",
+        "--in-full: only with --in-profile (rist gate --help)",
+    ),
+    (
+        "rist gate 127.0.0.1:2 127.0.0.1:4 --in-profile mein",
+        "--in-profile mein: simple or main (rist gate --help)",
+    ),
+    (
+        "rist gate 127.0.0.1:2 127.0.0.1:4 --in-profile main --in-tunnel gre",
+        "--in-tunnel gre: own or librist (rist gate --help)",
+    ),
+    (
+        "rist recv out 127.0.0.1:2 --in-profile main",
+        "unexpected argument '--in-profile' found (rist recv --help)",
+    ),
+    (
         "rist replay a b --pcap",
         "--pcap, --udp: both are given, or neither (rist replay --help)",
     ),
@@ -181,7 +225,7 @@ fn says(alloc: Global, text: &str, said: &str) -> Result<bool, Fail> {
 
 /// Words with a number that an option doesn't take, how the help of which command shows that option, the range that both
 /// name, and the default.
-static RANGES: [(&str, Topic, &str, &str, &str); 24] = [
+static RANGES: [(&str, Topic, &str, &str, &str); 25] = [
     (
         "replay a b --port 1",
         Topic::Replay,
@@ -342,6 +386,13 @@ static RANGES: [(&str, Topic, &str, &str, &str); 24] = [
         "  --profile ",
         "simple or main",
         "simple",
+    ),
+    (
+        "gate 1.1.1.1:2 1.1.1.1:4 --in-profile main --in-port 1",
+        Topic::Gate,
+        "  --in-port ",
+        "2 to 65534",
+        "1968",
     ),
     (
         "show a --port 1",

@@ -1,5 +1,6 @@
 //! Command lines of a receiving and of a gateway that are taken and refused.
 use crate::words::{PLAIN, STREAM, none_of, reads, specs, weights};
+use gre_tunnel::Tunnel;
 use outside_io::Profile;
 use request_rules::NackKind;
 use rist_words::{
@@ -123,7 +124,7 @@ static NOT_RECEIVED: [&str; 32] = [
 ];
 
 /// Words that are no line of a gateway.
-static NOT_GATES: [&str; 24] = [
+static NOT_GATES: [&str; 38] = [
     "rist gate",
     "rist gate 127.0.0.1:2",
     "rist gate 127.0.0.1:2 --in 1",
@@ -147,6 +148,20 @@ static NOT_GATES: [&str; 24] = [
     "rist gate 127.0.0.1:2 127.0.0.1:4 --hold 1001",
     "rist gate 127.0.0.1:2 127.0.0.1:4 --gap 1",
     "rist gate 127.0.0.1:2 127.0.0.1:4 --linger 1",
+    "rist gate 127.0.0.1:3 127.0.0.1:4 --in-profile simple --profile main",
+    "rist gate 127.0.0.1:2 127.0.0.1:5 --in-profile main",
+    "rist gate 127.0.0.1:2 127.0.0.1:5 127.0.0.1:7 --in-profile simple --profile main --in 2",
+    "rist gate 127.0.0.1:2 127.0.0.1:4 --in-profile simple --in-pass p",
+    "rist gate 127.0.0.1:2 127.0.0.1:4 --in-profile simple --in-full --profile main",
+    "rist gate 127.0.0.1:2 127.0.0.1:4 --in-profile simple --in-tunnel own --profile main",
+    "rist gate 127.0.0.1:2 127.0.0.1:4 --in-profile main --in-tunnel gre",
+    "rist gate 127.0.0.1:2 127.0.0.1:4 --in-profile main --in-bits 192",
+    "rist gate 127.0.0.1:2 127.0.0.1:4 --in-profile main --in-port 1969",
+    "rist gate 127.0.0.1:2 127.0.0.1:4 --in-profile Main",
+    "rist gate 127.0.0.1:2 127.0.0.1:4 --in-port 1970",
+    "rist gate 127.0.0.1:2 127.0.0.1:4 --profile main --in-full",
+    "rist gate 127.0.0.1:2 127.0.0.1:4 --profile main --in-pass p",
+    "rist gate 127.0.0.1:2 127.0.0.1:4 --profile main --in-tunnel own",
     "rist gate 1.1.1.1:2 1.1.1.1:2 1.1.1.1:2 1.1.1.1:2 1.1.1.1:2 1.1.1.1:2 1.1.1.1:2 1.1.1.1:2 1.1.1.1:2 1.1.1.1:2 1.1.1.1:2 1.1.1.1:2 1.1.1.1:2 1.1.1.1:2 1.1.1.1:2 1.1.1.1:2 1.1.1.1:2",
 ];
 
@@ -178,6 +193,7 @@ fn all_received(alloc: Global) -> Result<bool, Fail> {
 /// What a line of a gateway sets beside its links and their weights.
 #[derive(Clone, Copy)]
 struct GateWords {
+    incoming: SessionWords<'static>,
     session: SessionWords<'static>,
     stream: StreamWords,
     store: u64,
@@ -185,20 +201,71 @@ struct GateWords {
 }
 
 const UNSET: GateWords = GateWords {
+    incoming: PLAIN,
     session: PLAIN,
     stream: STREAM,
     store: 4096,
     hold: 20,
 };
 
-const SET: GateWords = GateWords {
+/// One session for all links, with all that the Main Profile has.
+const MAIN: SessionWords<'static> = SessionWords {
+    profile: Profile::Main,
+    pass: Some("x"),
+    full: true,
+    echo: true,
+    ..PLAIN
+};
+
+/// The Simple Profile before, and librist's tunnel behind.
+const INTO_A_TUNNEL: GateWords = GateWords {
     session: SessionWords {
         profile: Profile::Main,
-        pass: Some("x"),
-        full: true,
+        pass: Some("p"),
+        bits: 256,
+        tunnel: Tunnel::Librist,
         echo: true,
         ..PLAIN
     },
+    ..UNSET
+};
+
+/// A tunnel before, and the Simple Profile behind, with a sender that asks for the round-trip time.
+const OUT_OF_A_TUNNEL: GateWords = GateWords {
+    incoming: SessionWords {
+        profile: Profile::Main,
+        port: 1970,
+        pass: Some("p"),
+        bits: 256,
+        full: true,
+        tunnel: Tunnel::Own,
+        echo: false,
+    },
+    session: SessionWords {
+        echo: true,
+        ..PLAIN
+    },
+    ..UNSET
+};
+
+/// A tunnel of librist's before, and another port behind.
+const OUT_OF_LIBRISTS: GateWords = GateWords {
+    incoming: SessionWords {
+        profile: Profile::Main,
+        tunnel: Tunnel::Librist,
+        echo: true,
+        ..PLAIN
+    },
+    session: SessionWords {
+        port: 1970,
+        ..PLAIN
+    },
+    ..UNSET
+};
+
+const SET: GateWords = GateWords {
+    incoming: MAIN,
+    session: MAIN,
     stream: StreamWords {
         nulls: true,
         wide: true,
@@ -210,7 +277,7 @@ const SET: GateWords = GateWords {
 };
 
 /// Lines of a gateway with the ports of their inputs and outputs, the weights and what else they set.
-static GATES: [(&str, &[u16], &[u16], Option<&[u8]>, GateWords); 3] = [
+static GATES: [(&str, &[u16], &[u16], Option<&[u8]>, GateWords); 7] = [
     (
         "rist gate 127.0.0.1:2 127.0.0.1:4 127.0.0.1:6",
         &[2],
@@ -233,6 +300,35 @@ static GATES: [(&str, &[u16], &[u16], Option<&[u8]>, GateWords); 3] = [
         Some(&[7]),
         SET,
     ),
+    (
+        "rist gate 127.0.0.1:2 127.0.0.1:5 --in-profile simple --profile main --tunnel librist --pass p --bits 256",
+        &[2],
+        &[5],
+        None,
+        INTO_A_TUNNEL,
+    ),
+    (
+        "rist gate 127.0.0.1:3 127.0.0.1:5 127.0.0.1:4 --in 2 --in-profile main --in-port 1970 --in-pass p --in-bits 256 --in-full --echo \
+         --in-tunnel own",
+        &[3, 5],
+        &[4],
+        None,
+        OUT_OF_A_TUNNEL,
+    ),
+    (
+        "rist gate --port 1970 127.0.0.1:3 --in-tunnel=librist 127.0.0.1:4 --in-profile=main",
+        &[3],
+        &[4],
+        None,
+        OUT_OF_LIBRISTS,
+    ),
+    (
+        "rist gate 127.0.0.1:2 127.0.0.1:4 --in-profile simple --in-bits 128 --in-port 1968",
+        &[2],
+        &[4],
+        None,
+        UNSET,
+    ),
 ];
 
 fn is_gate(
@@ -246,6 +342,7 @@ fn is_gate(
     let line = GateLine {
         inputs: specs(alloc, inputs)?,
         outputs: specs(alloc, outputs)?,
+        incoming: words.incoming,
         session: words.session,
         receiver: RECEIVER,
         serving: SERVING,

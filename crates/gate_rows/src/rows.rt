@@ -3,8 +3,8 @@
 /// A command line; the letters of the packets that each link brings which is received on, and the moments of its clock;
 /// which writes fail of each link that is sent on; after how many packets those give a request for number 1, or none
 /// with 0; whether the second reads of the first two links wait for one another; which draws of random words fail; the
-/// exit status; and of a link, by its place, the letters of the packets that it took, numbered from 0, and the letter of
-/// number 1 where it was sent again.
+/// exit status; and of a link, by its place, what stands before each packet that it took, the letters of these packets,
+/// numbered from 0, and the letter of number 1 where it was sent again.
 #[derive(Clone, Copy)]
 pub struct Row<'a> {
     pub line: &'a str,
@@ -16,6 +16,7 @@ pub struct Row<'a> {
     pub draws: &'a [u64],
     pub exit: u8,
     pub place: u8,
+    pub head: &'a [u8],
     pub taken: &'a [u8],
     pub again: Option<u8>,
 }
@@ -31,6 +32,7 @@ const SINGLE: Row<'static> = Row {
     draws: &[],
     exit: 0,
     place: 1,
+    head: b"",
     taken: b"ABC",
     again: None,
 };
@@ -46,6 +48,28 @@ const PAIR: Row<'static> = Row {
 const SEALED: Row<'static> = Row {
     line: "rist gate 127.0.0.1:5000 127.0.0.1:5002 --profile main --pass x",
     exit: 11,
+    taken: b"",
+    ..SINGLE
+};
+
+/// Packets that come in the Simple Profile and go on in the tunnel, in clear: the GRE header of a reduced datagram, and
+/// the port of media twice.
+const INTO_A_TUNNEL: Row<'static> = Row {
+    line: "rist gate 127.0.0.1:5000 127.0.0.1:5003 --in-profile simple --profile main",
+    head: b"\x00\x00\x88\xb6\x07\xb0\x07\xb0",
+    ..SINGLE
+};
+
+/// The same under a passphrase: none of them is in clear.
+const INTO_A_SEALED_TUNNEL: Row<'static> = Row {
+    line: "rist gate 127.0.0.1:5000 127.0.0.1:5003 --in-profile simple --profile main --pass x",
+    taken: b"",
+    ..INTO_A_TUNNEL
+};
+
+/// Media of the Simple Profile where a tunnel is to come in: refused.
+const NO_TUNNEL: Row<'static> = Row {
+    line: "rist gate 127.0.0.1:5001 127.0.0.1:5002 --in-profile main --in-pass x",
     taken: b"",
     ..SINGLE
 };
@@ -97,6 +121,30 @@ pub const ENDS: &[Row<'static>] = &[
         ..SHARED
     },
     PAIR,
+    INTO_A_TUNNEL,
+    Row {
+        line: "rist gate 127.0.0.1:5000 127.0.0.1:5003 --in-profile simple --profile main --keep 64",
+        ..INTO_A_TUNNEL
+    },
+    INTO_A_SEALED_TUNNEL,
+    NO_TUNNEL,
+];
+
+/// Receivings on two links that share three packets, where each has to be read while the other is, in turns and behind a
+/// lock. What is taken is what their sink then holds.
+pub const RECEIVINGS: &[Row<'static>] = &[
+    Row {
+        line: "rist recv out 127.0.0.1:5000 127.0.0.1:5002",
+        outputs: &[],
+        meet: true,
+        ..SHARED
+    },
+    Row {
+        line: "rist recv out 127.0.0.1:5000 127.0.0.1:5002 --keep 64",
+        outputs: &[],
+        meet: true,
+        ..SHARED
+    },
 ];
 
 /// A first write that fails, where no other link is there to send on, and where one is.
@@ -114,7 +162,8 @@ pub const BREAKS: &[Row<'static>] = &[
     },
 ];
 
-/// The first random word of the receiver, and the first and the last of the sender, that can't be had.
+/// The first random word of the receiver, and the first and the last of the sender, that can't be had; and of an end that
+/// alone has a passphrase the last, and one behind it, which isn't drawn.
 pub const DRAWS: &[Row<'static>] = &[
     Row {
         draws: &[0],
@@ -127,6 +176,24 @@ pub const DRAWS: &[Row<'static>] = &[
     Row {
         draws: &[31],
         ..SEALED
+    },
+    Row {
+        draws: &[15],
+        exit: 11,
+        ..INTO_A_SEALED_TUNNEL
+    },
+    Row {
+        draws: &[16],
+        ..INTO_A_SEALED_TUNNEL
+    },
+    Row {
+        draws: &[15],
+        exit: 11,
+        ..NO_TUNNEL
+    },
+    Row {
+        draws: &[16],
+        ..NO_TUNNEL
     },
 ];
 
@@ -144,6 +211,10 @@ pub const REFUSALS: &[Row<'static>] = &[
     },
     Row {
         line: "rist gate 127.0.0.1:5000 127.0.0.1:5002 --in 2",
+        ..NO_LINE
+    },
+    Row {
+        line: "rist gate 127.0.0.1:5001 127.0.0.1:5003 --in-profile simple --profile main",
         ..NO_LINE
     },
 ];

@@ -1,8 +1,8 @@
-//! What the links that are sent on took, and how a gateway ended.
-use crate::rows::{BREAKS, DRAWS, ENDS, REFUSALS, Row};
+//! What the links that are sent on took, and how a gateway ended; and receivings whose links wait for one another.
+use crate::rows::{BREAKS, DRAWS, ENDS, RECEIVINGS, REFUSALS, Row};
 use crate::waiting::{WaitingHost, meetings, packet_taken};
-use outside_host::{MemHost, MemParts, Place};
-use outside_io::{Channel, Words};
+use outside_host::{MemHost, MemParts, Place, Slot};
+use outside_io::{Channel, Store8, Words};
 use outside_net::{Octets, ScriptClock, ScriptLink, ScriptRead};
 use rist_top::{Status, run};
 use std::alloc::Global;
@@ -76,8 +76,8 @@ fn links(alloc: Global, row: &Row<'_>) -> Result<Vec<Place<ScriptLink>>, Fail> {
     Ok(links)
 }
 
-/// A host with the links of the row, a clock for each that is received on, clocks that stand at 0 for the others and
-/// for the sender, and a source of random words.
+/// A host with a sink under `out`, the links of the row, a clock for each that is received on, clocks that stand at 0 for
+/// the others and for the sender, and a source of random words.
 fn host(alloc: Global, row: &Row<'_>) -> Result<WaitingHost, Fail> {
     let mut clocks = Vec::new(alloc);
     for _ in row.inputs {
@@ -88,9 +88,14 @@ fn host(alloc: Global, row: &Row<'_>) -> Result<WaitingHost, Fail> {
     }
     let mut entropies = Vec::new(alloc);
     entropies.push(Place::Here(Words::with(alloc, &[9; 32], row.draws)?))?;
+    let mut sinks = Vec::new(alloc);
+    sinks.push(Slot {
+        name: String::from_str(alloc, "out")?,
+        place: Place::Here(Store8::with(alloc, 64, &[])?),
+    })?;
     let parts = MemParts {
         sources: Vec::new(alloc),
-        sinks: Vec::new(alloc),
+        sinks,
         entropies,
         links: links(alloc, row)?,
         clocks,
@@ -104,30 +109,55 @@ fn host(alloc: Global, row: &Row<'_>) -> Result<WaitingHost, Fail> {
     Ok(WaitingHost::over(MemHost::with(alloc, parts)?, row.asks_after, meetings))
 }
 
-/// Whether a link took just these packets, numbered from 0, and then number 1 again where that is told.
-fn has_taken(link: &ScriptLink, taken: &[u8], again: Option<u8>) -> bool {
+/// Whether a link took just these packets behind that head, numbered from 0, and then number 1 again where that is told.
+fn has_taken(link: &ScriptLink, head: &[u8], taken: &[u8], again: Option<u8>) -> bool {
     let mut place: usize = 0;
     let mut number: u8 = 0;
     for letter in taken {
         let wanted = packet(number, 0, 0x40, *letter);
-        if packet_taken(link, place) != Some(wanted.as_slice()) {
+        if packet_taken(link, head, place) != Some(wanted.as_slice()) {
             return false;
         }
         place = place.wrapping_add(1);
         number = number.wrapping_add(1);
     }
     match again {
-        Some(letter) => packet_taken(link, place) == Some(packet(1, 0, 0x41, letter).as_slice()),
-        None => packet_taken(link, place).is_none(),
+        Some(letter) => {
+            packet_taken(link, head, place) == Some(packet(1, 0, 0x41, letter).as_slice())
+        }
+        None => packet_taken(link, head, place).is_none(),
     }
 }
 
 /// Whether the link of a row took what the row says; one that didn't come back took nothing.
 fn stands_as_told(host: &WaitingHost, row: &Row<'_>) -> bool {
     match host.returned_link(row.place) {
-        Some(link) => has_taken(link, row.taken, row.again),
+        Some(link) => has_taken(link, row.head, row.taken, row.again),
         None => row.taken.is_empty(),
     }
+}
+
+/// Whether the sink holds what a receiving's row says.
+fn is_written_as_told(host: &WaitingHost, row: &Row<'_>) -> bool {
+    match host.returned_sink("out") {
+        Some(sink) => sink.octets() == row.taken,
+        None => false,
+    }
+}
+
+/// Whether a receiving is as its row says.
+fn is_received_as_told<R: Threads + Wait + Sync>(
+    rt: &R,
+    alloc: Global,
+    row: &Row<'_>,
+) -> Result<bool, Fail> {
+    let words = words(alloc, row.line)?;
+    let mut host = host(alloc, row)?;
+    let status = run(rt, alloc, words.as_slice(), &mut host);
+    if status == Status::Memory {
+        return Err(Fail::new("out of memory"));
+    }
+    Ok(status.exit_code() == row.exit && is_written_as_told(&host, row) && host.all_met())
 }
 
 /// Whether a gateway is as its row says.
@@ -152,6 +182,15 @@ fn gateways_send_on_and_end_as_told(rt: HostRuntime) -> Result<(), Fail> {
         for row in rows {
             assert!(rt; is_as_told(&rt, alloc, row)?, "{}", row.line);
         }
+    }
+    Ok(())
+}
+
+#[test]
+fn receivings_read_their_links_side_by_side(rt: HostRuntime) -> Result<(), Fail> {
+    let alloc = rt.alloc();
+    for row in RECEIVINGS {
+        assert!(rt; is_received_as_told(&rt, alloc, row)?, "{}", row.line);
     }
     Ok(())
 }

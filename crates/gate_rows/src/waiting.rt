@@ -64,16 +64,19 @@ impl Meeting {
     }
 }
 
-/// The packet of this place, from 0, among those that a link took as media.
-pub fn packet_taken(link: &ScriptLink, place: usize) -> Option<&[u8]> {
+/// What stands behind this head in the datagram of this place, from 0, among those with that head that a link took as media
+/// or in a tunnel.
+pub fn packet_taken<'a>(link: &'a ScriptLink, head: &[u8], place: usize) -> Option<&'a [u8]> {
     let mut left = place;
     for at in 0..64 {
         match link.taken(at) {
-            Some((Channel::Media, octets)) => {
-                if left == 0 {
-                    return Some(octets);
+            Some((Channel::Media | Channel::Tunnel, octets)) => {
+                if let Some(packet) = octets.strip_prefix(head) {
+                    if left == 0 {
+                        return Some(packet);
+                    }
+                    left -= 1;
                 }
-                left -= 1;
             }
             Some(_) => {}
             None => return None,
@@ -107,7 +110,7 @@ impl Link for WaitingLink {
     ghost ends = { λ waiting. waiting.link.ends };
 
     fn read(&mut self, buf: &mut [u8; 2048]) -> Got {
-        if self.packets > 0 && packet_taken(&self.link, self.packets - 1).is_none() {
+        if self.packets > 0 && packet_taken(&self.link, b"", self.packets - 1).is_none() {
             return Got::Quiet;
         }
         if let Some(meeting) = &mut self.meeting {
@@ -155,6 +158,11 @@ impl WaitingHost {
     /// The link that came back at this place.
     pub fn returned_link(&self, place: u8) -> Option<&ScriptLink> {
         self.host.returned_link(place)
+    }
+
+    /// The sink that came back under this name.
+    pub fn returned_sink(&self, name: &str) -> Option<&Store8> {
+        self.host.returned_sink(name)
     }
 }
 

@@ -103,22 +103,23 @@ pub fn open_links<H: Host>(
     open_all(host, specs, role, profile, links)
 }
 
-/// Opens links that are received on, and behind them links that are sent on by a gateway, in this order, all of them or
-/// none.
+/// Opens links that are received on in one profile, and behind them links that are sent on by a gateway in another, in this
+/// order, all of them or none.
 pub fn open_both<H: Host>(
     alloc: Global,
     host: &mut H,
     inputs: &[LinkSpec],
+    incoming: Profile,
     outputs: &[LinkSpec],
-    profile: Profile,
+    onward: Profile,
 ) -> Result<Vec<H::Wire>, HostBad>
     requires few { length inputs.now + length outputs.now ≤ 16 }
     ensures ok { HasOpenedNone H.tells (H.shelf host.old)
         → IfOk result (λ links. AreOut (H.shelf host.old).links (H.shelf host.new).links links.items) }
     ensures count { IfOk result (λ links. length links.items ≡ length inputs.now + length outputs.now) }
     ensures opened { HasOpenedNone H.tells (H.shelf host.old) → OnOk result ((H.shelf host.new).opened_links
-        ≡ map (λ spec. record { spec = spec; role = Receives; profile = profile }) inputs.now
-        ++ map (λ spec. record { spec = spec; role = Forwards; profile = profile }) outputs.now) }
+        ≡ map (λ spec. record { spec = spec; role = Receives; profile = incoming }) inputs.now
+        ++ map (λ spec. record { spec = spec; role = Forwards; profile = onward }) outputs.now) }
     ensures err { HasOpenedNone H.tells (H.shelf host.old)
         → OnErr result (AreAsTheyWere (H.shelf host.old).links (H.shelf host.new).links) }
     ensures same { IsTrue H.tells → ChangesOpening (H.shelf host.old) (H.shelf host.new) }
@@ -128,8 +129,8 @@ pub fn open_both<H: Host>(
         Ok(links) => links,
         Err(_) => return Err(HostBad::NoMemory),
     };
-    match open_all(host, inputs, Role::Receives, profile, links) {
-        Ok(links) => open_all(host, outputs, Role::Forwards, profile, links),
+    match open_all(host, inputs, Role::Receives, incoming, links) {
+        Ok(links) => open_all(host, outputs, Role::Forwards, onward, links),
         Err(bad) => Err(bad),
     }
 }

@@ -1,34 +1,39 @@
 -- The tests that a command's values have to pass, in their order, and the first that fails (this profile).
-use Rattle.std.specs.Prelude.{Bool, true, not, nat_lt, ◌&&◌, List, [], ◌∷◌, ◌++◌, length, Option, Some, None, is_none, if◌then◌else◌, codes}
+use Rattle.std.specs.Prelude.{Bool, true, not, nat_lt, ◌&&◌, List, [], ◌∷◌, ◌++◌, length, Option, Some, None, is_none, is_some, if◌then◌else◌, codes}
 use Rattle.std.specs.List.{find}
 use Rattle.std.specs.Str.{bytes_eq}
 use Rattle.clap.specs.Words.{Row, Text, all_of, first_of}
 use Rattle.outside_io.specs.declared.profile.Profile.{Profile}
 use Rattle.outside_io.specs.declared.profile.Profile.TheVariants.{Simple}
+use Rattle.outside_net.specs.declared.link_spec.LinkSpec.{LinkSpec}
 use Rattle.rist_words.specs.declared.values.Numbers.{Numbers}
+use Rattle.rist_words.specs.Commands.{SessionNames, incoming_names, session_names}
 use Rattle.rist_help.specs.declared.checks.Test.{Test}
 use Rattle.rist_help.specs.declared.checks.Test.TheVariants as tests
-use Rattle.rist_words.specs.CommandLine.{firsts, pcap_of, ports, key_bits, delays, spans, restarts, flows, gaps, leads, stores, holds, lingers, turn_counts, reorders, retry_times, retry_counts, own_ssrcs, idle_times, kept_counts, drill_numbers, drill_counts, drill_links, drill_losses}
+use Rattle.rist_words.specs.CommandLine.{are_unset, firsts, pcap_of, ports, key_bits, delays, spans, restarts, flows, gaps, leads, stores, holds, lingers, turn_counts, reorders, retry_times, retry_counts, own_ssrcs, idle_times, kept_counts, drill_numbers, drill_counts, drill_links, drill_losses}
 use Rattle.rist_words.specs.Values.{flag_of, is_set, nack_of, name_of, number_at, number_of, phrase_of, profile_of, tunnel_of, ◌>>=◌}
-use Rattle.rist_words.specs.Links.{gate_links_of, links_of, shares_of}
+use Rattle.rist_words.specs.Links.{gate_links_of, inputs_of, link_texts, links_of, shares_of}
 
 -- What is tested: that the name at a position isn't empty; that the number at a position, or of an option, is one that it
--- takes; that the profile, the passphrase, a flag of the Main Profile, the tunnel, the first sequence number, the two options of a
--- pcap file and the kind of requests read; that there are one to sixteen links, and each is one; that some of a gateway's
--- receive and not all; and that each link that sends has a weight where they share
+-- takes; that a profile reads; that a passphrase, a flag of the Main Profile and the tunnel read in the profile of an option; that
+-- the session of a gateway's inputs has its profile; that the first sequence number, the two options of a pcap file and the kind of
+-- requests read; that there are one to sixteen links, and each is one; that some of a gateway's receive and not all, and each is
+-- one in the profile of its end; and that each link that sends has a weight where they share
 pub data Check : Type 0 where
   Name : Text → Check
   NumberAt : Text → Numbers → Check
   Number : Text → Numbers → Check
-  ProfileWord : Check
-  Pass : Check
-  MainFlag : Text → Check
-  TunnelWord : Check
+  ProfileWord : Text → Check
+  Pass : Text → Text → Check
+  MainFlag : Text → Text → Check
+  TunnelWord : Text → Text → Check
+  Incoming : Check
   First : Check
   Pcap : Check
   Nack : Check
   Links : Check
   Inputs : Check
+  GateLinks : Check
   SendShare : Check
   GateShare : Check
 
@@ -37,15 +42,17 @@ abbrev pub shown_test : Test → Check
 shown_test (tests.Name id) = Name id.now
 shown_test (tests.NumberAt id numbers) = NumberAt id.now numbers
 shown_test (tests.Number id numbers) = Number id.now numbers
-shown_test tests.Profile = ProfileWord
-shown_test tests.Pass = Pass
-shown_test (tests.MainFlag id) = MainFlag id.now
-shown_test tests.Tunnel = TunnelWord
+shown_test (tests.Profile option) = ProfileWord option.now
+shown_test (tests.Pass profile option) = Pass profile.now option.now
+shown_test (tests.MainFlag profile flag) = MainFlag profile.now flag.now
+shown_test (tests.Tunnel profile option) = TunnelWord profile.now option.now
+shown_test tests.Incoming = Incoming
 shown_test tests.First = First
 shown_test tests.Pcap = Pcap
 shown_test tests.Nack = Nack
 shown_test tests.Links = Links
 shown_test tests.Inputs = Inputs
+shown_test tests.GateLinks = GateLinks
 shown_test tests.SendShare = SendShare
 shown_test tests.GateShare = GateShare
 
@@ -60,38 +67,64 @@ abbrev pub profile_or_simple : Option Profile → Profile
 profile_or_simple None = Simple
 profile_or_simple (Some profile) = profile
 
+-- the profile that a command's values give by an option of this name
+abbrev pub profile_by : Text → List Row → Profile
+profile_by option rows = profile_or_simple (profile_of (first_of option rows))
+
 -- the profile of a command's values
 abbrev pub profile_in : List Row → Profile
-profile_in rows = profile_or_simple (profile_of (first_of (codes "profile") rows))
+profile_in rows = profile_by (codes "profile") rows
+
+-- that of the links that a gateway receives on: their own where it is given
+abbrev pub incoming_in : List Row → Profile
+incoming_in rows = if is_some (first_of (codes "in-profile") rows) then profile_by (codes "in-profile") rows else profile_in rows
+
+-- the links of a gateway, each in the profile of its end
+abbrev pub gate_links_in : List Row → Option (List LinkSpec × List LinkSpec)
+gate_links_in rows = gate_links_of (incoming_in rows) (profile_in rows) (all_of (codes "link") rows) (first_of (codes "in") rows)
 
 -- a value isn't as it has to be: its form, its range, or what it goes with
 abbrev pub does_fail : List Row → Check → Bool
 does_fail rows (Name id) = is_none (name_of (first_of id rows))
 does_fail rows (NumberAt id numbers) = is_none (number_at numbers (first_of id rows))
 does_fail rows (Number id numbers) = is_none (number_of numbers (first_of id rows))
-does_fail rows ProfileWord = is_none (profile_of (first_of (codes "profile") rows))
-does_fail rows Pass = is_none (phrase_of (profile_in rows) (first_of (codes "pass") rows))
-does_fail rows (MainFlag id) = is_none (flag_of (profile_in rows) (first_of id rows))
-does_fail rows TunnelWord = is_none (tunnel_of (profile_in rows) (first_of (codes "tunnel") rows))
+does_fail rows (ProfileWord option) = is_none (profile_of (first_of option rows))
+does_fail rows (Pass profile option) = is_none (phrase_of (profile_by profile rows) (first_of option rows))
+does_fail rows (MainFlag profile flag) = is_none (flag_of (profile_by profile rows) (first_of flag rows))
+does_fail rows (TunnelWord profile option) = is_none (tunnel_of (profile_by profile rows) (first_of option rows))
+does_fail rows Incoming = is_none (first_of (codes "in-profile") rows) && not (are_unset incoming_names rows)
 does_fail rows First = is_none (number_of (firsts (is_set (first_of (codes "wide") rows))) (first_of (codes "first") rows))
 does_fail rows Pcap = is_none (pcap_of (profile_in rows) rows)
 does_fail rows Nack = is_none (nack_of (first_of (codes "nack") rows))
 does_fail rows Links = is_none (links_of (profile_in rows) (all_of (codes "link") rows))
-does_fail rows Inputs = is_none (gate_links_of (profile_in rows) (all_of (codes "link") rows) (first_of (codes "in") rows))
+does_fail rows Inputs = is_none (do
+  texts ← link_texts (all_of (codes "link") rows)
+  inputs_of (length texts) (first_of (codes "in") rows))
+does_fail rows GateLinks = is_none (gate_links_in rows)
 does_fail rows SendShare = is_none (do
   links ← links_of (profile_in rows) (all_of (codes "link") rows)
   shares_of (length links) (first_of (codes "share") rows))
 does_fail rows GateShare = is_none (do
-  links ← gate_links_of (profile_in rows) (all_of (codes "link") rows) (first_of (codes "in") rows)
+  links ← gate_links_in rows
   shares_of (length links.1) (first_of (codes "share") rows))
 
 -- the first of these tests that the values fail
 abbrev pub first_failing : List Row → List Check → Option Check
 first_failing rows checks = find (does_fail rows) checks
 
--- the tests of a session, of a replay's options, of a stream and of a receiver and its run
+-- the tests of a session's options behind its profile
+abbrev pub checks_named : SessionNames → List Check
+checks_named names =
+    Number names.port ports ∷ Pass names.profile names.pass ∷ Number names.bits key_bits ∷ MainFlag names.profile names.full
+    ∷ TunnelWord names.profile names.tunnel ∷ []
+
+-- those of a session
 abbrev pub session_checks : List Check
-session_checks = ProfileWord ∷ Number (codes "port") ports ∷ Pass ∷ Number (codes "bits") key_bits ∷ MainFlag (codes "full") ∷ TunnelWord ∷ []
+session_checks = ProfileWord (codes "profile") ∷ checks_named session_names
+
+-- those of the session of the links that a gateway receives on
+abbrev pub incoming_checks : List Check
+incoming_checks = ProfileWord (codes "in-profile") ∷ Incoming ∷ checks_named incoming_names
 
 -- those of the three options that a replay and a receiver have
 abbrev pub buffer_checks : List Check
@@ -99,7 +132,7 @@ buffer_checks = Number (codes "delay") delays ∷ Number (codes "span") spans �
 
 -- those of a stream
 abbrev pub stream_checks : List Check
-stream_checks = MainFlag (codes "nulls") ∷ MainFlag (codes "wide") ∷ Number (codes "flow") flows ∷ First ∷ []
+stream_checks = MainFlag (codes "profile") (codes "nulls") ∷ MainFlag (codes "profile") (codes "wide") ∷ Number (codes "flow") flows ∷ First ∷ []
 
 -- those of a receiver's requests, and of its run
 abbrev pub receiver_checks : List Check
@@ -121,7 +154,7 @@ checks_of command =
     else (if bytes_eq command (codes "send") then Name (codes "source") ∷ session_checks ++ (Links ∷ []) ++ stream_checks ++ (Number (codes "gap") gaps ∷ Number (codes "lead") leads ∷ [])
     ++ store_checks ++ (SendShare ∷ Number (codes "linger") lingers ∷ Number (codes "turns") turn_counts ∷ [])
     else (if bytes_eq command (codes "recv") then Name (codes "out") ∷ session_checks ++ (Links ∷ []) ++ buffer_checks ++ receiver_checks
-    else (if bytes_eq command (codes "gate") then session_checks ++ (Links ∷ Inputs ∷ []) ++ buffer_checks ++ receiver_checks ++ stream_checks
+    else (if bytes_eq command (codes "gate") then session_checks ++ incoming_checks ++ (Inputs ∷ GateLinks ∷ []) ++ buffer_checks ++ receiver_checks ++ stream_checks
     ++ store_checks ++ (GateShare ∷ [])
     else NumberAt (codes "number") drill_numbers ∷ NumberAt (codes "count") drill_counts ∷ NumberAt (codes "links") drill_links
     ∷ NumberAt (codes "loss") drill_losses ∷ []))))))

@@ -1,21 +1,24 @@
 //! The tests that a command's values have to pass, in their order.
-ghost use Rattle.std.specs.Prelude.{◌≡◌, ◌≤◌, IfOk, codes, is_none, map, option_map, true};
+ghost use Rattle.std.specs.Prelude.{◌≡◌, ◌≤◌, IfOk, IfSome, codes, is_none, length, map, option_map, true};
 ghost use Rattle.std.specs.List.{list_all};
 ghost use Rattle.clap.specs.Words.{first_of, found_of, rows_of};
 ghost use Rattle.rist_words.specs.Links.{shares_of};
-ghost use Rattle.rist_help.specs.Checks.{checks_of, does_fail, first_failing, is_sound, profile_in, shown_test, First, Links, Inputs, SendShare, GateShare};
+ghost use Rattle.rist_help.specs.Checks.{checks_of, does_fail, first_failing, gate_links_in, incoming_in, is_sound};
+ghost use Rattle.rist_help.specs.Checks.{profile_by, profile_in, shown_test};
+ghost use Rattle.rist_help.specs.Checks.{First, GateLinks, GateShare, Incoming, Inputs, Links, SendShare};
 
 use clap::ArgMatches;
 use outside_io::{NoMemory, Profile};
+use outside_net::LinkSpec;
 use rist_words::Refused;
 use rist_words::drilling::{COUNT, LINKS, LOSS, NUMBER};
-use rist_words::links::{gate_links, links, share};
+use rist_words::links::{gate_links, inputs_of, link_texts, links, share};
 use rist_words::pcap::pcap;
 use rist_words::reading::{GAP, HOLD, LEAD, LINGER, STORE};
 use rist_words::receiving::{DELAY, IDLE, KEEP, LEAST, OWN, REORDER, RESTART, SPAN, TRIES, TURNS};
-use rist_words::session::{BITS, FLOW, PORT, firsts};
+use rist_words::session::{BITS, FLOW, INCOMING, PORT, are_unset, firsts};
 use rist_words::values::{
-    Numbers, flag, is_set, nack, name, number, number_at, phrase, profile, tunnel,
+    Numbers, flag, given, is_set, nack, name, number, number_at, phrase, profile, tunnel,
 };
 use std::alloc::Global;
 
@@ -28,14 +31,16 @@ pub enum Test {
     NumberAt(&'static str, Numbers),
     /// The number of an option is one that it takes.
     Number(&'static str, Numbers),
-    /// A profile is one of two words.
-    Profile,
-    /// A passphrase is given in the Main Profile only, and has its length.
-    Pass,
-    /// A flag is given in the Main Profile only.
-    MainFlag(&'static str),
-    /// The form of the tunnel is one of two words, and given in the Main Profile only.
-    Tunnel,
+    /// The profile of an option is one of two words.
+    Profile(&'static str),
+    /// The passphrase of the second option is given in the Main Profile only, which the first says, and has its length.
+    Pass(&'static str, &'static str),
+    /// A flag is given in the Main Profile only, which the option before it says.
+    MainFlag(&'static str, &'static str),
+    /// The form of the tunnel is one of two words, and given in the Main Profile only, which the first option says.
+    Tunnel(&'static str, &'static str),
+    /// Options of the session of a gateway's inputs are given with its profile only.
+    Incoming,
     /// The first sequence number is one of its width.
     First,
     /// `--pcap` and `--udp` are given both or neither, and the port is one of the profile.
@@ -46,6 +51,8 @@ pub enum Test {
     Links,
     /// Some of the links receive, and not all.
     Inputs,
+    /// Each of a gateway's links is one, in the profile of its end.
+    GateLinks,
     /// Each link of a sending has a weight, where they share.
     SendShare,
     /// Each link of a gateway that sends has a weight, where they share.
@@ -55,12 +62,12 @@ pub enum Test {
 static REPLAY_TESTS: [Test; 12] = [
     Test::Name("capture"),
     Test::Name("out"),
-    Test::Profile,
+    Test::Profile("profile"),
     Test::Number("port", PORT),
-    Test::Pass,
+    Test::Pass("profile", "pass"),
     Test::Number("bits", BITS),
-    Test::MainFlag("full"),
-    Test::Tunnel,
+    Test::MainFlag("profile", "full"),
+    Test::Tunnel("profile", "tunnel"),
     Test::Number("delay", DELAY),
     Test::Number("span", SPAN),
     Test::Number("restart", RESTART),
@@ -69,23 +76,23 @@ static REPLAY_TESTS: [Test; 12] = [
 
 static SHOW_TESTS: [Test; 8] = [
     Test::Name("capture"),
-    Test::Profile,
+    Test::Profile("profile"),
     Test::Number("port", PORT),
-    Test::Pass,
+    Test::Pass("profile", "pass"),
     Test::Number("bits", BITS),
-    Test::MainFlag("full"),
-    Test::Tunnel,
+    Test::MainFlag("profile", "full"),
+    Test::Tunnel("profile", "tunnel"),
     Test::Pcap,
 ];
 
 static COUNT_TESTS: [Test; 11] = [
     Test::Name("capture"),
-    Test::Profile,
+    Test::Profile("profile"),
     Test::Number("port", PORT),
-    Test::Pass,
+    Test::Pass("profile", "pass"),
     Test::Number("bits", BITS),
-    Test::MainFlag("full"),
-    Test::Tunnel,
+    Test::MainFlag("profile", "full"),
+    Test::Tunnel("profile", "tunnel"),
     Test::Number("delay", DELAY),
     Test::Number("span", SPAN),
     Test::Number("restart", RESTART),
@@ -95,14 +102,14 @@ static COUNT_TESTS: [Test; 11] = [
 static PACK_TESTS: [Test; 13] = [
     Test::Name("source"),
     Test::Name("capture"),
-    Test::Profile,
+    Test::Profile("profile"),
     Test::Number("port", PORT),
-    Test::Pass,
+    Test::Pass("profile", "pass"),
     Test::Number("bits", BITS),
-    Test::MainFlag("full"),
-    Test::Tunnel,
-    Test::MainFlag("nulls"),
-    Test::MainFlag("wide"),
+    Test::MainFlag("profile", "full"),
+    Test::Tunnel("profile", "tunnel"),
+    Test::MainFlag("profile", "nulls"),
+    Test::MainFlag("profile", "wide"),
     Test::Number("flow", FLOW),
     Test::First,
     Test::Number("gap", GAP),
@@ -110,15 +117,15 @@ static PACK_TESTS: [Test; 13] = [
 
 static SEND_TESTS: [Test; 19] = [
     Test::Name("source"),
-    Test::Profile,
+    Test::Profile("profile"),
     Test::Number("port", PORT),
-    Test::Pass,
+    Test::Pass("profile", "pass"),
     Test::Number("bits", BITS),
-    Test::MainFlag("full"),
-    Test::Tunnel,
+    Test::MainFlag("profile", "full"),
+    Test::Tunnel("profile", "tunnel"),
     Test::Links,
-    Test::MainFlag("nulls"),
-    Test::MainFlag("wide"),
+    Test::MainFlag("profile", "nulls"),
+    Test::MainFlag("profile", "wide"),
     Test::Number("flow", FLOW),
     Test::First,
     Test::Number("gap", GAP),
@@ -132,12 +139,12 @@ static SEND_TESTS: [Test; 19] = [
 
 static RECV_TESTS: [Test; 19] = [
     Test::Name("out"),
-    Test::Profile,
+    Test::Profile("profile"),
     Test::Number("port", PORT),
-    Test::Pass,
+    Test::Pass("profile", "pass"),
     Test::Number("bits", BITS),
-    Test::MainFlag("full"),
-    Test::Tunnel,
+    Test::MainFlag("profile", "full"),
+    Test::Tunnel("profile", "tunnel"),
     Test::Links,
     Test::Number("delay", DELAY),
     Test::Number("span", SPAN),
@@ -152,15 +159,22 @@ static RECV_TESTS: [Test; 19] = [
     Test::Number("keep", KEEP),
 ];
 
-static GATE_TESTS: [Test; 26] = [
-    Test::Profile,
+static GATE_TESTS: [Test; 33] = [
+    Test::Profile("profile"),
     Test::Number("port", PORT),
-    Test::Pass,
+    Test::Pass("profile", "pass"),
     Test::Number("bits", BITS),
-    Test::MainFlag("full"),
-    Test::Tunnel,
-    Test::Links,
+    Test::MainFlag("profile", "full"),
+    Test::Tunnel("profile", "tunnel"),
+    Test::Profile("in-profile"),
+    Test::Incoming,
+    Test::Number("in-port", PORT),
+    Test::Pass("in-profile", "in-pass"),
+    Test::Number("in-bits", BITS),
+    Test::MainFlag("in-profile", "in-full"),
+    Test::Tunnel("in-profile", "in-tunnel"),
     Test::Inputs,
+    Test::GateLinks,
     Test::Number("delay", DELAY),
     Test::Number("span", SPAN),
     Test::Number("restart", RESTART),
@@ -172,8 +186,8 @@ static GATE_TESTS: [Test; 26] = [
     Test::Number("turns", TURNS),
     Test::Number("idle", IDLE),
     Test::Number("keep", KEEP),
-    Test::MainFlag("nulls"),
-    Test::MainFlag("wide"),
+    Test::MainFlag("profile", "nulls"),
+    Test::MainFlag("profile", "wide"),
     Test::Number("flow", FLOW),
     Test::First,
     Test::Number("store", STORE),
@@ -239,28 +253,53 @@ fn does_fail(alloc: Global, values: &ArgMatches<'_>, test: Test) -> Result<bool,
         Test::Name(position) => Ok(name(values, position).is_none()),
         Test::NumberAt(position, numbers) => Ok(number_at(values, position, numbers).is_none()),
         Test::Number(option, numbers) => Ok(number(values, option, numbers).is_none()),
-        Test::Profile => Ok(profile(values, "profile").is_none()),
-        Test::Pass => Ok(phrase(values, "pass", profile_in(values)).is_none()),
-        Test::MainFlag(name) => Ok(flag(values, name, profile_in(values)).is_none()),
-        Test::Tunnel => Ok(tunnel(values, "tunnel", profile_in(values)).is_none()),
+        Test::Profile(option) => Ok(profile(values, option).is_none()),
+        Test::Pass(by, option) => Ok(phrase(values, option, profile_by(values, by)).is_none()),
+        Test::MainFlag(by, name) => Ok(flag(values, name, profile_by(values, by)).is_none()),
+        Test::Tunnel(by, option) => Ok(tunnel(values, option, profile_by(values, by)).is_none()),
+        Test::Incoming => Ok(fails_incoming(values)),
         Test::First => Ok(fails_first(values)),
         Test::Pcap => Ok(pcap(values, profile_in(values)).is_none()),
         Test::Nack => Ok(nack(values, "nack").is_none()),
         Test::Links => fails_links(alloc, values),
-        Test::Inputs => fails_inputs(alloc, values),
+        Test::Inputs => Ok(fails_inputs(values)),
+        Test::GateLinks => fails_gate_links(alloc, values),
         Test::SendShare => fails_send_share(alloc, values),
         Test::GateShare => fails_gate_share(alloc, values),
     }
 }
 
-/// The profile of the values, the Simple Profile where they have none.
-pub fn profile_in(values: &ArgMatches<'_>) -> Profile
-    ensures { result ≡ profile_in (rows_of (found_of values.now)) }
+/// The profile that values give by an option of this name, the Simple Profile where they have none.
+pub fn profile_by(values: &ArgMatches<'_>, option: &str) -> Profile
+    ensures { result ≡ profile_by option.now (rows_of (found_of values.now)) }
 {
-    match profile(values, "profile") {
+    match profile(values, option) {
         Some(profile) => profile,
         None => Profile::Simple,
     }
+}
+
+/// The profile of the values.
+pub fn profile_in(values: &ArgMatches<'_>) -> Profile
+    ensures { result ≡ profile_in (rows_of (found_of values.now)) }
+{
+    profile_by(values, "profile")
+}
+
+/// The profile of the links that a gateway receives on: their own where it is given.
+pub fn incoming_in(values: &ArgMatches<'_>) -> Profile
+    ensures { result ≡ incoming_in (rows_of (found_of values.now)) }
+{
+    match given(values, "in-profile") {
+        Some(_) => profile_by(values, "in-profile"),
+        None => profile_in(values),
+    }
+}
+
+fn fails_incoming(values: &ArgMatches<'_>) -> bool
+    ensures { result ≡ does_fail (rows_of (found_of values.now)) Incoming }
+{
+    given(values, "in-profile").is_none() && !are_unset(values, INCOMING)
 }
 
 fn fails_first(values: &ArgMatches<'_>) -> bool
@@ -280,14 +319,35 @@ fn fails_links(alloc: Global, values: &ArgMatches<'_>) -> Result<bool, NoMemory>
     }
 }
 
-fn fails_inputs(alloc: Global, values: &ArgMatches<'_>) -> Result<bool, NoMemory>
-    ensures { IfOk result (λ fails. fails ≡ does_fail (rows_of (found_of values.now)) Inputs) }
+fn fails_inputs(values: &ArgMatches<'_>) -> bool
+    ensures { result ≡ does_fail (rows_of (found_of values.now)) Inputs }
 {
-    match gate_links(alloc, values, profile_in(values)) {
-        Ok(_) => Ok(false),
-        Err(Refused::Usage) => Ok(true),
+    match link_texts(values) {
+        Some(texts) => inputs_of(values, texts.len()).is_none(),
+        None => true,
+    }
+}
+
+/// The links of a gateway, each in the profile of its end; none where they aren't.
+fn gate_links_in(
+    alloc: Global,
+    values: &ArgMatches<'_>,
+) -> Result<Option<(Vec<LinkSpec>, Vec<LinkSpec>)>, NoMemory>
+    ensures value { IfOk result (λ links. option_map (λ l. (l.0.items, l.1.items)) links
+        ≡ gate_links_in (rows_of (found_of values.now))) }
+    ensures some { IfOk result (λ links. IfSome links (λ l. 1 ≤ length l.1.items)) }
+{
+    match gate_links(alloc, values, incoming_in(values), profile_in(values)) {
+        Ok(links) => Ok(Some(links)),
+        Err(Refused::Usage) => Ok(None),
         Err(Refused::Memory) => Err(NoMemory),
     }
+}
+
+fn fails_gate_links(alloc: Global, values: &ArgMatches<'_>) -> Result<bool, NoMemory>
+    ensures { IfOk result (λ fails. fails ≡ does_fail (rows_of (found_of values.now)) GateLinks) }
+{
+    Ok(gate_links_in(alloc, values)?.is_none())
 }
 
 fn fails_send_share(alloc: Global, values: &ArgMatches<'_>) -> Result<bool, NoMemory>
@@ -303,10 +363,9 @@ fn fails_send_share(alloc: Global, values: &ArgMatches<'_>) -> Result<bool, NoMe
 fn fails_gate_share(alloc: Global, values: &ArgMatches<'_>) -> Result<bool, NoMemory>
     ensures { IfOk result (λ fails. fails ≡ does_fail (rows_of (found_of values.now)) GateShare) }
 {
-    match gate_links(alloc, values, profile_in(values)) {
-        Ok((_, outputs)) => fails_share(alloc, values, outputs.len()),
-        Err(Refused::Usage) => Ok(true),
-        Err(Refused::Memory) => Err(NoMemory),
+    match gate_links_in(alloc, values)? {
+        Some((_, outputs)) => fails_share(alloc, values, outputs.len()),
+        None => Ok(true),
     }
 }
 

@@ -1,16 +1,22 @@
 //! What is wrong with words that are no line, as a text.
 use crate::asking::topic_named;
-use crate::checks::{Test, first_failing, profile_in, tests_of};
+use crate::checks::{Test, first_failing, incoming_in, profile_by, profile_in, tests_of};
 use clap::ArgMatches;
 use clap::error::ErrorKind;
 use outside_io::{NoMemory, Profile};
 use rist_words::Refused;
 use rist_words::command::program;
-use rist_words::links::{all_given, input_counts, link_of};
+use rist_words::links::{all_given, input_counts, inputs_of, link_of, link_texts};
 use rist_words::matching::matched;
 use rist_words::session::firsts;
 use rist_words::values::{Numbers, given, is_set};
 use std::alloc::Global;
+
+/// The options of the session of a gateway's inputs that take a value, but for its profile.
+static INCOMING_OPTIONS: [&str; 4] = ["in-port", "in-pass", "in-bits", "in-tunnel"];
+
+/// That there are too many links.
+const MOST: &str = "at most sixteen";
 
 /// What is wrong with words that are no line, the program's name first: the first word that is wrong and why, and which
 /// help says more.
@@ -97,12 +103,17 @@ fn push_fault(text: &mut String, values: &ArgMatches<'_>, test: Test) -> Result<
             push_numbers(text, numbers)
         }
         Test::Number(option, numbers) => push_number(text, option, given(values, option), numbers),
-        Test::Profile => push_option(text, "profile", given(values, "profile"), "simple or main"),
-        Test::Pass if profile_in(values) == Profile::Simple => push_main(text, "pass"),
-        Test::Pass => push_option(text, "pass", None, "1 to 128 octets"),
-        Test::MainFlag(flag) => push_main(text, flag),
-        Test::Tunnel if profile_in(values) == Profile::Simple => push_main(text, "tunnel"),
-        Test::Tunnel => push_option(text, "tunnel", given(values, "tunnel"), "own or librist"),
+        Test::Profile(option) => push_option(text, option, given(values, option), "simple or main"),
+        Test::Pass(by, option) => match profile_by(values, by) {
+            Profile::Simple => push_main(text, by, option),
+            Profile::Main => push_option(text, option, None, "1 to 128 octets"),
+        },
+        Test::MainFlag(by, flag) => push_main(text, by, flag),
+        Test::Tunnel(by, option) => match profile_by(values, by) {
+            Profile::Simple => push_main(text, by, option),
+            Profile::Main => push_option(text, option, given(values, option), "own or librist"),
+        },
+        Test::Incoming => push_incoming(text, values),
         Test::First => {
             push_number(
                 text,
@@ -115,6 +126,7 @@ fn push_fault(text: &mut String, values: &ArgMatches<'_>, test: Test) -> Result<
         Test::Nack => push_option(text, "nack", given(values, "nack"), "range or mask"),
         Test::Links => push_links(text, values),
         Test::Inputs => push_inputs(text, values),
+        Test::GateLinks => push_gate_links(text, values),
         Test::SendShare | Test::GateShare => {
             let why = "a weight of 1 to 100 for each link that sends, as 3:1";
             push_option(text, "share", given(values, "share"), why)
@@ -175,9 +187,23 @@ fn push_numbers(text: &mut String, numbers: Numbers) -> Result<(), NoMemory> {
     }
 }
 
-/// An option or a flag that only the Main Profile has.
-fn push_main(text: &mut String, option: &str) -> Result<(), NoMemory> {
-    push_option(text, option, None, "only with --profile main")
+/// An option or a flag that only the Main Profile has, and the option that says the profile.
+fn push_main(text: &mut String, by: &str, option: &str) -> Result<(), NoMemory> {
+    Ok(write!(text, "--{option}: only with --{by} main")?)
+}
+
+/// The first option of the session of a gateway's inputs that is given.
+fn push_incoming(text: &mut String, values: &ArgMatches<'_>) -> Result<(), NoMemory> {
+    for option in &INCOMING_OPTIONS {
+        if given(values, *option).is_some() {
+            return push_with_profile(text, *option);
+        }
+    }
+    push_with_profile(text, "in-full")
+}
+
+fn push_with_profile(text: &mut String, option: &str) -> Result<(), NoMemory> {
+    push_option(text, option, None, "only with --in-profile")
 }
 
 fn push_pcap(text: &mut String, values: &ArgMatches<'_>) -> Result<(), NoMemory> {
@@ -197,15 +223,40 @@ fn push_pcap(text: &mut String, values: &ArgMatches<'_>) -> Result<(), NoMemory>
 fn push_links(text: &mut String, values: &ArgMatches<'_>) -> Result<(), NoMemory> {
     let profile = profile_in(values);
     match all_given(values, "link") {
-        Some(words) => {
-            for word in words {
-                if link_of(profile, word).is_none() {
-                    return push_link(text, word);
-                }
-            }
-            push_place(text, "link", None, "at most sixteen")
-        }
+        Some(words) => match first_wrong(profile, words) {
+            Some(word) => push_link(text, word),
+            None => push_place(text, "link", None, MOST),
+        },
         None => push_place(text, "link", None, "one to sixteen"),
+    }
+}
+
+/// The first word that is no link.
+fn first_wrong<'a>(profile: Profile, words: &[&'a str]) -> Option<&'a str> {
+    for word in words {
+        if link_of(profile, word).is_none() {
+            return Some(*word);
+        }
+    }
+    None
+}
+
+/// The first word of a gateway that is no link in the profile of its end.
+fn push_gate_links(text: &mut String, values: &ArgMatches<'_>) -> Result<(), NoMemory> {
+    let Some(words) = link_texts(values) else {
+        return Ok(());
+    };
+    let Some(count) = inputs_of(values, words.len()) else {
+        return Ok(());
+    };
+    let (received, sent) = words.split_at(count);
+    let wrong = match first_wrong(incoming_in(values), received) {
+        Some(word) => Some(word),
+        None => first_wrong(profile_in(values), sent),
+    };
+    match wrong {
+        Some(word) => push_link(text, word),
+        None => Ok(()),
     }
 }
 
@@ -219,6 +270,7 @@ fn push_link(text: &mut String, word: &str) -> Result<(), NoMemory> {
 
 fn push_inputs(text: &mut String, values: &ArgMatches<'_>) -> Result<(), NoMemory> {
     match all_given(values, "link") {
+        Some(words) if words.len() > 16 => push_place(text, "link", None, MOST),
         Some(words) if words.len() >= 2 => {
             push_number(text, "in", given(values, "in"), input_counts(words.len()))
         }

@@ -85,7 +85,8 @@ usage: rist gate LINK.. [OPTION..]
 
 Receives on the first links, and sends on over the others, each payload as it is played out. There are
 two to sixteen. A LINK is an address and a port, a.b.c.d:port; the port is 1 to 65535, in the Simple
-Profile even: control is on the next.
+Profile even: control is on the next. Without --in-profile all links have one profile and one
+passphrase; with it those that receive have what the options --in-.. say.
 
 ";
 
@@ -233,6 +234,30 @@ const IN_ROW: &str = "  --in LINKS
       how many of the links receive, at least one and not all (default 1)
 ";
 
+const IN_PROFILE_ROW: &str = "  --in-profile PROFILE
+      profile of the links that receive, simple or main (default: that of the others, with all that goes with it)
+";
+
+const IN_PORT_ROW: &str = "  --in-port PORT
+      as --port, of the links that receive, even, 2 to 65534 (default 1968); with --in-profile alone
+";
+
+const IN_PASS_ROW: &str = "  --in-pass PASSPHRASE
+      as --pass, of the links that receive (--in-profile main)
+";
+
+const IN_BITS_ROW: &str = "  --in-bits BITS
+      as --bits, of the links that receive, 128 or 256 (default 128); with --in-profile alone
+";
+
+const IN_FULL_ROW: &str = "  --in-full
+      as --full, of the links that receive (--in-profile main)
+";
+
+const IN_TUNNEL_ROW: &str = "  --in-tunnel FORM
+      as --tunnel, of the links that receive, own or librist (--in-profile main; default own)
+";
+
 static VERSION_PIECES: [&str; 1] = [VERSION];
 
 static PROGRAM_PIECES: [&str; 1] = [USAGE];
@@ -337,9 +362,15 @@ static RECV_PIECES: [&str; 19] = [
     TUNNEL_ROW,
 ];
 
-static GATE_PIECES: [&str; 28] = [
+static GATE_PIECES: [&str; 34] = [
     GATE,
     IN_ROW,
+    IN_PROFILE_ROW,
+    IN_PORT_ROW,
+    IN_PASS_ROW,
+    IN_BITS_ROW,
+    IN_TUNNEL_ROW,
+    IN_FULL_ROW,
     DELAY_ROW,
     SPAN_ROW,
     RESTART_ROW,

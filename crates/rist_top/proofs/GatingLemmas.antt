@@ -1,5 +1,5 @@
 -- What a gateway leaves, part by part, and how it ends where nothing fails but links.
-use Rattle.std.proofs.Common.{◌≡◌, ◌∙◌, ◌⊎◌, ◌<◌, ◌≤◌, ◌+◌, ℕ, List, length, map, take, drop, Option, None, Some, IfSome, [], is_some, true, refl, sym, ap, subst, slice_get, slice_index_or, get_or-drop, get_or-take, length-drop, length-take-le, arith}
+use Rattle.std.proofs.Common.{◌≡◌, ◌∙◌, ◌⊎◌, ◌<◌, ◌≤◌, ◌+◌, ℕ, List, length, map, take, drop, Option, None, Some, IfSome, [], true, refl, sym, ap, subst, slice_get, slice_index_or, get_or-drop, get_or-take, length-drop, length-take-le, arith}
 use Rattle.std.proofs.lemmas.List.{length-map, get_or-map}
 use Rattle.std.proofs.lemmas.Option.{get_or_from_slice_get}
 use mathlib.Core.Logic.{inl, inr}
@@ -32,7 +32,7 @@ use Rattle.rist_words.specs.CommandLine.{GateCommand}
 use Rattle.rist_words.specs.Ranges.{IsWeight}
 use Rattle.rist_top.specs.Causes.{CanRefuse}
 use Rattle.rist_top.specs.Complete.{CompletesGating, IsGateWhole, StaysUp, StaysUpBehind}
-use Rattle.rist_top.specs.Frame.{KeepsAroundGate, KeepsLinksBut, KeepsWords}
+use Rattle.rist_top.specs.Frame.{KeepsAroundGate, KeepsLinksBut, KeepsWords, gate_draws}
 use Rattle.rist_top.specs.Gated.{Gated, GatedByClocks, GatesAs, Ungated, gate_status}
 use Rattle.rist_top.specs.Inside.Answers.{KeepsButTiming}
 use Rattle.rist_top.specs.Objects.{Tells}
@@ -54,12 +54,12 @@ made_setup receiving settings session sealer = record { receiving = receiving; r
 
 -- a run is set to what a line says
 pub same_gate_setup : (c : GateCommand) (receiving : ReceiveSetup) (settings : SenderSettings) (session : Session) (first second : Option SealerState)
-    → receiving ≡ setup_made (settings_with c.receiver) (session_read c.session) first (steps_kept c.serving) true → settings ≡ sender_gated c → session ≡ session_gated c
+    → receiving ≡ setup_made (settings_with c.receiver) (session_read c.incoming) first (steps_kept c.serving) true → settings ≡ sender_gated c → session ≡ session_gated c
     → made_setup receiving settings session second ≡ setup_gated c first second
 same_gate_setup c receiving settings session first second a b d =
     ap (λ x. made_setup x settings session second) a
-    ∙ (ap (λ x. made_setup (setup_made (settings_with c.receiver) (session_read c.session) first (steps_kept c.serving) true) x session second) b
-    ∙ ap (λ x. made_setup (setup_made (settings_with c.receiver) (session_read c.session) first (steps_kept c.serving) true) (sender_gated c) x second) d)
+    ∙ (ap (λ x. made_setup (setup_made (settings_with c.receiver) (session_read c.incoming) first (steps_kept c.serving) true) x session second) b
+    ∙ ap (λ x. made_setup (setup_made (settings_with c.receiver) (session_read c.incoming) first (steps_kept c.serving) true) (sender_gated c) x second) d)
 
 -- a receiving end is set to what a line says
 pub same_receiving_end : (settings settings' : ReceiverSettings) (session session' : Session) (sealer : Option SealerState) (limit limit' : Option ℕ) → settings ≡ settings' → session ≡ session' → limit ≡ limit'
@@ -106,14 +106,14 @@ gated_between tells live old mid later new c were are status e f s = record {
 -- all around links that were opened and came back
 pub around_links : {I O E L C : Type 0} (old mid later new : Shelf I O E L C) (c : GateCommand) → ChangesOpening old mid → KeepsButTiming mid later → ChangesLinks later new
     → KeepsLinksBut (length c.inputs + length c.outputs) old.links new.links → KeepsLinksBut (length c.inputs + length c.outputs + 1) mid.clocks later.clocks
-    → KeepsWords mid later (is_some c.session.pass) → KeepsAroundGate old new c
+    → KeepsWords mid later (gate_draws c) → KeepsAroundGate old new c
 around_links old mid later new c e others f links clocks words = record {
   sources = ap (λ s. s.sources) f ∙ (others.sources ∙ ap (λ s. s.sources) e);
   sinks = ap (λ s. s.sinks) f ∙ (others.sinks ∙ ap (λ s. s.sinks) e);
   links = links;
   clocks = subst (λ x. KeepsLinksBut (length c.inputs + length c.outputs + 1) x new.clocks) (ap (λ s. s.clocks) e)
       (subst (λ x. KeepsLinksBut (length c.inputs + length c.outputs + 1) mid.clocks x) (sym (ap (λ s. s.clocks) f)) clocks);
-  words = words_between old mid later new (is_some c.session.pass) (ap (λ s. s.entropies) e) (ap (λ s. s.entropies) f) words;
+  words = words_between old mid later new (gate_draws c) (ap (λ s. s.entropies) e) (ap (λ s. s.entropies) f) words;
 }
 
 -- all around links that could not be opened

@@ -22,7 +22,7 @@ pub record DoesGate {A I O E L C : Type 0} (told : Bool) (tells : Tells I O E) (
   -- the host; or no link was read or written
   pub gated : IsUnused told old → (CanRefuse status → ⊥) → IfGate words (λ c. Gated tells live old new c status)
   pub ungated : IsUnused told old → CanRefuse status → IfGate words (λ c. Ungated old new)
-  -- it touches only what its line speaks of
+  -- the run touches only what its line speaks of
   pub around : IsUnused told old → IfGate words (λ c. KeepsAroundGate old new c)
   -- just the links of the line are opened, in its order
   pub links_opened : IsUnused told old → (CanRefuse status → ⊥) → IfGate words (λ c. new.opened_links ≡ links_gated c)

@@ -1,5 +1,5 @@
 -- What a run leaves as it stood.
-use Rattle.std.specs.Prelude.{◌≡◌, ◌≢◌, ◌≤◌, ◌+◌, ◌++◌, ℕ, List, length, map, Bool, false, is_some}
+use Rattle.std.specs.Prelude.{◌≡◌, ◌≢◌, ◌≤◌, ◌+◌, ◌||◌, ◌++◌, ℕ, List, length, map, Bool, false, is_some}
 use Rattle.outside_net.specs.declared.link_spec.Role.TheVariants.{Receives, Sends, Forwards}
 use Rattle.outside_host.specs.Shelf.{Shelf, ChangesSources, ChangesSinks}
 use Rattle.outside_host.specs.declared.host.Opened.{Opened}
@@ -7,6 +7,10 @@ use Rattle.outside_host.specs.declared.host.Place.{Place}
 use Rattle.rist_words.specs.CommandLine.{CommandLine, Replay, Show, Count, Pack, Send, Recv, Gate, Drill, SendCommand, RecvCommand, GateCommand}
 use Rattle.rist_top.specs.Places.{CameBack, IsAsItWas, KeepsLive}
 use Rattle.rist_top.specs.Ran.{source_name, sink_name}
+
+-- whether a gateway draws random words: under a passphrase of either end
+abbrev pub gate_draws : GateCommand → Bool
+gate_draws c = is_some c.incoming.pass || is_some c.session.pass
 
 -- whether a command draws random words: one that makes datagrams, under a passphrase
 abbrev pub draws_words : CommandLine → Bool
@@ -16,7 +20,7 @@ draws_words (Count c) = false
 draws_words (Pack c) = is_some c.session.pass
 draws_words (Send c) = is_some c.session.pass
 draws_words (Recv c) = is_some c.session.pass
-draws_words (Gate c) = is_some c.session.pass
+draws_words (Gate c) = gate_draws c
 draws_words (Drill c) = false
 
 -- what a line doesn't speak of stands as it stood, and what it speaks of came back: its source, its sink, and the first
@@ -98,11 +102,11 @@ pub record KeepsAroundGate {I O E L C : Type 0} (old new : Shelf I O E L C) (c :
   pub sinks : new.sinks ≡ old.sinks
   pub links : KeepsLinksBut (length c.inputs + length c.outputs) old.links new.links
   pub clocks : KeepsLinksBut (length c.inputs + length c.outputs + 1) old.clocks new.clocks
-  pub words : KeepsWords old new (is_some c.session.pass)
+  pub words : KeepsWords old new (gate_draws c)
 
--- the links that a gateway opens, the first first: it is bound to those that it receives on, and behind them it sends
--- to the others, all in the profile of its session
+-- the links that a gateway opens, the first first: it is bound to those that it receives on, in the profile of their
+-- session, and behind them it sends to the others, in that of theirs
 abbrev pub links_gated : GateCommand → List Opened
 links_gated c =
-    map (λ spec. record { spec = spec; role = Receives; profile = c.session.profile }) c.inputs
+    map (λ spec. record { spec = spec; role = Receives; profile = c.incoming.profile }) c.inputs
     ++ map (λ spec. record { spec = spec; role = Forwards; profile = c.session.profile }) c.outputs

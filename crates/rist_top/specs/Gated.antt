@@ -44,7 +44,7 @@ pub record GatedByClocks {I O E L C : Type 0} (tells : Tells I O E) (live : Tell
   pub clocks : FromTheFirst old.clocks new.clocks clocks_were clocks_are
   pub receiving : Option SealerState
   pub sending : Option SealerState
-  pub fresh_receiving : IsFreshFor c.session receiving
+  pub fresh_receiving : IsFreshFor c.incoming receiving
   pub fresh_sending : IsFreshFor c.session sending
   -- the sender's nonces are drawn behind the receiver's
   pub drawn : AreDrawn tells old.entropies new.entropies receiving sending

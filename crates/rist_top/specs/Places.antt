@@ -8,7 +8,7 @@ use Rattle.outside_host.specs.declared.host.Place.TheVariants.{Here, Back}
 abbrev pub CameBack : {X : Type 0} → Place X → Place X → Type 0
 CameBack {X} old new = (new ≡ old) ⊎ ((x : X) × (y : X) × (old ≡ Here x) × (new ≡ Back y))
 
--- it stands as it stood, or it was handed out and came back as it was
+-- an object stands as it stood, or was handed out and came back as it was
 abbrev pub IsAsItWas : {X : Type 0} → Place X → Place X → Type 0
 IsAsItWas {X} old new = (new ≡ old) ⊎ ((object : X) × (old ≡ Here object) × (new ≡ Back object))
 

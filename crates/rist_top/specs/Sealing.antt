@@ -1,5 +1,5 @@
 -- What is left where a sealer is made, or can't be.
-use Rattle.std.specs.Prelude.{◌≡◌, ◌≢◌, ℕ, List, Bool, false, Option, Some}
+use Rattle.std.specs.Prelude.{◌≡◌, ◌≢◌, ℕ, List, Bool, false, Option, Some, None, IfSome}
 use Rattle.psk_seal.specs.Nonces.{Draws}
 use Rattle.psk_seal.specs.Sealer.{SealerState}
 use Rattle.outside_io.specs.Causes.{Rose}
@@ -49,6 +49,8 @@ pub record DrawnBoth {I O E : Type 0} (tells : Tells I O E) (old new : ℕ → P
   pub more : Draws between (tells.words drawn) second.nonces 16
   pub none : tells.word_faults drawn ≡ tells.word_faults words
 
--- they are, where there are two
+-- they are, where there are two; and where there is one its own are, as those of a sealer alone
 abbrev pub AreDrawn : {I O E : Type 0} → Tells I O E → (ℕ → Place E) → (ℕ → Place E) → Option SealerState → Option SealerState → Type 0
-AreDrawn tells old new first second = (s t : SealerState) → first ≡ Some s → second ≡ Some t → DrawnBoth tells old new s t
+AreDrawn tells old new None second = IfSome second (DrawnFirst tells old new)
+AreDrawn tells old new (Some first) None = DrawnFirst tells old new first
+AreDrawn tells old new (Some first) (Some second) = DrawnBoth tells old new first second

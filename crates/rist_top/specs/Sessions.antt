@@ -132,11 +132,12 @@ sender_gated c = record {
   bond = bonding_with (length c.outputs) c.share;
 }
 
--- what its run is set to, under these sealers of its receiver and of its sender, where there are any: the receiver's steps
--- are told, with that limit or, in turns, with none
+-- what its run is set to, under these sealers of its receiver and of its sender, where there are any: its receiver has
+-- the session of the links that are received on, and the receiver's steps are told, with that limit or, in turns, with
+-- none
 abbrev pub setup_gated : GateCommand → Option SealerState → Option SealerState → GateSetup
 setup_gated c receiving sending = record {
-  receiving = setup_made (settings_with c.receiver) (session_read c.session) receiving (steps_kept c.serving) true;
+  receiving = setup_made (settings_with c.receiver) (session_read c.incoming) receiving (steps_kept c.serving) true;
   rules = rules_with (sender_gated c) (session_gated c);
   session = session_gated c;
   sealer = sending;

@@ -1,5 +1,5 @@
 //! A gateway, from its objects to its status.
-ghost use Rattle.std.specs.Prelude.{◌≡◌, ◌≢◌, ◌<◌, ◌+◌, IsTrue, IfOk, OnErr, length, is_some};
+ghost use Rattle.std.specs.Prelude.{◌≡◌, ◌≢◌, ◌<◌, ◌+◌, IsTrue, IfOk, OnErr, length};
 ghost use Rattle.outside_io.specs.Causes.{HasOpenCause};
 ghost use Rattle.outside_host.specs.Shelf.{ChangesReport};
 ghost use Rattle.host_links.specs.Opening.{AreAsTheyWere};
@@ -12,7 +12,7 @@ ghost use Rattle.rist_top.specs.Sessions.{bonding_with, sender_gated, setup_gate
 ghost use Rattle.rist_top.specs.Works.{IsFreshFor};
 ghost use Rattle.rist_top.specs.Sent.{IsUnused, live_of};
 ghost use Rattle.rist_top.specs.Gated.{GatedByClocks, Gated, GatesAs, Ungated};
-ghost use Rattle.rist_top.specs.Frame.{KeepsAroundGate, KeepsLinksBut, KeepsWords, links_gated};
+ghost use Rattle.rist_top.specs.Frame.{KeepsAroundGate, KeepsLinksBut, KeepsWords, gate_draws, links_gated};
 ghost use Rattle.rist_top.specs.Inside.Answers.{KeepsButTiming};
 ghost use Rattle.rist_top.specs.Inside.Heard.{Passes};
 
@@ -68,7 +68,7 @@ fn made_kept<L: Drop, C: Drop>(
 ) -> Result<Made<Kept<Step>, L, C>, NoMemory>
     requires range { IsInGate (shown_gate line.now) }
     requires kept { 0 < (shown_gate line.now).serving.keep }
-    requires receiving { IsFreshFor (shown_gate line.now).session sealers.receiving }
+    requires receiving { IsFreshFor (shown_gate line.now).incoming sealers.receiving }
     requires sending { IsFreshFor (shown_gate line.now).session sealers.sending }
     ensures setup { IfOk result (λ made. gate_setup_of ⟦<Kept<Step> as Trace<Step>>⟧.limit made
         ≡ setup_gated (shown_gate line.now) sealers.receiving sealers.sending) }
@@ -76,7 +76,7 @@ fn made_kept<L: Drop, C: Drop>(
         ⟦<Kept<Step> as Trace<Step>>⟧.limit
         (length line.now.inputs.items) (length line.now.outputs.items) made) }
 {
-    let session = session_of(&line.session, false, false);
+    let session = session_of(&line.incoming, false, false);
     let receiving = match rist_recv::make::<Kept<Step>, L, C>(
         alloc,
         &settings_of(&line.receiver),
@@ -108,7 +108,7 @@ fn made_in_turns<L: Drop, C: Drop>(
 ) -> Result<Made<Kept<Step>, L, C>, NoMemory>
     requires range { IsInGate (shown_gate line.now) }
     requires none { (shown_gate line.now).serving.keep ≡ 0 }
-    requires receiving { IsFreshFor (shown_gate line.now).session sealers.receiving }
+    requires receiving { IsFreshFor (shown_gate line.now).incoming sealers.receiving }
     requires sending { IsFreshFor (shown_gate line.now).session sealers.sending }
     ensures setup { IfOk result (λ made. gate_setup_of ⟦<Kept<Step> as Trace<Step>>⟧.limit made
         ≡ setup_gated (shown_gate line.now) sealers.receiving sealers.sending) }
@@ -116,7 +116,7 @@ fn made_in_turns<L: Drop, C: Drop>(
         ⟦<Kept<Step> as Trace<Step>>⟧.limit
         (length line.now.inputs.items) (length line.now.outputs.items) made) }
 {
-    let session = session_of(&line.session, false, false);
+    let session = session_of(&line.incoming, false, false);
     let receiving = match rist_recv::make_in_turns(
         alloc,
         &settings_of(&line.receiver),
@@ -146,7 +146,7 @@ fn made_for<L: Drop, C: Drop>(
     sealers: Sealers,
 ) -> Result<Made<Kept<Step>, L, C>, NoMemory>
     requires range { IsInGate (shown_gate line.now) }
-    requires receiving { IsFreshFor (shown_gate line.now).session sealers.receiving }
+    requires receiving { IsFreshFor (shown_gate line.now).incoming sealers.receiving }
     requires sending { IsFreshFor (shown_gate line.now).session sealers.sending }
     ensures setup { IfOk result (λ made. gate_setup_of ⟦<Kept<Step> as Trace<Step>>⟧.limit made
         ≡ setup_gated (shown_gate line.now) sealers.receiving sealers.sending) }
@@ -171,7 +171,7 @@ fn gate_with<L: Link + Drop + Send, C: Clock + Drop + Send, R: Threads + Wait + 
     clocks: &mut Vec<C>,
 ) -> Result<(Status, Counts), NoMemory>
     requires range { IsInGate (shown_gate line.now) }
-    requires receiving { IsFreshFor (shown_gate line.now).session sealers.receiving }
+    requires receiving { IsFreshFor (shown_gate line.now).incoming sealers.receiving }
     requires sending { IsFreshFor (shown_gate line.now).session sealers.sending }
     requires count { length links.old.items ≡ length line.now.inputs.items + length line.now.outputs.items }
     requires clocks { length clocks.old.items ≡ length line.now.inputs.items + length line.now.outputs.items + 1 }
@@ -220,7 +220,7 @@ fn gate_sealed<R: Threads + Wait + Sync, H: Host>(
     clocks: &mut Vec<H::Time>,
 ) -> Status
     requires range { IsInGate (shown_gate line.now) }
-    requires receiving { IsFreshFor (shown_gate line.now).session sealers.receiving }
+    requires receiving { IsFreshFor (shown_gate line.now).incoming sealers.receiving }
     requires sending { IsFreshFor (shown_gate line.now).session sealers.sending }
     requires count { length links.old.items ≡ length line.now.inputs.items + length line.now.outputs.items }
     requires clocks { length clocks.old.items ≡ length line.now.inputs.items + length line.now.outputs.items + 1 }
@@ -244,7 +244,7 @@ fn gate_sealed<R: Threads + Wait + Sync, H: Host>(
     }
 }
 
-// Runs on links by the host's next clocks, under sealers where the line has a passphrase.
+// Runs on links by the host's next clocks, under a sealer for each end that has a passphrase.
 fn gate_by_clocks<R: Threads + Wait + Sync, H: Host>(
     rt: &R,
     alloc: Global,
@@ -268,7 +268,7 @@ fn gate_by_clocks<R: Threads + Wait + Sync, H: Host>(
         → KeepsLinksBut (length line.now.inputs.items + length line.now.outputs.items + 1)
         (H.shelf host.old).clocks (H.shelf host.new).clocks }
     ensures words { IsTrue H.tells → (H.shelf host.old).next_entropy ≡ 0
-        → KeepsWords (H.shelf host.old) (H.shelf host.new) (is_some (shown_gate line.now).session.pass) }
+        → KeepsWords (H.shelf host.old) (H.shelf host.new) (gate_draws (shown_gate line.now)) }
     ensures line { result ≢ Status.Usage }
     ensures opened { HasOpenCause (fault_of result) (H.faults host.old) (H.faults host.new) }
     ensures links { length links.new.items ≡ length links.old.items }
@@ -277,7 +277,7 @@ fn gate_by_clocks<R: Threads + Wait + Sync, H: Host>(
         Ok(clocks) => clocks,
         Err(bad) => return Status::of_host(bad),
     };
-    let status = match sealers_for(host, &line.session) {
+    let status = match sealers_for(host, &line.incoming, &line.session) {
         Ok(sealers) => gate_sealed(rt, alloc, host, line, sealers, links, &mut clocks),
         Err(status) => status,
     };
@@ -311,6 +311,7 @@ pub fn gate_line<R: Threads + Wait + Sync, H: Host>(
         alloc,
         host,
         line.inputs.as_slice(),
+        line.incoming.profile,
         line.outputs.as_slice(),
         line.session.profile,
     ) {

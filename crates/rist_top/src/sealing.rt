@@ -1,5 +1,5 @@
 //! The sealers of a line.
-ghost use Rattle.std.specs.Prelude.{◌≡◌, IsTrue, IfOk, IfSome, IsErrOf, Option, List, ℕ, is_some};
+ghost use Rattle.std.specs.Prelude.{◌≡◌, ◌||◌, IsTrue, IfOk, IfSome, IsErrOf, Option, List, ℕ, is_some, true};
 ghost use Rattle.outside_io.specs.Causes.{HasCause, HasOpenCause};
 ghost use Rattle.outside_host.specs.Shelf.{Stays};
 ghost use Rattle.rist_words.specs.Shown.{shown_session};
@@ -7,7 +7,7 @@ ghost use Rattle.rist_top.specs.Causes.{CanRefuse, fault_of};
 ghost use Rattle.rist_top.specs.Lines.{IsFresh};
 ghost use Rattle.rist_top.specs.Works.{IsFreshFor};
 ghost use Rattle.psk_seal.specs.Nonces.{AreNonces};
-ghost use Rattle.rist_top.specs.Sealing.{AreDrawn, KeepsObjects, DrawnFirst, FailedAt};
+ghost use Rattle.rist_top.specs.Sealing.{AreDrawn, KeepsObjects, DrawnBoth, DrawnFirst, FailedAt};
 ghost use Rattle.rist_top.specs.Inside.Answers.{AreDrawnApart, OnErrIs, status_of};
 ghost use Rattle.rist_top.specs.declared.status.Status.TheVariants as statuses;
 
@@ -54,7 +54,7 @@ pub fn sealer_for<H: Host>(
     }
 }
 
-/// The sealers of a gateway's receiver and of its sender; none without a passphrase.
+/// The sealers of a gateway's receiver and of its sender; none for an end without a passphrase.
 #[derive(Drop)]
 pub struct Sealers {
     pub receiving: Option<Sealer>,
@@ -79,26 +79,19 @@ fn two_of<E: Entropy>(entropy: &mut E) -> Result<(Sealer, Sealer), EntropyFault>
     }
 }
 
-/// The sealers of a gateway whose session has a passphrase: their nonces are drawn from the host's first source of
-/// random words, the receiver's before the sender's.
-pub fn sealers_for<H: Host>(host: &mut H, session: &SessionWords<'_>) -> Result<Sealers, Status>
-    ensures receiving { IfOk result (λ sealers. IsFreshFor (shown_session session.now) sealers.receiving) }
-    ensures sending { IfOk result (λ sealers. IsFreshFor (shown_session session.now) sealers.sending) }
+// The sealers of both ends of a gateway: their nonces are drawn from the host's first source of random words, the
+// receiver's before the sender's.
+fn both_sealers<H: Host>(host: &mut H) -> Result<(Sealer, Sealer), Status>
+    ensures nonces { IfOk result (λ two. AreNonces two.0.nonces × AreNonces two.1.nonces) }
+    ensures fresh { IfOk result (λ two. (two.0.given ≡ 0) × (two.1.given ≡ 0)) }
     ensures err { OnErrIs result CanRefuse }
-    ensures drawn { IsFresh H.tells (H.shelf host.old) → IfOk result (λ sealers. AreDrawn ⟦<H as Telling>⟧.objects
-        (H.shelf host.old).entropies (H.shelf host.new).entropies sealers.receiving sealers.sending) }
-    ensures others { IsTrue H.tells
-        → KeepsObjects (H.shelf host.old) (H.shelf host.new) (is_some (shown_session session.now).pass) }
+    ensures drawn { IsFresh H.tells (H.shelf host.old) → IfOk result (λ two. DrawnBoth ⟦<H as Telling>⟧.objects
+        (H.shelf host.old).entropies (H.shelf host.new).entropies two.0 two.1) }
+    ensures others { IsTrue H.tells → KeepsObjects (H.shelf host.old) (H.shelf host.new) true }
     ensures opened { HasOpenCause (fault_of (status_of result)) (H.faults host.old) (H.faults host.new) }
     ensures random { IsFresh H.tells (H.shelf host.old) → IsErrOf result statuses.EntropyFault
         → FailedAt ⟦<H as Telling>⟧.objects (H.shelf host.old) (H.shelf host.new) }
 {
-    let Some(_) = session.pass else {
-        return Ok(Sealers {
-            receiving: None,
-            sending: None,
-        });
-    };
     let mut words = match host.entropy() {
         Ok(words) => words,
         Err(bad) => return Err(Status::of_host(bad)),
@@ -106,10 +99,50 @@ pub fn sealers_for<H: Host>(host: &mut H, session: &SessionWords<'_>) -> Result<
     let two = two_of(&mut words);
     host.back_entropy(0, words);
     match two {
-        Ok((receiving, sending)) => Ok(Sealers {
-            receiving: Some(receiving),
-            sending: Some(sending),
-        }),
+        Ok(two) => Ok(two),
         Err(_) => Err(Status::EntropyFault),
+    }
+}
+
+/// The sealers of a gateway's ends, of each whose session has a passphrase: their nonces are drawn from the host's first
+/// source of random words, the receiver's before the sender's.
+pub fn sealers_for<H: Host>(
+    host: &mut H,
+    incoming: &SessionWords<'_>,
+    session: &SessionWords<'_>,
+) -> Result<Sealers, Status>
+    ensures receiving { IfOk result (λ sealers. IsFreshFor (shown_session incoming.now) sealers.receiving) }
+    ensures sending { IfOk result (λ sealers. IsFreshFor (shown_session session.now) sealers.sending) }
+    ensures err { OnErrIs result CanRefuse }
+    ensures drawn { IsFresh H.tells (H.shelf host.old) → IfOk result (λ sealers. AreDrawn ⟦<H as Telling>⟧.objects
+        (H.shelf host.old).entropies (H.shelf host.new).entropies sealers.receiving sealers.sending) }
+    ensures others { IsTrue H.tells → KeepsObjects (H.shelf host.old) (H.shelf host.new)
+        (is_some (shown_session incoming.now).pass || is_some (shown_session session.now).pass) }
+    ensures opened { HasOpenCause (fault_of (status_of result)) (H.faults host.old) (H.faults host.new) }
+    ensures random { IsFresh H.tells (H.shelf host.old) → IsErrOf result statuses.EntropyFault
+        → FailedAt ⟦<H as Telling>⟧.objects (H.shelf host.old) (H.shelf host.new) }
+{
+    match (incoming.pass, session.pass) {
+        (Some(_), Some(_)) => match both_sealers(host) {
+            Ok((receiving, sending)) => Ok(Sealers {
+                receiving: Some(receiving),
+                sending: Some(sending),
+            }),
+            Err(status) => Err(status),
+        },
+        (Some(_), None) => match sealer_for(host, incoming) {
+            Ok(receiving) => Ok(Sealers {
+                receiving,
+                sending: None,
+            }),
+            Err(status) => Err(status),
+        },
+        (None, _) => match sealer_for(host, session) {
+            Ok(sending) => Ok(Sealers {
+                receiving: None,
+                sending,
+            }),
+            Err(status) => Err(status),
+        },
     }
 }

@@ -4,7 +4,7 @@ use Rattle.std.specs.List.{All}
 use Rattle.std.proofs.lemmas.List.{length-drop, length-take-le}
 use Rattle.std.proofs.lemmas.List.Elements.{All-nil, All-cons}
 use mathlib.Core.Logic.{inl, inr}
-use Rattle.std.specs.Prelude.{IfSome, nat_lt, ◌&&◌, option_map, codes}
+use Rattle.std.specs.Prelude.{IfSome, is_some, nat_lt, ◌&&◌, option_map, codes}
 use Rattle.std.specs.Str.Parse.{digits_value}
 use Rattle.std.proofs.lemmas.Bool.Decides.{nat_tests}
 use Rattle.clap.specs.Words.{Row, Text, first_of}
@@ -14,10 +14,11 @@ use Rattle.gre_tunnel.specs.declared.tunnel.Tunnel.TheVariants.{Own}
 use Rattle.outside_io.specs.declared.profile.Profile.{Profile}
 use Rattle.outside_io.specs.declared.profile.Profile.TheVariants.{Simple, Main}
 use Rattle.rist_words.specs.declared.values.Numbers.{Numbers}
+use Rattle.rist_words.specs.Commands.{SessionNames, incoming_names, session_names}
 use Rattle.rist_words.specs.Values.{is_numeral, is_among, nack_of, number_at, number_in, number_of, ◌>>=◌, profile_of, phrase_of, is_set, flag_of, tunnel_of}
 use Rattle.rist_words.specs.CommandLine.{Session, Stream, Receiver, Serving, ports, key_bits, delays, spans, restarts, flows, firsts, gaps, leads, stores, holds, lingers, turn_counts}
-use Rattle.rist_words.specs.CommandLine.{reorders, retry_times, retry_counts, own_ssrcs, idle_times, kept_counts, session_of, pcap_with, stream_of, receiver_of, serving_of}
-use Rattle.rist_words.specs.Links.{colon, each_link, gate_links_of, input_counts, inputs_of, link_of, link_ports, link_weights, links_of, shares_of, split_at, weights_in}
+use Rattle.rist_words.specs.CommandLine.{reorders, retry_times, retry_counts, own_ssrcs, idle_times, kept_counts, are_unset, incoming_of, session_named, session_of, pcap_with, stream_of, receiver_of, serving_of}
+use Rattle.rist_words.specs.Links.{colon, each_link, gate_links_of, input_counts, inputs_of, link_of, link_ports, link_texts, link_weights, links_of, shares_of, split_at, weights_in}
 use Rattle.rist_words.specs.Ranges.{IsInSession, IsUdpPort, IsInStream, IsInReceiver, IsInServing, IsWeight}
 
 -- a value that was read, and the rest of the reading
@@ -102,26 +103,38 @@ tunnel_simple profile None tunnel e is = sym (same_some Own tunnel e)
 tunnel_simple Simple (Some text) tunnel e is = cc
 tunnel_simple Main (Some text) tunnel e is = cc
 
-pub session_range : (rows : List Row) (s : Session) → session_of rows ≡ Some s → IsInSession s
-session_range rows s e =
-    let profile = reads (profile_of (first_of (codes "profile") rows)) _ s e in
-    let port = reads (number_of ports (first_of (codes "port") rows)) _ s profile.rest in
-    let pass = reads (phrase_of profile.value (first_of (codes "pass") rows)) _ s port.rest in
-    let bits = reads (number_of key_bits (first_of (codes "bits") rows)) _ s pass.rest in
-    let full = reads (flag_of profile.value (first_of (codes "full") rows)) _ s bits.rest in
-    let tunnel = reads (tunnel_of profile.value (first_of (codes "tunnel") rows)) _ s full.rest in
-    let p = number_range ports (first_of (codes "port") rows) port.value (record { least = omega arith; most = omega arith; multiple = refl }) port.is in
-    let b = number_range key_bits (first_of (codes "bits") rows) bits.value (record { least = omega arith; most = omega arith; multiple = refl }) bits.is in
+pub named_range : (names : SessionNames) (asks : Bool) (rows : List Row) (s : Session) → session_named names asks rows ≡ Some s → IsInSession s
+named_range names asks rows s e =
+    let profile = reads (profile_of (first_of names.profile rows)) _ s e in
+    let port = reads (number_of ports (first_of names.port rows)) _ s profile.rest in
+    let pass = reads (phrase_of profile.value (first_of names.pass rows)) _ s port.rest in
+    let bits = reads (number_of key_bits (first_of names.bits rows)) _ s pass.rest in
+    let full = reads (flag_of profile.value (first_of names.full rows)) _ s bits.rest in
+    let tunnel = reads (tunnel_of profile.value (first_of names.tunnel rows)) _ s full.rest in
+    let p = number_range ports (first_of names.port rows) port.value (record { least = omega arith; most = omega arith; multiple = refl }) port.is in
+    let b = number_range key_bits (first_of names.bits rows) bits.value (record { least = omega arith; most = omega arith; multiple = refl }) bits.is in
     subst IsInSession (same_some _ _ tunnel.rest) (record {
       even = p.multiple;
       low = p.least;
       high = p.most;
       bits = two_bits bits.value b;
-      pass = phrase_length profile.value (first_of (codes "pass") rows) pass.value pass.is;
-      simple = phrase_simple profile.value (first_of (codes "pass") rows) pass.value pass.is;
-      full = flag_simple profile.value (first_of (codes "full") rows) full.value full.is;
-      tunnel = tunnel_simple profile.value (first_of (codes "tunnel") rows) tunnel.value tunnel.is;
+      pass = phrase_length profile.value (first_of names.pass rows) pass.value pass.is;
+      simple = phrase_simple profile.value (first_of names.pass rows) pass.value pass.is;
+      full = flag_simple profile.value (first_of names.full rows) full.value full.is;
+      tunnel = tunnel_simple profile.value (first_of names.tunnel rows) tunnel.value tunnel.is;
     })
+
+pub session_range : (rows : List Row) (s : Session) → session_of rows ≡ Some s → IsInSession s
+session_range rows s e = named_range session_names (is_set (first_of (codes "echo") rows)) rows s e
+
+-- a session of its own, or that of the other links
+pub incoming_range : (session : Session) (rows : List Row) (s : Session) → IsInSession session → incoming_of session rows ≡ Some s → IsInSession s
+incoming_range session rows s range e = by_profile (is_some (first_of incoming_names.profile rows)) (are_unset incoming_names rows) e
+  where
+    by_profile : (given unset : Bool) → cond given (session_named incoming_names false rows) (cond unset (Some session) None) ≡ Some s → IsInSession s
+    by_profile true unset p = named_range incoming_names false rows s p
+    by_profile false true p = subst IsInSession (same_some session s p) range
+    by_profile false false p = cc
 
 pub port_among : (profile : Profile) (n : ℕ) → IsAmong (link_ports profile) n → IsUdpPort profile n
 port_among Main n a = record { some = a.least; most = a.most; even = λ is. cc }
@@ -196,15 +209,21 @@ each_count profile (text ∷ texts) links e =
     let more = reads (each_link profile texts) _ links link.rest in
     sym (ap length (same_some _ _ more.rest)) ∙ ap suc (each_count profile texts more.value more.is)
 
-pub links_range : (profile : Profile) (texts : Option (List Text)) (links : List LinkSpec) → links_of profile texts ≡ Some links
-    → (1 ≤ length links) × (length links ≤ 16)
-links_range profile None links e = cc
-links_range profile (Some texts) links e = by_fit (nat_lt 0 (length texts) && nat_lt (length texts) 17) refl e
+pub texts_range : (given : Option (List Text)) (texts : List Text) → link_texts given ≡ Some texts → (1 ≤ length texts) × (length texts ≤ 16)
+texts_range None texts e = cc
+texts_range (Some all) texts e = by_fit (nat_lt 0 (length all) && nat_lt (length all) 17) refl e
   where
-    by_fit : (b : Bool) → (nat_lt 0 (length texts) && nat_lt (length texts) 17) ≡ b → cond b (each_link profile texts) None ≡ Some links
-        → (1 ≤ length links) × (length links ≤ 16)
-    by_fit true fit p = let count = each_count profile texts links p in (grind (arith, nat_tests), grind (arith, nat_tests))
+    by_fit : (b : Bool) → (nat_lt 0 (length all) && nat_lt (length all) 17) ≡ b → cond b (Some all) None ≡ Some texts → (1 ≤ length texts) × (length texts ≤ 16)
+    by_fit true fit p = subst (λ ts. (1 ≤ length ts) × (length ts ≤ 16)) (same_some all texts p) (grind (arith, nat_tests), grind (arith, nat_tests))
     by_fit false fit p = cc
+
+pub links_range : (profile : Profile) (given : Option (List Text)) (links : List LinkSpec) → links_of profile given ≡ Some links
+    → (1 ≤ length links) × (length links ≤ 16)
+links_range profile given links e =
+    let texts = reads (link_texts given) _ links e in
+    let r = texts_range given texts.value texts.is in
+    let count = each_count profile texts.value links texts.rest in
+    (omega (arith, count, r.0), omega (arith, count, r.1))
 
 pub weight_range : (text : Text) (weight : ℕ) → number_in link_weights text ≡ Some weight → IsWeight weight
 weight_range text weight e =
@@ -303,17 +322,21 @@ pub record AreGateLinks (links : List LinkSpec × List LinkSpec) : Type 0 where
   pub some_output : 1 ≤ length links.1
   pub all : length links.0 + length links.1 ≤ 16
 
-pub gate_links_range : (profile : Profile) (texts : Option (List Text)) (given : Option Text) (links : List LinkSpec × List LinkSpec)
-    → gate_links_of profile texts given ≡ Some links → AreGateLinks links
-gate_links_range profile texts given links e =
-    let all = reads (links_of profile texts) _ links e in
-    let inputs = reads (inputs_of (length all.value) given) _ links all.rest in
-    let r = links_range profile texts all.value all.is in
-    let i = inputs_range (length all.value) given inputs.value inputs.is in
-    let front : length (take inputs.value all.value) ≡ inputs.value = length-take-le inputs.value all.value (omega (arith, i.1)) in
-    let back : length (drop inputs.value all.value) ≡ length all.value - inputs.value = length-drop inputs.value all.value in
-    subst AreGateLinks (same_some _ _ inputs.rest) (record {
-      some_input = omega (arith, front, i.0);
-      some_output = omega (arith, back, i.1);
-      all = omega (arith, front, back, i.1, r.1);
+pub gate_links_range : (incoming onward : Profile) (given : Option (List Text)) (count : Option Text) (links : List LinkSpec × List LinkSpec)
+    → gate_links_of incoming onward given count ≡ Some links → AreGateLinks links
+gate_links_range incoming onward given count links e =
+    let texts = reads (link_texts given) _ links e in
+    let inputs = reads (inputs_of (length texts.value) count) _ links texts.rest in
+    let received = reads (each_link incoming (take inputs.value texts.value)) _ links inputs.rest in
+    let sent = reads (each_link onward (drop inputs.value texts.value)) _ links received.rest in
+    let r = texts_range given texts.value texts.is in
+    let i = inputs_range (length texts.value) count inputs.value inputs.is in
+    let first = each_count incoming (take inputs.value texts.value) received.value received.is in
+    let rest = each_count onward (drop inputs.value texts.value) sent.value sent.is in
+    let front : length (take inputs.value texts.value) ≡ inputs.value = length-take-le inputs.value texts.value (omega (arith, i.1)) in
+    let back : length (drop inputs.value texts.value) ≡ length texts.value - inputs.value = length-drop inputs.value texts.value in
+    subst AreGateLinks (same_some _ _ sent.rest) (record {
+      some_input = omega (arith, first, front, i.0);
+      some_output = omega (arith, rest, back, i.1);
+      all = omega (arith, first, rest, front, back, i.1, r.1);
     })

@@ -6,12 +6,12 @@ use Rattle.clap.specs.Words.{Kinds, Row, Text, all_of, first_of}
 use Rattle.rist_words.specs.Commands.{faults_of, command_in}
 use Rattle.rist_words.specs.Values.{is_set, number_at, number_of, name_of}
 use Rattle.rist_words.specs.CommandLine.{CommandLine, Replay, Show, Count, Pack, Send, Recv, Gate, Drill, ReplayCommand, ShowCommand, CountCommand, PackCommand, SendCommand, RecvCommand, GateCommand, DrillCommand}
-use Rattle.rist_words.specs.CommandLine.{delays, spans, restarts, gaps, leads, stores, holds, lingers, turn_counts, session_of, pcap_of, stream_of, receiver_of, serving_of}
+use Rattle.rist_words.specs.CommandLine.{delays, spans, restarts, gaps, leads, stores, holds, lingers, turn_counts, incoming_of, session_of, pcap_of, stream_of, receiver_of, serving_of}
 use Rattle.rist_words.specs.CommandLine.{drill_numbers, drill_counts, drill_links, drill_losses}
 use Rattle.rist_words.specs.CommandLine.{replay_of, show_of, count_of, pack_of, send_of, recv_of, gate_of, drill_of, command_line, taken_line, line_of}
 use Rattle.rist_words.specs.Links.{gate_links_of, links_of, shares_of}
 use Rattle.rist_words.specs.Ranges.{IsInReplay, IsInShow, IsInCount, IsInPack, IsInSend, IsInRecv, IsInGate, IsInDrill, IsInRange}
-use Rattle.rist_words.proofs.PartRanges.{reads, same_some, number_range, position_range, session_range, udp_range, stream_range, links_range, share_range, receiver_range, serving_range, gate_links_range}
+use Rattle.rist_words.proofs.PartRanges.{reads, same_some, number_range, position_range, session_range, incoming_range, udp_range, stream_range, links_range, share_range, receiver_range, serving_range, gate_links_range}
 use Rattle.rist_words.proofs.PartRanges.{default_gap, default_lead, default_store, default_hold, default_linger, default_turns}
 
 replay_range : (rows : List Row) (c : ReplayCommand) → replay_of rows ≡ Some c → IsInReplay c
@@ -139,18 +139,21 @@ recv_range rows c e =
 gate_range : (rows : List Row) (c : GateCommand) → gate_of rows ≡ Some c → IsInGate c
 gate_range rows c e =
     let session = reads (session_of rows) _ c e in
-    let links = reads (gate_links_of session.value.profile (all_of (codes "link") rows) (first_of (codes "in") rows)) _ c session.rest in
+    let incoming = reads (incoming_of session.value rows) _ c session.rest in
+    let links = reads (gate_links_of incoming.value.profile session.value.profile (all_of (codes "link") rows) (first_of (codes "in") rows)) _ c incoming.rest in
     let receiver = reads (receiver_of rows) _ c links.rest in
     let serving = reads (serving_of rows) _ c receiver.rest in
     let stream = reads (stream_of session.value.profile rows) _ c serving.rest in
     let store = reads (number_of stores (first_of (codes "store") rows)) _ c stream.rest in
     let hold = reads (number_of holds (first_of (codes "hold") rows)) _ c store.rest in
     let share = reads (shares_of (length links.value.1) (first_of (codes "share") rows)) _ c hold.rest in
-    let l = gate_links_range session.value.profile (all_of (codes "link") rows) (first_of (codes "in") rows) links.value links.is in
+    let l = gate_links_range incoming.value.profile session.value.profile (all_of (codes "link") rows) (first_of (codes "in") rows) links.value links.is in
+    let own = session_range rows session.value session.is in
     let s = number_range stores (first_of (codes "store") rows) store.value default_store store.is in
     let h = number_range holds (first_of (codes "hold") rows) hold.value default_hold hold.is in
     subst IsInGate (same_some _ _ share.rest) (record {
-      session = session_range rows session.value session.is;
+      incoming = incoming_range session.value rows incoming.value own incoming.is;
+      session = own;
       stream = stream_range session.value.profile rows stream.value stream.is;
       some_input = l.some_input;
       some_output = l.some_output;

@@ -187,6 +187,7 @@ gateway : line_of (codes "rist" ∷ codes "gate" ∷ codes "127.0.0.1:5000" ∷ 
     ≡ Some (Gate (record {
       inputs = record { address = 127 ∷ 0 ∷ 0 ∷ 1 ∷ []; port = 5000 } ∷ [];
       outputs = record { address = 127 ∷ 0 ∷ 0 ∷ 1 ∷ []; port = 5002 } ∷ [];
+      incoming = plain;
       session = plain;
       receiver = plain_receiver;
       serving = plain_serving;
@@ -197,6 +198,52 @@ gateway : line_of (codes "rist" ∷ codes "gate" ∷ codes "127.0.0.1:5000" ∷ 
     }))
 unfolding clap_on_literals faults_of command_in
 gateway = refl
+
+into_a_tunnel : line_of (codes "rist" ∷ codes "gate" ∷ codes "127.0.0.1:5000" ∷ codes "127.0.0.1:5003" ∷ codes "--in-profile=simple" ∷ codes "--profile" ∷ codes "main"
+    ∷ codes "--tunnel=librist" ∷ codes "--pass=p" ∷ codes "--bits=256" ∷ [])
+    ≡ Some (Gate (record {
+      inputs = record { address = 127 ∷ 0 ∷ 0 ∷ 1 ∷ []; port = 5000 } ∷ [];
+      outputs = record { address = 127 ∷ 0 ∷ 0 ∷ 1 ∷ []; port = 5003 } ∷ [];
+      incoming = plain;
+      session = record plain { profile = Main; pass = Some (codes "p"); bits = 256; tunnel = Librist; echo = true };
+      receiver = plain_receiver;
+      serving = plain_serving;
+      stream = plain_stream;
+      store = 4096;
+      hold = 20;
+      share = None;
+    }))
+unfolding clap_on_literals faults_of command_in
+into_a_tunnel = refl
+
+out_of_a_tunnel : line_of (codes "rist" ∷ codes "gate" ∷ codes "127.0.0.1:5001" ∷ codes "127.0.0.1:5002" ∷ codes "--in-profile=main" ∷ codes "--in-port=1970" ∷ codes "--in-pass=p"
+    ∷ codes "--in-bits=256" ∷ codes "--in-full" ∷ codes "--echo" ∷ [])
+    ≡ Some (Gate (record {
+      inputs = record { address = 127 ∷ 0 ∷ 0 ∷ 1 ∷ []; port = 5001 } ∷ [];
+      outputs = record { address = 127 ∷ 0 ∷ 0 ∷ 1 ∷ []; port = 5002 } ∷ [];
+      incoming = record { profile = Main; port = 1970; pass = Some (codes "p"); bits = 256; full = true; tunnel = Own; echo = false };
+      session = record plain { echo = true };
+      receiver = plain_receiver;
+      serving = plain_serving;
+      stream = plain_stream;
+      store = 4096;
+      hold = 20;
+      share = None;
+    }))
+unfolding clap_on_literals faults_of command_in
+out_of_a_tunnel = refl
+
+odd_port_of_a_simple_input : line_of (codes "rist" ∷ codes "gate" ∷ codes "127.0.0.1:5001" ∷ codes "127.0.0.1:5002" ∷ codes "--in-profile=simple" ∷ codes "--profile=main" ∷ []) ≡ None
+unfolding clap_on_literals faults_of command_in
+odd_port_of_a_simple_input = refl
+
+sealed_simple_input : line_of (codes "rist" ∷ codes "gate" ∷ codes "127.0.0.1:5000" ∷ codes "127.0.0.1:5002" ∷ codes "--in-profile=simple" ∷ codes "--in-pass=p" ∷ []) ≡ None
+unfolding clap_on_literals faults_of command_in
+sealed_simple_input = refl
+
+port_without_its_profile : line_of (codes "rist" ∷ codes "gate" ∷ codes "127.0.0.1:5000" ∷ codes "127.0.0.1:5002" ∷ codes "--in-port=1970" ∷ []) ≡ None
+unfolding clap_on_literals faults_of command_in
+port_without_its_profile = refl
 
 gateway_of_one_link : line_of (codes "rist" ∷ codes "gate" ∷ codes "--in=1" ∷ codes "127.0.0.1:5000" ∷ []) ≡ None
 unfolding clap_on_literals faults_of command_in

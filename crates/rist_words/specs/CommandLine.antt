@@ -1,13 +1,12 @@
 -- What a command line is: the command with all its values, where the words are taken and each value reads (this
 -- profile).
-use Rattle.std.specs.Prelude.{Bool, true, false, ℕ, List, [], ◌∷◌, length, Option, Some, None, option_and_then, option_map, if◌then◌else◌, codes}
+use Rattle.std.specs.Prelude.{Bool, true, false, not, ◌&&◌, ℕ, List, [], ◌∷◌, length, Option, Some, None, is_none, is_some, option_and_then, option_map, if◌then◌else◌, codes}
 use Rattle.std.specs.Str.{bytes_eq}
 use Rattle.clap.specs.Words.{Kinds, Row, Text, all_of, first_of}
 use Rattle.gre_tunnel.specs.declared.tunnel.Tunnel.{Tunnel}
 use Rattle.outside_io.specs.declared.profile.Profile.{Profile}
-use Rattle.outside_io.specs.declared.profile.Profile.TheVariants.{Simple, Main}
 use Rattle.rist_words.specs.declared.values.Numbers.{Numbers}
-use Rattle.rist_words.specs.Commands.{faults_of, command_in}
+use Rattle.rist_words.specs.Commands.{SessionNames, faults_of, command_in, incoming_names, session_names}
 use Rattle.outside_net.specs.declared.link_spec.LinkSpec.{LinkSpec}
 use Rattle.request_rules.specs.declared.policy.NackKind.{NackKind}
 use Rattle.rist_words.specs.Values.{echo_of, flag_of, is_set, nack_of, name_of, number_at, number_in, number_of, phrase_of, profile_of, tunnel_of, ◌>>=◌}
@@ -116,11 +115,13 @@ pub record RecvCommand : Type 0 where
   pub receiver : Receiver
   pub serving : Serving
 
--- a stream received on some links and sent on others: what the receiver is set to and its run, and as of a sending the
--- stream, the store, the hold time and the weights of the links that send
+-- a stream received on some links and sent on others: the session of the links that are received on, and that of the
+-- others; what the receiver is set to and its run; and as of a sending the stream, the store, the hold time and the
+-- weights of the links that send
 pub record GateCommand : Type 0 where
   pub inputs : List LinkSpec
   pub outputs : List LinkSpec
+  pub incoming : Session
   pub session : Session
   pub receiver : Receiver
   pub serving : Serving
@@ -240,16 +241,15 @@ drill_links = record { default = 1; least = 1; most = 4; multiple_of = 1 }
 abbrev pub drill_losses : Numbers
 drill_losses = record { default = 0; least = 0; most = 1000; multiple_of = 1 }
 
--- The session that a command's values give. Commands that make no datagrams have no flag for full ones, and those that
--- send no stream none that asks for the round-trip time.
-abbrev pub session_of : List Row → Option Session
-session_of rows = do
-  profile ← profile_of (first_of (codes "profile") rows)
-  port ← number_of ports (first_of (codes "port") rows)
-  pass ← phrase_of profile (first_of (codes "pass") rows)
-  bits ← number_of key_bits (first_of (codes "bits") rows)
-  full ← flag_of profile (first_of (codes "full") rows)
-  tunnel ← tunnel_of profile (first_of (codes "tunnel") rows)
+-- The session that the options of these names give, and whether a sender's reports are to ask for the round-trip time.
+abbrev pub session_named : SessionNames → Bool → List Row → Option Session
+session_named names asks rows = do
+  profile ← profile_of (first_of names.profile rows)
+  port ← number_of ports (first_of names.port rows)
+  pass ← phrase_of profile (first_of names.pass rows)
+  bits ← number_of key_bits (first_of names.bits rows)
+  full ← flag_of profile (first_of names.full rows)
+  tunnel ← tunnel_of profile (first_of names.tunnel rows)
   Some (record {
     profile = profile;
     port = port;
@@ -257,8 +257,26 @@ session_of rows = do
     bits = bits;
     full = full;
     tunnel = tunnel;
-    echo = echo_of tunnel (is_set (first_of (codes "echo") rows));
+    echo = echo_of tunnel asks;
   })
+
+-- The session that a command's values give. Commands that make no datagrams have no flag for full ones, and those that
+-- send no stream none that asks for the round-trip time.
+abbrev pub session_of : List Row → Option Session
+session_of rows = session_named session_names (is_set (first_of (codes "echo") rows)) rows
+
+-- none of the options of these names is given, but perhaps the profile
+abbrev pub are_unset : SessionNames → List Row → Bool
+are_unset names rows =
+    is_none (first_of names.port rows) && (is_none (first_of names.pass rows)
+    && (is_none (first_of names.bits rows) && (not (is_set (first_of names.full rows)) && is_none (first_of names.tunnel rows))))
+
+-- The session of the links that a gateway receives on. Where its profile is given its options say it, and as in a
+-- receiving no flag asks for the round-trip time; else none of them is given, and it is the session of the other links.
+abbrev pub incoming_of : Session → List Row → Option Session
+incoming_of session rows =
+    if is_some (first_of incoming_names.profile rows) then session_named incoming_names false rows
+    else (if are_unset incoming_names rows then Some session else None)
 
 -- the UDP port of a pcap file's datagrams: `--pcap` and `--udp` are given both or neither
 abbrev pub pcap_with : Profile → Bool → Option Text → Option (Option ℕ)
@@ -373,7 +391,8 @@ recv_of rows = do
 abbrev pub gate_of : List Row → Option GateCommand
 gate_of rows = do
   session ← session_of rows
-  links ← gate_links_of session.profile (all_of (codes "link") rows) (first_of (codes "in") rows)
+  incoming ← incoming_of session rows
+  links ← gate_links_of incoming.profile session.profile (all_of (codes "link") rows) (first_of (codes "in") rows)
   receiver ← receiver_of rows
   serving ← serving_of rows
   stream ← stream_of session.profile rows
@@ -383,6 +402,7 @@ gate_of rows = do
   Some (record {
     inputs = links.0;
     outputs = links.1;
+    incoming = incoming;
     session = session;
     receiver = receiver;
     serving = serving;

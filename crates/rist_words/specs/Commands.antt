@@ -17,6 +17,31 @@ rule_for Flag name = record (new_rule name) { long = Some name; action = Some Se
 abbrev pub with_rules : Kind → App → List Text → App
 with_rules kind app names = fold (λ a name. with_rule a (rule_for kind name)) app names
 
+-- The options by which a session is given: its profile, the UDP port of media, the passphrase, the bits of the key, the
+-- flag of full datagrams, and the form of the tunnel.
+pub record SessionNames : Type 0 where
+  pub profile : Text
+  pub port : Text
+  pub pass : Text
+  pub bits : Text
+  pub full : Text
+  pub tunnel : Text
+
+-- those of each command that speaks of a session
+abbrev pub session_names : SessionNames
+session_names = record { profile = codes "profile"; port = codes "port"; pass = codes "pass"; bits = codes "bits"; full = codes "full"; tunnel = codes "tunnel" }
+
+-- those of the links that a gateway receives on
+abbrev pub incoming_names : SessionNames
+incoming_names = record {
+  profile = codes "in-profile";
+  port = codes "in-port";
+  pass = codes "in-pass";
+  bits = codes "in-bits";
+  full = codes "in-full";
+  tunnel = codes "in-tunnel";
+}
+
 -- a command that speaks of a session
 abbrev pub session_app : Text → App
 session_app name = with_rules Valued (new_app name) (codes "profile" ∷ codes "port" ∷ codes "pass" ∷ codes "bits" ∷ codes "tunnel" ∷ [])
@@ -59,11 +84,13 @@ receiver_options =
 abbrev pub recv_app : App
 recv_app = with_rules Positions (with_arguments (session_app (codes "recv")) receiver_options (codes "full" ∷ codes "drift" ∷ []) (codes "out" ∷ [])) (codes "link" ∷ [])
 
--- a gateway: a receiver's options, its own, its flags and its links
+-- a gateway: a receiver's options, its own, its flags and its links. The session of the links that are received on has
+-- options and a flag of its own
 abbrev pub gate_app : App
 gate_app = with_rules Positions (with_arguments (with_rules Valued (session_app (codes "gate")) receiver_options)
-    (codes "flow" ∷ codes "first" ∷ codes "store" ∷ codes "hold" ∷ codes "share" ∷ codes "in" ∷ [])
-    (codes "nulls" ∷ codes "wide" ∷ codes "full" ∷ codes "drift" ∷ codes "echo" ∷ []) []) (codes "link" ∷ [])
+    (codes "flow" ∷ codes "first" ∷ codes "store" ∷ codes "hold" ∷ codes "share" ∷ codes "in" ∷ codes "in-profile" ∷ codes "in-port" ∷ codes "in-pass"
+    ∷ codes "in-bits" ∷ codes "in-tunnel" ∷ [])
+    (codes "nulls" ∷ codes "wide" ∷ codes "full" ∷ codes "drift" ∷ codes "echo" ∷ codes "in-full" ∷ []) []) (codes "link" ∷ [])
 
 -- a simulated run: four positions, and neither options nor flags
 abbrev pub drill_app : App

@@ -60,11 +60,16 @@ each_link profile (text ∷ texts) = do
   links ← each_link profile texts
   Some (link ∷ links)
 
+-- one to sixteen texts
+abbrev pub link_texts : Option (List Text) → Option (List Text)
+link_texts None = None
+link_texts (Some texts) = if nat_lt 0 (length texts) && nat_lt (length texts) 17 then Some texts else None
+
 -- one to sixteen links
 abbrev pub links_of : Profile → Option (List Text) → Option (List LinkSpec)
-links_of profile None = None
-links_of profile (Some texts) =
-    if nat_lt 0 (length texts) && nat_lt (length texts) 17 then each_link profile texts else None
+links_of profile given = do
+  texts ← link_texts given
+  each_link profile texts
 
 -- `--in`: how many of the links receive. At least one is left that sends
 abbrev pub input_counts : ℕ → Numbers
@@ -74,12 +79,14 @@ input_counts links = record { default = 1; least = 1; most = links - 1; multiple
 abbrev pub inputs_of : ℕ → Option Text → Option ℕ
 inputs_of links given = if nat_lt links 2 then None else number_of (input_counts links) given
 
--- a gateway's links: those that receive, which stand first, and those that send
-abbrev pub gate_links_of : Profile → Option (List Text) → Option Text → Option (List LinkSpec × List LinkSpec)
-gate_links_of profile texts given = do
-  links ← links_of profile texts
-  inputs ← inputs_of (length links) given
-  Some (take inputs links, drop inputs links)
+-- a gateway's links: those that receive, which stand first, in one profile, and those that send, in another
+abbrev pub gate_links_of : Profile → Profile → Option (List Text) → Option Text → Option (List LinkSpec × List LinkSpec)
+gate_links_of incoming onward given count = do
+  texts ← link_texts given
+  inputs ← inputs_of (length texts) count
+  received ← each_link incoming (take inputs texts)
+  sent ← each_link onward (drop inputs texts)
+  Some (received, sent)
 
 -- a link's weight
 abbrev pub link_weights : Numbers

@@ -117,9 +117,10 @@ pub record IsInRecv (c : RecvCommand) : Type 0 where
   pub receiver : IsInReceiver c.receiver
   pub serving : IsInServing c.serving
 
--- a link or more that receives and one or more that sends, sixteen in all at most; a weight for each that sends where
--- they share; and what the receiver, its run and the sender are set to
+-- a link or more that receives and one or more that sends, sixteen in all at most, and a session for each; a weight for
+-- each that sends where they share; and what the receiver, its run and the sender are set to
 pub record IsInGate (c : GateCommand) : Type 0 where
+  pub incoming : IsInSession c.incoming
   pub session : IsInSession c.session
   pub stream : IsInStream c.session.profile c.stream
   pub some_input : 1 ≤ length c.inputs

@@ -14,7 +14,13 @@ use Rattle.rist_words.specs.declared.lines.ServingWords.{ServingWords}
 use Rattle.rist_words.specs.declared.lines.RecvLine.{RecvLine}
 use Rattle.rist_words.specs.declared.lines.GateLine.{GateLine}
 use Rattle.rist_words.specs.declared.lines.DrillLine.{DrillLine}
+use Rattle.rist_words.specs.declared.session.SessionOptions.{SessionOptions}
+use Rattle.rist_words.specs.Commands.{SessionNames}
 use Rattle.rist_words.specs.CommandLine.{CommandLine, Replay, Show, Count, Pack, Send, Recv, Gate, Drill, Session, Stream, Receiver, Serving, ReplayCommand, ShowCommand, CountCommand, PackCommand, SendCommand, RecvCommand, GateCommand, DrillCommand}
+
+-- the names of a session's options
+abbrev pub shown_names : SessionOptions → SessionNames
+shown_names o = record { profile = o.profile.now; port = o.port.now; pass = o.pass.now; bits = o.bits.now; full = o.full.now; tunnel = o.tunnel.now }
 
 -- the session of a line
 abbrev pub shown_session : SessionWords → Session
@@ -73,6 +79,7 @@ abbrev pub shown_gate : GateLine → GateCommand
 shown_gate l = record {
   inputs = l.inputs.items;
   outputs = l.outputs.items;
+  incoming = shown_session l.incoming;
   session = shown_session l.session;
   receiver = shown_receiver l.receiver;
   serving = shown_serving l.serving;

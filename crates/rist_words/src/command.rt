@@ -56,10 +56,23 @@ static RECEIVER_OPTIONS: [&str; 11] = [
     "delay", "span", "restart", "reorder", "least", "tries", "nack", "own", "turns", "idle", "keep",
 ];
 
-/// The flags of a gateway.
-static GATE_FLAGS: [&str; 5] = ["nulls", "wide", "full", "drift", "echo"];
+/// The flags of a gateway, the last that of the links that it receives on.
+static GATE_FLAGS: [&str; 6] = ["nulls", "wide", "full", "drift", "echo", "in-full"];
 
-static GATE_OPTIONS: [&str; 6] = ["flow", "first", "store", "hold", "share", "in"];
+/// The options of a gateway, the last those of the session of the links that it receives on.
+static GATE_OPTIONS: [&str; 11] = [
+    "flow",
+    "first",
+    "store",
+    "hold",
+    "share",
+    "in",
+    "in-profile",
+    "in-port",
+    "in-pass",
+    "in-bits",
+    "in-tunnel",
+];
 
 static DRILL: [&str; 4] = ["number", "count", "links", "loss"];
 

@@ -210,7 +210,9 @@ pub struct GateLine<'a> {
     pub inputs: Vec<LinkSpec>,
     /// Where what is received is sent, one or more addresses, and with the inputs at most sixteen.
     pub outputs: Vec<LinkSpec>,
-    /// How datagrams are read and made.
+    /// How the datagrams of the inputs are read, and how the answers are made.
+    pub incoming: SessionWords<'a>,
+    /// How those of the outputs are made and read.
     pub session: SessionWords<'a>,
     /// What its receiver is set to.
     pub receiver: ReceiverWords,

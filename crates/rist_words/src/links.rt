@@ -1,7 +1,7 @@
 //! Links, and the weights by which they share a stream.
 ghost use Rattle.std.specs.Prelude.{◌≡◌, ◌<◌, ◌≤◌, ◌++◌, ◌∷◌, [], Err, Some, None, IfOk, IfSome, OnOk, codes, length, map, option_map};
 ghost use Rattle.clap.specs.Words.{all_of, first_of, found_of, rows_of};
-ghost use Rattle.rist_words.specs.Links.{address_of, each_link, gate_links_of, input_counts, inputs_of, link_of, link_ports, links_of, shares_of, split_at, weights_in};
+ghost use Rattle.rist_words.specs.Links.{address_of, each_link, gate_links_of, input_counts, inputs_of, link_of, link_ports, link_texts, links_of, shares_of, split_at, weights_in};
 
 use crate::lines::Refused;
 use crate::values::{Numbers, given, number, number_in};
@@ -39,35 +39,49 @@ pub fn links(
         → links_of profile (all_of (codes "link") (rows_of (found_of values.now))) ≡ None }
     ensures some { IfOk result (λ links. 1 ≤ length links.items) }
 {
-    match all_given(values, "link") {
-        Some(texts) if !texts.is_empty() && texts.len() <= MAX_LINKS => {
-            each_link(alloc, profile, texts)
-        }
-        _ => Err(Refused::Usage),
+    match link_texts(values) {
+        Some(texts) => each_link(alloc, profile, texts),
+        None => Err(Refused::Usage),
     }
 }
 
-/// The links of a gateway: those that receive, which are given first, and those that send.
+/// The texts of links, one to sixteen.
+pub fn link_texts<'m, 'a>(values: &'m ArgMatches<'a>) -> Option<&'m [&'a str]>
+    ensures value { option_map (λ texts. map (λ t. t.now) texts.now) result
+        ≡ link_texts (all_of (codes "link") (rows_of (found_of values.now))) }
+    ensures count { IfSome result (λ texts. (1 ≤ length texts.now) × (length texts.now ≤ 16)) }
+{
+    match all_given(values, "link") {
+        Some(texts) if !texts.is_empty() && texts.len() <= MAX_LINKS => Some(texts),
+        _ => None,
+    }
+}
+
+/// The links of a gateway: those that receive, which are given first, in one profile, and those that send in another.
 pub fn gate_links(
     alloc: Global,
     values: &ArgMatches<'_>,
-    profile: Profile,
+    incoming: Profile,
+    onward: Profile,
 ) -> Result<(Vec<LinkSpec>, Vec<LinkSpec>), Refused>
-    ensures ok { IfOk result (λ links. gate_links_of profile (all_of (codes "link") (rows_of (found_of values.now)))
+    ensures ok { IfOk result (λ links.
+        gate_links_of incoming onward (all_of (codes "link") (rows_of (found_of values.now)))
         (first_of (codes "in") (rows_of (found_of values.now))) ≡ Some (links.0.items, links.1.items)) }
     ensures usage { result ≡ Err Refused.Usage
-        → gate_links_of profile (all_of (codes "link") (rows_of (found_of values.now)))
+        → gate_links_of incoming onward (all_of (codes "link") (rows_of (found_of values.now)))
         (first_of (codes "in") (rows_of (found_of values.now))) ≡ None }
     ensures some { IfOk result (λ links. 1 ≤ length links.1.items) }
 {
-    let mut inputs = links(alloc, values, profile)?;
-    let count = inputs_of(values, inputs.len()).ok_or(Refused::Usage)?;
-    let outputs = inputs.split_off(count)?;
+    let texts = link_texts(values).ok_or(Refused::Usage)?;
+    let count = inputs_of(values, texts.len()).ok_or(Refused::Usage)?;
+    let (received, sent) = texts.split_at(count);
+    let inputs = each_link(alloc, incoming, received)?;
+    let outputs = each_link(alloc, onward, sent)?;
     Ok((inputs, outputs))
 }
 
 /// How many of the links receive: fewer than all.
-fn inputs_of(values: &ArgMatches<'_>, links: usize) -> Option<usize>
+pub fn inputs_of(values: &ArgMatches<'_>, links: usize) -> Option<usize>
     ensures value { result ≡ inputs_of links (first_of (codes "in") (rows_of (found_of values.now))) }
     ensures fewer { IfSome result (λ n. n < links) }
 {

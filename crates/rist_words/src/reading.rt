@@ -12,7 +12,7 @@ use crate::links::{gate_links, links, share};
 use crate::matching::matched;
 use crate::pcap::pcap;
 use crate::receiving::{DELAY, RESTART, SPAN, TURNS, receiver, serving};
-use crate::session::{session, stream};
+use crate::session::{incoming, session, stream};
 use crate::values::{Numbers, is_set, name, number};
 use clap::ArgMatches;
 use std::alloc::Global;
@@ -207,7 +207,8 @@ fn gate_line<'a>(alloc: Global, values: &ArgMatches<'a>) -> Result<GateLine<'a>,
     ensures usage { result ≡ Err Refused.Usage → gate_of (rows_of (found_of values.now)) ≡ None }
 {
     let session = session(values).ok_or(Refused::Usage)?;
-    let (inputs, outputs) = gate_links(alloc, values, session.profile)?;
+    let incoming = incoming(values, session).ok_or(Refused::Usage)?;
+    let (inputs, outputs) = gate_links(alloc, values, incoming.profile, session.profile)?;
     let receiver = receiver(values).ok_or(Refused::Usage)?;
     let serving = serving(values).ok_or(Refused::Usage)?;
     let stream = stream(values, session.profile).ok_or(Refused::Usage)?;
@@ -217,6 +218,7 @@ fn gate_line<'a>(alloc: Global, values: &ArgMatches<'a>) -> Result<GateLine<'a>,
     Ok(GateLine {
         inputs,
         outputs,
+        incoming,
         session,
         receiver,
         serving,
