@@ -1,0 +1,27 @@
+//! One of several flows, and what a step came to there.
+use rist_ends::{Answer, Outs, Receiver};
+
+/// A receiver and its sink.
+#[derive(Drop)]
+pub struct Flow<K> {
+    pub receiver: Receiver,
+    pub sink: K,
+}
+
+/// What a step came to at one receiver, in memory of the caller's.
+#[derive(Drop)]
+pub struct Came {
+    pub answer: Answer,
+    /// The datagrams that it made, where the answer is `Made`.
+    pub outs: Outs,
+}
+
+impl Came {
+    /// Memory for a step, before there was one.
+    pub fn none() -> Came {
+        Came {
+            answer: Answer::Nothing,
+            outs: Outs::none(),
+        }
+    }
+}
