@@ -1,8 +1,9 @@
 #!/bin/sh
 # Sends 8,000 pieces of 1,316 octets, one each millisecond, with librist's `ristsender` (Debian: rist-tools) to `rist recv`, and
-# compares octets: straight, and through relay.py with 4 per cent of the datagrams lost each way, by both kinds of request.
+# compares octets: straight, and through relay.py with 4 per cent of the datagrams lost each way, by both kinds of request; then
+# with each datagram on two links, of which one is cut in the middle, and as many lost.
 # Pieces before the first that came and after the last can't be known to be missing; none may be missing between, and none may
-# come twice. It takes a minute, needs python3, uses 127.0.0.1 alone and writes only below a new folder in /tmp. Where a
+# come twice. It takes a minute and a half, needs python3, uses 127.0.0.1 alone and writes only below a new folder in /tmp. Where a
 # tool isn't there it says so and ends with status 3, without `recv` with status 4.
 set -eu
 here=$(cd "$(dirname "$0")" && pwd)
@@ -15,7 +16,7 @@ trap 'kill $started 2> /dev/null || true; rm -rf "$work"' EXIT
 need_recv
 python3 "$here/pieces.py" make "$work/source" 8000
 
-# try NAME TO RELAY RECV: what `recv` gets of ristsender, which sends to port TO, through a relay with the words RELAY, if any.
+# try NAME TO RELAY RECV: what `recv RECV` gets of ristsender, which sends to the links TO, through a relay with the words RELAY, if any.
 try() {
     name=$1 to=$2 relay=$3 recv=$4
     echo "$name"
@@ -25,10 +26,10 @@ try() {
         started="$!"
         await_ready "$work/relay"
     fi
-    timeout 60 "$top/bin/rist" recv "$work/came" 127.0.0.1:5000 --idle 4000 $recv > "$work/log" 2>&1 &
+    timeout 60 "$top/bin/rist" recv "$work/came" $recv --idle 4000 > "$work/log" 2>&1 &
     receiver=$!
     sleep 0.5
-    timeout 60 ristsender -p 0 -i 'udp://@127.0.0.1:6000' -o "rist://127.0.0.1:$to" > "$work/ristsender" 2>&1 &
+    timeout 60 ristsender -p 0 -i 'udp://@127.0.0.1:6000' -o "$to" > "$work/ristsender" 2>&1 &
     sender=$!
     started="$started $receiver $sender"
     sleep 1.5
@@ -48,8 +49,11 @@ try() {
 }
 
 bad=0
-try 'straight' 5000 '' '' || bad=1
-lossy='--lose 4 --lose-back 4 --delay 5 --seed 7 --whole 100 --quiet 3 7000:5000'
-try '4 per cent lost each way, range requests' 7000 "$lossy" '--nack range' || bad=1
-try '4 per cent lost each way, mask requests' 7000 "$lossy" '--nack mask' || bad=1
+one='rist://127.0.0.1:7000'
+try 'straight' 'rist://127.0.0.1:5000' '' '127.0.0.1:5000' || bad=1
+lossy='--lose 4 --lose-back 4 --delay 5 --seed 7 --whole 100 --quiet 3'
+try '4 per cent lost each way, range requests' "$one" "$lossy 7000:5000" '127.0.0.1:5000 --nack range' || bad=1
+try '4 per cent lost each way, mask requests' "$one" "$lossy 7000:5000" '127.0.0.1:5000 --nack mask' || bad=1
+try 'two links, the second cut after 4,000, 4 per cent lost each way' "$one,rist://127.0.0.1:7100" \
+    "$lossy --cut 1@4000 7000:5000 7100:5100" '127.0.0.1:5000 127.0.0.1:5100' || bad=1
 exit $bad

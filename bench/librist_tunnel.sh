@@ -3,7 +3,8 @@
 # octets, one each 3 ms, through relay.py with 5 per cent of the datagrams lost each way, `rist send` to `ristreceiver` and `ristsender`
 # to `rist recv`: in clear, under AES-128 and AES-256, and with null packets deleted, each enciphered and in clear. What came is compared
 # octet for octet. Pieces before the first that came and after the last can't be known to be missing: at most two before, and twenty after
-# where librist sends, since its sender is stopped. None may be missing between. Then `send` through `gate` to `ristreceiver`, in clear and enciphered.
+# where librist sends, since its sender is stopped. None may be missing between. Then `send` through `gate` to `ristreceiver`, in clear and enciphered, and
+# from the Simple Profile into an enciphered tunnel.
 #
 # With NAMES only the runs of these names, as `send-clear recv-128 gate-128`. COUNT, GAP (microseconds) and RIST in the environment stand
 # for another count of pieces, another gap, and another program than the one that is built here. It takes five minutes, needs python3,
@@ -27,6 +28,7 @@ python3 "$here/pieces.py" make "$work/nulls" "$count" nulls
 wanted=" $* "
 lossy='--one-port --lose 5 --lose-back 5 --delay 5 --seed 61 --quiet 4 7000:5000'
 sealed='--pass drill --bits'
+tunnel='--profile main --tunnel librist'
 
 # chosen NAME: whether the run of this name is wanted; it says so.
 chosen() {
@@ -97,18 +99,19 @@ received() {
     ended "$work/$2" "$work/came" 2 20 && [ "$status" = 0 ]
 }
 
-# gated NAME LIBRIST RIST: `rist send` through `rist gate` to ristreceiver, with the losses between the last two.
+# gated NAME LIBRIST RIST SEND GATE: `rist send` with the words SEND through `rist gate` with the words RIST and GATE to ristreceiver, with the
+# losses between the last two.
 gated() {
     chosen "$1" || return 0
     relayed
     taken "$2"
-    timeout 100 "$RIST" gate 127.0.0.1:4000 127.0.0.1:7000 --profile main --tunnel librist --idle 4000 $3 \
+    timeout 100 "$RIST" gate 127.0.0.1:4000 127.0.0.1:7000 $tunnel --idle 4000 $3 $5 \
         > "$work/gate" 2>&1 &
     gate=$!
     started="$started $gate"
     sleep 0.5
     status=0
-    timeout 100 "$RIST" send "$work/plain" 127.0.0.1:4000 --profile main --tunnel librist --lead 500 --gap "$gap" --linger 2000 --flow 6 $3 \
+    timeout 100 "$RIST" send "$work/plain" 127.0.0.1:4000 --lead 500 --gap "$gap" --linger 2000 --flow 6 $4 \
         > "$work/log" 2>&1 || status=$?
     wait $gate || status=$?
     sleep 1
@@ -127,6 +130,7 @@ received recv-128 plain '-s drill -e 128' "$sealed 128" || bad=1
 received recv-256 plain '-s drill -e 256' "$sealed 256" || bad=1
 received recv-nulls nulls '-n' '' || bad=1
 received recv-nulls-128 nulls '-n -s drill -e 128' "$sealed 128" || bad=1
-gated gate-clear '' '' || bad=1
-gated gate-128 '-s drill -e 128' "$sealed 128" || bad=1
+gated gate-clear '' '' "$tunnel" '' || bad=1
+gated gate-128 '-s drill -e 128' "$sealed 128" "$tunnel $sealed 128" '' || bad=1
+gated gate-simple-128 '-s drill -e 128' "$sealed 128" '' '--in-profile simple' || bad=1
 exit $bad
