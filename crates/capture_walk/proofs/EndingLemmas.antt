@@ -7,7 +7,7 @@ use Rattle.outside_io.specs.Told.{Passage, Appends, AppendsBetween, IsReadTo, Ta
 use Rattle.outside_io.proofs.ToldLemmas.{appends_both}
 use Rattle.capture_file.specs.Capture.{Record}
 use Rattle.capture_walk.specs.Form.{Form}
-use Rattle.capture_walk.specs.Leaves.{HasGiven, EndsAfter, WantsMemory, IsUnbegun, Leaves, passage}
+use Rattle.capture_walk.specs.Leaves.{HasGiven, EndsAfter, IfBrought, WantsMemory, IsUnbegun, Leaves, passage}
 use Rattle.capture_walk.specs.declared.walk_bad.WalkBad.{WalkBad}
 use Rattle.capture_walk.specs.declared.walk_bad.WalkBad.TheVariants as bads
 
@@ -146,3 +146,13 @@ given_back form so_far whole most (Some b) rest spent old new ahead (Err bads.Me
     inl (record { done = f.done; last = f.last; read = given_on form most (f.done ++ f.last ∷ []) b rest spent ahead told bound f.read; written = f.written })
 given_back form so_far whole most (Some b) rest spent old new ahead (Err bads.Memory) none told bound (inr f) =
     inr (record { read = read_back most [] b rest spent ahead told bound f.read; written = f.written })
+
+-- what holds of a walk's end
+pub brought : (end : Result Unit WalkBad) (P : Type 0) → P → IfBrought end P
+brought (Ok x) P p = p
+brought (Err (bads.BadCapture kind at)) P p = p
+brought (Err (bads.BadPcap kind at)) P p = p
+brought (Err bads.TooLong) P p = p
+brought (Err bads.ReadFault) P p = p
+brought (Err bads.WriteFault) P p = tt
+brought (Err bads.Memory) P p = tt

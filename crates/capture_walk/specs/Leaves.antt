@@ -70,6 +70,27 @@ Leaves form so_far whole ahead p (Err bads.WriteFault) = IfSome p.had (λ b. Fai
 Leaves form so_far whole ahead p (Err bads.Memory) = IfSome p.had (λ b. WantsMemory form so_far ahead b p ⊎ IsUnbegun ahead b p)
 Leaves form so_far whole ahead p end = IfSome p.had (λ b. (done : List Record) × EndsAfter form 0 b p.left done end × Appends p.held p.holds (whole done))
 
+-- ---- what a visitor took
+
+-- P holds where a walk brought its visitor the end: no write failed, and no memory was refused
+abbrev pub IfBrought : Result Unit WalkBad → Type 0 → Type 0
+IfBrought (Ok x) P = P
+IfBrought (Err (bads.BadCapture kind at)) P = P
+IfBrought (Err (bads.BadPcap kind at)) P = P
+IfBrought (Err bads.TooLong) P = P
+IfBrought (Err bads.ReadFault) P = P
+IfBrought (Err bads.WriteFault) P = Unit {0}
+IfBrought (Err bads.Memory) P = Unit {0}
+
+-- some records and then the end were seen; where the source tells, they are the whole records that were read of it before
+-- what ends a walk so
+pub record Brought (form : Form) (had left : Option (List ℕ)) (has_seen : List Record → Type 0) (end : Result Unit WalkBad) : Type 0 where
+  pub done : List Record
+  pub seen : has_seen done
+  pub read : IfSome had (λ b. EndsAfter form 0 b left done end)
+
+-- ----
+
 -- what remained of a source and remains, and what a sink held and holds
 abbrev pub passage : Option (List ℕ) → Option (List ℕ) → Option (List ℕ) → Option (List ℕ) → Passage
 passage had left held holds = record { had = had; left = left; held = held; holds = holds }

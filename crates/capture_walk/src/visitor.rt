@@ -45,6 +45,9 @@ pub trait Visitor {
     /// These are the records that it took, and no call failed.
     ghost has_seen: { Self → List Record → Type 0 };
 
+    /// These are the records that it took, and the end after them, and no call failed.
+    ghost has_ended: { Self → List Record → Type 0 };
+
     /// Whether it may want memory for a record.
     ghost wants_memory: { Bool };
 
@@ -72,6 +75,7 @@ pub trait Visitor {
 
     /// Takes the end.
     fn finish<K: Sink>(&mut self, sink: &mut K) -> Result<(), Failed>
+        ensures seen { OnOk result ((done : List Record) → has_seen self.old done → has_ended self.new done) }
         ensures sink { OnOk result ((done : List Record) → has_seen self.old done
             → Writes (K.contents sink.old) (K.contents sink.new)
             (so_far self.old done) (whole self.old done)) }

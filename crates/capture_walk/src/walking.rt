@@ -5,7 +5,7 @@ ghost use Rattle.outside_io.specs.Told.{Writes, WritesPart};
 ghost use Rattle.capture_file.specs.Capture.{Record, Fits};
 ghost use Rattle.capture_file.specs.Heads.{record_of};
 ghost use Rattle.capture_walk.specs.Causes.{walk_fault, visit_fault};
-ghost use Rattle.capture_walk.specs.Leaves.{Leaves, passage};
+ghost use Rattle.capture_walk.specs.Leaves.{Brought, IfBrought, Leaves, passage};
 ghost use Rattle.capture_walk.specs.Inside.Turns.{IfOn, IfOver};
 ghost use Rattle.capture_walk.specs.Inside.Sofar.{Sofar};
 ghost use Rattle.capture_walk.specs.declared.walk_bad.WalkBad.TheVariants.{ReadFault, WriteFault, Memory};
@@ -31,6 +31,9 @@ pub fn walk<R: Records, V: Visitor, K: Sink>(
     ensures work { Leaves (R.form reader.old) (V.so_far visitor.old) (V.whole visitor.old) 0
         (passage (R.remaining reader.old) (R.remaining reader.new) (K.contents sink.old) (K.contents sink.new))
         result }
+    // Unless a write failed or memory was refused, the visitor took the whole records that were read, and the end.
+    ensures seen { IfBrought result (Brought (R.form reader.old) (R.remaining reader.old) (R.remaining reader.new)
+        (V.has_ended visitor.new) result) }
     // Where a write fails before the capture has come to an end, no read has failed.
     ensures stopped { IsErrOf result WriteFault
         → (R.faults reader.new ≡ R.faults reader.old) ⊎ (R.spent reader.new ≡ true) }
@@ -63,6 +66,9 @@ fn visit_next<R: Records, V: Visitor, K: Sink>(
         → Sofar (V.so_far visitor.old) R.has_read V.has_seen first reader.old visitor.old u (K.contents sink.old)
         → Leaves (R.form reader.old) (V.so_far visitor.old) (V.whole visitor.old) 0
         (passage first (R.remaining reader.new) u (K.contents sink.new)) end) }
+    ensures seen { IfOver result (λ end. (first u : Option (List ℕ))
+        → Sofar (V.so_far visitor.old) R.has_read V.has_seen first reader.old visitor.old u (K.contents sink.old)
+        → IfBrought end (Brought (R.form reader.old) first (R.remaining reader.new) (V.has_ended visitor.new) end)) }
     ensures same { IfOn result ((V.so_far visitor.new ≡ V.so_far visitor.old)
         × (V.whole visitor.new ≡ V.whole visitor.old)) }
     ensures form { R.form reader.new ≡ R.form reader.old }

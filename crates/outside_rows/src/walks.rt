@@ -26,6 +26,8 @@ impl Visitor for Copier {
 
     ghost has_seen = { λ _ rs. Unit {0} };
 
+    ghost has_ended = { λ _ rs. Unit {0} };
+
     ghost wants_memory = { false };
 
     #[tactic(auto, using(crate::proofs::CopyLemmas::writes_more, crate::proofs::CopyLemmas::writes_part))]

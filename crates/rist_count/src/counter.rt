@@ -23,6 +23,8 @@ impl Visitor for Counter {
 
     ghost has_seen = { λ c rs. HasReplayed c.replayer.opener c.replayer.receiver rs };
 
+    ghost has_ended = { λ _ rs. Unit {0} };
+
     ghost wants_memory = { false };
 
     fn record<K: Sink>(

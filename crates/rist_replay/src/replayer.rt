@@ -77,6 +77,9 @@ impl Visitor for Replayer {
 
     ghost has_seen = { λ r rs. HasReplayed r.opener r.receiver rs };
 
+    // Nothing is said of a receiver that was told the end.
+    ghost has_ended = { λ r rs. Unit {0} };
+
     ghost wants_memory = { false };
 
     fn record<K: Sink>(

@@ -45,6 +45,8 @@ impl Visitor for Printer {
 
     ghost has_seen = { λ p rs. Unit {0} };
 
+    ghost has_ended = { λ p rs. Unit {0} };
+
     ghost wants_memory = { true };
 
     fn record<K: Sink>(

@@ -2,9 +2,9 @@
 use Rattle.std.proofs.Common.{ℕ, List, Option, [], ◌∷◌, ◌++◌, ap, sym, subst, IfSome}
 use Rattle.std.specs.Prelude.{Err, Ok}
 use Rattle.capture_file.specs.Heads.{record_of}
-use Rattle.capture_walk.specs.Leaves.{HasGiven}
+use Rattle.capture_walk.specs.Leaves.{Brought, HasGiven}
 use Rattle.capture_walk.proofs.GoingLemmas.{gained}
-use Rattle.capture_walk.proofs.EndingLemmas.{ended_told, front_told, end_front_told, refused_told}
+use Rattle.capture_walk.proofs.EndingLemmas.{brought, ended_told, front_told, end_front_told, refused_told}
 use Rattle.capture_walk.proofs.walking.visit_next.Goals as goal
 
 pub returns-in-Ok-clause-on : goal.returns-in-Ok-clause-on
@@ -60,3 +60,14 @@ returns-in-Err-finish-2-clause-over g c first u sofar =
     end_front_told (g.R.Records.form c.args.reader.now) (g.V.Visitor.so_far c.args.visitor.now) (g.V.Visitor.whole c.args.visitor.now) first (g.R.Records.remaining c.next_record.new.self)
     u (g.K.Sink.contents c.args.sink.now) (g.K.Sink.contents c.finish-in-Err.new.sink) sofar.done (Err c.in-Err.bad) (c.in-Err.ensures.end first sofar.done sofar.read) sofar.sink
     (c.in-Err-finish-2.ensures.part sofar.done sofar.seen)
+
+pub returns-in-Ok-finish-clause-seen : goal.returns-in-Ok-finish-clause-seen
+returns-in-Ok-finish-clause-seen g c first u sofar =
+    let e = rw c.in-Ok-None.field-0-is at c.in-Ok-None.ensures in
+    record { done = sofar.done; seen = c.in-Ok-finish.ensures.seen sofar.done sofar.seen; read = e.end first sofar.done sofar.read }
+
+pub returns-in-Ok-finish-2-clause-seen : goal.returns-in-Ok-finish-2-clause-seen
+returns-in-Ok-finish-2-clause-seen g c first u sofar =
+    let seen : Brought (g.R.Records.form c.args.reader.now) first (g.R.Records.remaining c.next_record.new.self) (g.V.Visitor.has_ended c.finish-in-Err.new.self) (Err c.in-Err.bad) =
+    record { done = sofar.done; seen = c.in-Ok-finish-2.ensures.seen sofar.done sofar.seen; read = c.in-Err.ensures.end first sofar.done sofar.read } in
+    brought (Err c.in-Err.bad) _ seen
