@@ -1,0 +1,11 @@
+//! The split of a capture: each record of a tunnel is told to the receivers of several flows, and each output gains what a replay
+//! in the session of its port writes.
+#![tactic(auto)]
+
+mod finding;
+mod splitter;
+mod splitting;
+mod start;
+
+pub use splitting::{SplitEnd, split};
+pub use start::Start;
