@@ -1,4 +1,6 @@
 //! One of several flows, and what a step came to there.
+ghost use Rattle.std.specs.Prelude.{◌≡◌, [], None};
+
 use rist_ends::{Answer, Outs, Receiver};
 
 /// A receiver and its sink.
@@ -18,7 +20,10 @@ pub struct Came {
 
 impl Came {
     /// Memory for a step, before there was one.
-    pub fn none() -> Came {
+    pub fn none() -> Came
+        ensures answer { result.answer ≡ Answer.Nothing }
+        ensures outs { (result.outs.first.octets ≡ []) × (result.outs.second ≡ None) × (result.outs.asked ≡ []) }
+    {
         Came {
             answer: Answer::Nothing,
             outs: Outs::none(),

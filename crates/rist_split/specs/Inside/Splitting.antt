@@ -78,10 +78,11 @@ AllSplitFrom {K} contents faults start new is rs =
 
 -- ---- what a split is named by
 
--- what the sink at a place holds, and its count of faults
+-- what the sink at a place holds
 abbrev pub held_in : {K : Type 0} → (K → Option (List ℕ)) → List (Flow K) → ℕ → Option (List ℕ)
 held_in contents flows v = unwrap_or (option_map (λ flow. contents flow.sink) (slice_get flows v)) None
 
+-- how often a call of the sink at a place failed
 abbrev pub faults_in : {K : Type 0} → (K → ℕ) → List (Flow K) → ℕ → ℕ
 faults_in faults flows v = unwrap_or (option_map (λ flow. faults flow.sink) (slice_get flows v)) 0
 
