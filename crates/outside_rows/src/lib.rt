@@ -21,4 +21,6 @@ mod opening;
 #[cfg(test)]
 mod pieces;
 #[cfg(test)]
+mod sinks;
+#[cfg(test)]
 mod walks;
