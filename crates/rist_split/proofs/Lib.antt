@@ -1,2 +1,4 @@
 pub mod TellingLemmas
 pub mod SplitLemmas
+pub mod OutputLemmas
+pub mod FlowLemmas

@@ -3,9 +3,14 @@
 #![tactic(auto)]
 
 mod finding;
+mod made;
+mod outputs;
+mod seating;
 mod splitter;
 mod splitting;
 mod start;
 
+pub use made::{Made, make};
+pub use outputs::split_into;
 pub use splitting::{SplitEnd, split};
 pub use start::Start;

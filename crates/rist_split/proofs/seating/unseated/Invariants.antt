@@ -1,0 +1,13 @@
+-- the flows that are left, and the sinks behind them
+use Rattle.std.proofs.Common.{◌≡◌, ◌≤◌, ◌+◌, ◌++◌, length, map}
+use Rattle.std.specs.Prelude.{vec_capacity}
+use Rattle.rist_split.specs.Inside.Making.{sink_of}
+use Rattle.rist_split.proofs.seating.unseated.Given as goal
+
+abbrev pub invariant-loop-flow : goal.invariant-loop-flow
+invariant-loop-flow g l =
+    (length l.sinks.items + length l.more.items + 1 ≤ vec_capacity l.sinks)
+    × (map sink_of l.more.items ++ l.sinks.items ≡ map sink_of l.initial.more.items)
+
+abbrev pub decreases-loop-flow : goal.decreases-loop-flow
+decreases-loop-flow g l = length l.more.items
