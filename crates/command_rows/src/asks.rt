@@ -5,7 +5,7 @@ use std::alloc::Global;
 use std::test::Fail;
 
 /// Words, and what they ask for.
-static ASKS: [(&str, Option<Ask>); 24] = [
+static ASKS: [(&str, Option<Ask>); 25] = [
     ("rist --help", Some(Ask::Help)),
     ("other --help", Some(Ask::Help)),
     ("rist --version", Some(Ask::Version)),
@@ -13,6 +13,7 @@ static ASKS: [(&str, Option<Ask>); 24] = [
     ("rist show --help", Some(Ask::HelpOf(Topic::Show))),
     ("rist count --help", Some(Ask::HelpOf(Topic::Count))),
     ("rist pack --help", Some(Ask::HelpOf(Topic::Pack))),
+    ("rist split --help", Some(Ask::HelpOf(Topic::Split))),
     ("rist send --help", Some(Ask::HelpOf(Topic::Send))),
     ("rist recv --help", Some(Ask::HelpOf(Topic::Recv))),
     ("rist gate --help", Some(Ask::HelpOf(Topic::Gate))),
@@ -42,7 +43,7 @@ fn all_asked(alloc: Global) -> Result<bool, Fail> {
 }
 
 /// Words that are no line, and what is said of them.
-static COMPLAINTS: [(&str, &str); 41] = [
+static COMPLAINTS: [(&str, &str); 54] = [
     ("rist", "a command is missing (rist --help)"),
     (
         "rist play a b",
@@ -197,6 +198,58 @@ static COMPLAINTS: [(&str, &str); 41] = [
         "SOURCE: a name isn't empty (rist pack --help)",
     ),
     (
+        "rist split - 1969=a",
+        "OUTS 1969=a: an even port from 2 to 65534 and a name, as 1968=a (rist split --help)",
+    ),
+    (
+        "rist split - 1968=a,1970",
+        "OUTS 1968=a,1970: an even port from 2 to 65534 and a name, as 1968=a (rist split --help)",
+    ),
+    (
+        "rist split - 1968=a,1968=b",
+        "OUTS 1968=a,1968=b: a port is given twice (rist split --help)",
+    ),
+    (
+        "rist split - 1968=a,1970=a",
+        "OUTS 1968=a,1970=a: a name is given twice (rist split --help)",
+    ),
+    (
+        "rist split - 2=a,4=b,6=c,8=d,10=e,12=f,14=g,16=h,18=i",
+        "OUTS 2=a,4=b,6=c,8=d,10=e,12=f,14=g,16=h,18=i: at most eight (rist split --help)",
+    ),
+    (
+        "rist split  1968=a",
+        "CAPTURE: a name isn't empty (rist split --help)",
+    ),
+    (
+        "rist split - 1968=a --profile main",
+        "unexpected argument '--profile' found (rist split --help)",
+    ),
+    (
+        "rist split - 1968=a --port 1968",
+        "unexpected argument '--port' found (rist split --help)",
+    ),
+    (
+        "rist split - 1968=a --pass=",
+        "--pass: 1 to 128 octets (rist split --help)",
+    ),
+    (
+        "rist split - 1968=a --tunnel gre",
+        "--tunnel gre: own or librist (rist split --help)",
+    ),
+    (
+        "rist split - 1968=a --pcap",
+        "--pcap, --udp: both are given, or neither (rist split --help)",
+    ),
+    (
+        "rist split - 1968=a --pcap --udp 0",
+        "--udp 0: a number from 1 to 65535 (rist split --help)",
+    ),
+    (
+        "rist split -",
+        "the following required arguments were not provided: <outs> (rist split --help)",
+    ),
+    (
         "rist drill 7 5001 1 1",
         "COUNT 5001: a number from 0 to 5000 (rist drill --help)",
     ),
@@ -225,7 +278,7 @@ fn says(alloc: Global, text: &str, said: &str) -> Result<bool, Fail> {
 
 /// Words with a number that an option doesn't take, how the help of which command shows that option, the range that both
 /// name, and the default.
-static RANGES: [(&str, Topic, &str, &str, &str); 25] = [
+static RANGES: [(&str, Topic, &str, &str, &str); 26] = [
     (
         "replay a b --port 1",
         Topic::Replay,
@@ -288,6 +341,13 @@ static RANGES: [(&str, Topic, &str, &str, &str); 25] = [
         "  --gap ",
         "1 to 1000000",
         "1000",
+    ),
+    (
+        "split a 1968=b --bits 1",
+        Topic::Split,
+        "  --bits ",
+        "128 or 256",
+        "128",
     ),
     (
         "send a 1.1.1.1:2 --store 0",

@@ -16,4 +16,6 @@ mod parts;
 #[cfg(test)]
 mod replays;
 #[cfg(test)]
+mod split_words;
+#[cfg(test)]
 mod words;

@@ -1,4 +1,4 @@
-//! Worked lines over a host in memory: captures that are packed, replayed, shown and counted, and simulated runs.
+//! Worked lines over a host in memory: captures that are packed, replayed, split, shown and counted, and simulated runs.
 //! There are tests alone.
 #![tactic(auto)]
 
@@ -6,5 +6,7 @@
 mod drills;
 #[cfg(test)]
 mod pcaps;
+#[cfg(test)]
+mod splits;
 #[cfg(test)]
 mod tests;

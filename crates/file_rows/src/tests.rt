@@ -82,7 +82,7 @@ fn host(alloc: Global, octets: &[u8], outside: &Outside<'_>) -> Result<MemHost, 
 }
 
 /// The words between blanks, the program's name before them.
-fn words(alloc: Global, line: &str) -> Result<Vec<String>, Fail> {
+pub(crate) fn words(alloc: Global, line: &str) -> Result<Vec<String>, Fail> {
     let mut words = Vec::new(alloc);
     words.push(String::from_str(alloc, "rist")?)?;
     for word in line.split(' ') {

@@ -36,6 +36,14 @@ fn status_of<R: Threads + Wait + Sync>(
     run(threads, rt.alloc(), words, host)
 }
 
+/// Whether the words are those of a split, which writes to several sinks: the host knows the last one's name alone.
+fn is_split(words: &[String]) -> bool {
+    match words {
+        [_, command, ..] => command.as_str() == "split",
+        _ => false,
+    }
+}
+
 /// Says on the error output what was wrong with the words, what couldn't be opened and why, or whose call failed. A line that
 /// can't be written changes no status.
 fn explain(rt: &HostRuntime, status: &Status, words: &[String], host: &RealHost<'_, HostRuntime>) {
@@ -58,7 +66,7 @@ fn explain(rt: &HostRuntime, status: &Status, words: &[String], host: &RealHost<
                 let _ = eprintln!(rt; "rist: {name}");
             }
         }
-        Status::WriteFault => {
+        Status::WriteFault if !is_split(words) => {
             if let Some(name) = host.sink_name() {
                 let _ = eprintln!(rt; "rist: {name}");
             }

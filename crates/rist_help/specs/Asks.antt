@@ -3,7 +3,7 @@ use Rattle.std.specs.Prelude.{List, [], ◌∷◌, Option, Some, None, option_ma
 use Rattle.std.specs.Str.{bytes_eq}
 use Rattle.clap.specs.Words.{Text}
 use Rattle.rist_help.specs.declared.asking.Topic.{Topic}
-use Rattle.rist_help.specs.declared.asking.Topic.TheVariants.{Replay, Show, Count, Pack, Send, Recv, Gate, Drill}
+use Rattle.rist_help.specs.declared.asking.Topic.TheVariants.{Replay, Show, Count, Pack, Split, Send, Recv, Gate, Drill}
 use Rattle.rist_help.specs.declared.asking.Ask.{Ask}
 use Rattle.rist_help.specs.declared.asking.Ask.TheVariants.{Help, HelpOf, Version}
 
@@ -14,10 +14,11 @@ topic_of name =
     else (if bytes_eq name (codes "show") then Some Show
     else (if bytes_eq name (codes "count") then Some Count
     else (if bytes_eq name (codes "pack") then Some Pack
+    else (if bytes_eq name (codes "split") then Some Split
     else (if bytes_eq name (codes "send") then Some Send
     else (if bytes_eq name (codes "recv") then Some Recv
     else (if bytes_eq name (codes "gate") then Some Gate
-    else (if bytes_eq name (codes "drill") then Some Drill else None)))))))
+    else (if bytes_eq name (codes "drill") then Some Drill else None))))))))
 
 -- the name of each command
 abbrev pub name_of_topic : Topic → Text
@@ -25,6 +26,7 @@ name_of_topic Replay = codes "replay"
 name_of_topic Show = codes "show"
 name_of_topic Count = codes "count"
 name_of_topic Pack = codes "pack"
+name_of_topic Split = codes "split"
 name_of_topic Send = codes "send"
 name_of_topic Recv = codes "recv"
 name_of_topic Gate = codes "gate"

@@ -4,21 +4,23 @@ use Rattle.std.specs.List.{find}
 use Rattle.std.specs.Str.{bytes_eq}
 use Rattle.clap.specs.Words.{Row, Text, all_of, first_of}
 use Rattle.outside_io.specs.declared.profile.Profile.{Profile}
-use Rattle.outside_io.specs.declared.profile.Profile.TheVariants.{Simple}
+use Rattle.outside_io.specs.declared.profile.Profile.TheVariants.{Simple, Main}
 use Rattle.outside_net.specs.declared.link_spec.LinkSpec.{LinkSpec}
 use Rattle.rist_words.specs.declared.values.Numbers.{Numbers}
 use Rattle.rist_words.specs.Commands.{SessionNames, incoming_names, session_names}
 use Rattle.rist_help.specs.declared.checks.Test.{Test}
 use Rattle.rist_help.specs.declared.checks.Test.TheVariants as tests
-use Rattle.rist_words.specs.CommandLine.{are_unset, firsts, pcap_of, ports, key_bits, delays, spans, restarts, flows, gaps, leads, stores, holds, lingers, turn_counts, reorders, retry_times, retry_counts, own_ssrcs, idle_times, kept_counts, drill_numbers, drill_counts, drill_links, drill_losses}
+use Rattle.rist_words.specs.CommandLine.{are_unset, firsts, pcap_of, key_bits, delays, spans, restarts, flows, gaps, leads, stores, holds, lingers, turn_counts, reorders, retry_times, retry_counts, own_ssrcs, idle_times, kept_counts, drill_numbers, drill_counts, drill_links, drill_losses}
 use Rattle.rist_words.specs.Values.{flag_of, is_set, nack_of, name_of, number_at, number_of, phrase_of, profile_of, tunnel_of, ◌>>=◌}
 use Rattle.rist_words.specs.Links.{gate_links_of, inputs_of, link_texts, links_of, shares_of}
+use Rattle.rist_words.specs.Outs.{outs_of, ports}
 
 -- What is tested: that the name at a position isn't empty; that the number at a position, or of an option, is one that it
 -- takes; that a profile reads; that a passphrase, a flag of the Main Profile and the tunnel read in the profile of an option; that
 -- the session of a gateway's inputs has its profile; that the first sequence number, the two options of a pcap file and the kind of
 -- requests read; that there are one to sixteen links, and each is one; that some of a gateway's receive and not all, and each is
--- one in the profile of its end; and that each link that sends has a weight where they share
+-- one in the profile of its end; that each link that sends has a weight where they share; that the outputs of a split read; and that
+-- the passphrase, the tunnel and the two options of a pcap file read in the Main Profile, for a command that is always in it
 pub data Check : Type 0 where
   Name : Text → Check
   NumberAt : Text → Numbers → Check
@@ -36,6 +38,10 @@ pub data Check : Type 0 where
   GateLinks : Check
   SendShare : Check
   GateShare : Check
+  Outs : Check
+  MainPass : Text → Check
+  MainTunnel : Text → Check
+  MainPcap : Check
 
 -- a test, without where its name lies in memory
 abbrev pub shown_test : Test → Check
@@ -55,6 +61,10 @@ shown_test tests.Inputs = Inputs
 shown_test tests.GateLinks = GateLinks
 shown_test tests.SendShare = SendShare
 shown_test tests.GateShare = GateShare
+shown_test tests.Outs = Outs
+shown_test (tests.MainPass option) = MainPass option.now
+shown_test (tests.MainTunnel option) = MainTunnel option.now
+shown_test tests.MainPcap = MainPcap
 
 -- the numbers of a test are multiples of one above 0, and their default is none above the greatest
 abbrev pub is_sound : Test → Bool
@@ -107,6 +117,10 @@ does_fail rows SendShare = is_none (do
 does_fail rows GateShare = is_none (do
   links ← gate_links_in rows
   shares_of (length links.1) (first_of (codes "share") rows))
+does_fail rows Outs = is_none (outs_of (first_of (codes "outs") rows))
+does_fail rows (MainPass option) = is_none (phrase_of Main (first_of option rows))
+does_fail rows (MainTunnel option) = is_none (tunnel_of Main (first_of option rows))
+does_fail rows MainPcap = is_none (pcap_of Main rows)
 
 -- the first of these tests that the values fail
 abbrev pub first_failing : List Row → List Check → Option Check
@@ -126,7 +140,7 @@ session_checks = ProfileWord (codes "profile") ∷ checks_named session_names
 abbrev pub incoming_checks : List Check
 incoming_checks = ProfileWord (codes "in-profile") ∷ Incoming ∷ checks_named incoming_names
 
--- those of the three options that a replay and a receiver have
+-- those of the three options that a replay, a split and a receiver have
 abbrev pub buffer_checks : List Check
 buffer_checks = Number (codes "delay") delays ∷ Number (codes "span") spans ∷ Number (codes "restart") restarts ∷ []
 
@@ -144,6 +158,10 @@ receiver_checks =
 abbrev pub store_checks : List Check
 store_checks = Number (codes "store") stores ∷ Number (codes "hold") holds ∷ []
 
+-- those of a session that is always in the Main Profile
+abbrev pub tunnel_checks : List Check
+tunnel_checks = MainPass session_names.pass ∷ Number session_names.bits key_bits ∷ MainTunnel session_names.tunnel ∷ []
+
 -- the tests of each command's values, in the order in which they are made
 abbrev pub checks_of : Text → List Check
 checks_of command =
@@ -151,10 +169,11 @@ checks_of command =
     else (if bytes_eq command (codes "show") then Name (codes "capture") ∷ session_checks ++ (Pcap ∷ [])
     else (if bytes_eq command (codes "count") then Name (codes "capture") ∷ session_checks ++ buffer_checks ++ (Pcap ∷ [])
     else (if bytes_eq command (codes "pack") then Name (codes "source") ∷ Name (codes "capture") ∷ session_checks ++ stream_checks ++ (Number (codes "gap") gaps ∷ [])
+    else (if bytes_eq command (codes "split") then Name (codes "capture") ∷ Outs ∷ tunnel_checks ++ buffer_checks ++ (MainPcap ∷ [])
     else (if bytes_eq command (codes "send") then Name (codes "source") ∷ session_checks ++ (Links ∷ []) ++ stream_checks ++ (Number (codes "gap") gaps ∷ Number (codes "lead") leads ∷ [])
     ++ store_checks ++ (SendShare ∷ Number (codes "linger") lingers ∷ Number (codes "turns") turn_counts ∷ [])
     else (if bytes_eq command (codes "recv") then Name (codes "out") ∷ session_checks ++ (Links ∷ []) ++ buffer_checks ++ receiver_checks
     else (if bytes_eq command (codes "gate") then session_checks ++ incoming_checks ++ (Inputs ∷ GateLinks ∷ []) ++ buffer_checks ++ receiver_checks ++ stream_checks
     ++ store_checks ++ (GateShare ∷ [])
     else NumberAt (codes "number") drill_numbers ∷ NumberAt (codes "count") drill_counts ∷ NumberAt (codes "links") drill_links
-    ∷ NumberAt (codes "loss") drill_losses ∷ []))))))
+    ∷ NumberAt (codes "loss") drill_losses ∷ [])))))))

@@ -13,6 +13,8 @@ pub enum Topic {
     Count,
     /// `pack`
     Pack,
+    /// `split`
+    Split,
     /// `send`
     Send,
     /// `recv`
@@ -79,6 +81,8 @@ pub fn topic_named(name: &str) -> Option<Topic>
         Some(Topic::Count)
     } else if name == "pack" {
         Some(Topic::Pack)
+    } else if name == "split" {
+        Some(Topic::Split)
     } else if name == "send" {
         Some(Topic::Send)
     } else if name == "recv" {

@@ -5,7 +5,7 @@ ghost use Rattle.clap.specs.Words.{first_of, found_of, rows_of};
 ghost use Rattle.rist_words.specs.Links.{shares_of};
 ghost use Rattle.rist_help.specs.Checks.{checks_of, does_fail, first_failing, gate_links_in, incoming_in, is_sound};
 ghost use Rattle.rist_help.specs.Checks.{profile_by, profile_in, shown_test};
-ghost use Rattle.rist_help.specs.Checks.{First, GateLinks, GateShare, Incoming, Inputs, Links, SendShare};
+ghost use Rattle.rist_help.specs.Checks.{First, GateLinks, GateShare, Incoming, Inputs, Links, Outs, SendShare};
 
 use clap::ArgMatches;
 use outside_io::{NoMemory, Profile};
@@ -13,6 +13,7 @@ use outside_net::LinkSpec;
 use rist_words::Refused;
 use rist_words::drilling::{COUNT, LINKS, LOSS, NUMBER};
 use rist_words::links::{gate_links, inputs_of, link_texts, links, share};
+use rist_words::outs::outs;
 use rist_words::pcap::pcap;
 use rist_words::reading::{GAP, HOLD, LEAD, LINGER, STORE};
 use rist_words::receiving::{DELAY, IDLE, KEEP, LEAST, OWN, REORDER, RESTART, SPAN, TRIES, TURNS};
@@ -57,6 +58,14 @@ pub enum Test {
     SendShare,
     /// Each link of a gateway that sends has a weight, where they share.
     GateShare,
+    /// There are one to eight outputs, each is one, and no two have one port or one name.
+    Outs,
+    /// The passphrase of an option has its length, in a command that is always in the Main Profile.
+    MainPass(&'static str),
+    /// The form of the tunnel is one of two words, in a command that is always in the Main Profile.
+    MainTunnel(&'static str),
+    /// `--pcap` and `--udp` are given both or neither, in a command that is always in the Main Profile.
+    MainPcap,
 }
 
 static REPLAY_TESTS: [Test; 12] = [
@@ -113,6 +122,18 @@ static PACK_TESTS: [Test; 13] = [
     Test::Number("flow", FLOW),
     Test::First,
     Test::Number("gap", GAP),
+];
+
+static SPLIT_TESTS: [Test; 9] = [
+    Test::Name("capture"),
+    Test::Outs,
+    Test::MainPass("pass"),
+    Test::Number("bits", BITS),
+    Test::MainTunnel("tunnel"),
+    Test::Number("delay", DELAY),
+    Test::Number("span", SPAN),
+    Test::Number("restart", RESTART),
+    Test::MainPcap,
 ];
 
 static SEND_TESTS: [Test; 19] = [
@@ -215,6 +236,8 @@ pub fn tests_of(command: &str) -> &'static [Test]
         &COUNT_TESTS
     } else if command == "pack" {
         &PACK_TESTS
+    } else if command == "split" {
+        &SPLIT_TESTS
     } else if command == "send" {
         &SEND_TESTS
     } else if command == "recv" {
@@ -266,6 +289,10 @@ fn does_fail(alloc: Global, values: &ArgMatches<'_>, test: Test) -> Result<bool,
         Test::GateLinks => fails_gate_links(alloc, values),
         Test::SendShare => fails_send_share(alloc, values),
         Test::GateShare => fails_gate_share(alloc, values),
+        Test::Outs => fails_outs(alloc, values),
+        Test::MainPass(option) => Ok(phrase(values, option, Profile::Main).is_none()),
+        Test::MainTunnel(option) => Ok(tunnel(values, option, Profile::Main).is_none()),
+        Test::MainPcap => Ok(pcap(values, Profile::Main).is_none()),
     }
 }
 
@@ -376,6 +403,16 @@ fn fails_share(alloc: Global, values: &ArgMatches<'_>, links: usize) -> Result<b
         ≡ is_none (shares_of links (first_of (codes "share") (rows_of (found_of values.now))))) }
 {
     match share(alloc, values, links) {
+        Ok(_) => Ok(false),
+        Err(Refused::Usage) => Ok(true),
+        Err(Refused::Memory) => Err(NoMemory),
+    }
+}
+
+fn fails_outs(alloc: Global, values: &ArgMatches<'_>) -> Result<bool, NoMemory>
+    ensures { IfOk result (λ fails. fails ≡ does_fail (rows_of (found_of values.now)) Outs) }
+{
+    match outs(alloc, values) {
         Ok(_) => Ok(false),
         Err(Refused::Usage) => Ok(true),
         Err(Refused::Memory) => Err(NoMemory),

@@ -8,12 +8,16 @@ use rist_words::Refused;
 use rist_words::command::program;
 use rist_words::links::{all_given, input_counts, inputs_of, link_of, link_texts};
 use rist_words::matching::matched;
+use rist_words::outs::{MAX_OUTS, are_different, outs_in};
 use rist_words::session::firsts;
 use rist_words::values::{Numbers, given, is_set};
 use std::alloc::Global;
 
 /// The options of the session of a gateway's inputs that take a value, but for its profile.
 static INCOMING_OPTIONS: [&str; 4] = ["in-port", "in-pass", "in-bits", "in-tunnel"];
+
+/// What each output is.
+const OUTPUT: &str = "an even port from 2 to 65534 and a name, as 1968=a";
 
 /// That there are too many links.
 const MOST: &str = "at most sixteen";
@@ -39,7 +43,7 @@ fn push_first_fault(
 ) -> Result<(), NoMemory> {
     match matches.subcommand() {
         Some((command, values)) => match first_failing(alloc, values, tests_of(command))? {
-            Some(test) => push_fault(text, values, test),
+            Some(test) => push_fault(alloc, text, values, test),
             None => Ok(()),
         },
         None => Ok(text.push_str("a command is missing")?),
@@ -95,7 +99,12 @@ fn push_help(text: &mut String, words: &[String]) -> Result<(), NoMemory> {
 }
 
 /// The word that fails a test, and why.
-fn push_fault(text: &mut String, values: &ArgMatches<'_>, test: Test) -> Result<(), NoMemory> {
+fn push_fault(
+    alloc: Global,
+    text: &mut String,
+    values: &ArgMatches<'_>,
+    test: Test,
+) -> Result<(), NoMemory> {
     match test {
         Test::Name(position) => push_place(text, position, None, "a name isn't empty"),
         Test::NumberAt(position, numbers) => {
@@ -106,12 +115,12 @@ fn push_fault(text: &mut String, values: &ArgMatches<'_>, test: Test) -> Result<
         Test::Profile(option) => push_option(text, option, given(values, option), "simple or main"),
         Test::Pass(by, option) => match profile_by(values, by) {
             Profile::Simple => push_main(text, by, option),
-            Profile::Main => push_option(text, option, None, "1 to 128 octets"),
+            Profile::Main => push_pass(text, option),
         },
         Test::MainFlag(by, flag) => push_main(text, by, flag),
         Test::Tunnel(by, option) => match profile_by(values, by) {
             Profile::Simple => push_main(text, by, option),
-            Profile::Main => push_option(text, option, given(values, option), "own or librist"),
+            Profile::Main => push_tunnel(text, values, option),
         },
         Test::Incoming => push_incoming(text, values),
         Test::First => {
@@ -122,7 +131,7 @@ fn push_fault(text: &mut String, values: &ArgMatches<'_>, test: Test) -> Result<
                 firsts(is_set(values, "wide")),
             )
         }
-        Test::Pcap => push_pcap(text, values),
+        Test::Pcap => push_pcap(text, values, profile_in(values)),
         Test::Nack => push_option(text, "nack", given(values, "nack"), "range or mask"),
         Test::Links => push_links(text, values),
         Test::Inputs => push_inputs(text, values),
@@ -131,6 +140,10 @@ fn push_fault(text: &mut String, values: &ArgMatches<'_>, test: Test) -> Result<
             let why = "a weight of 1 to 100 for each link that sends, as 3:1";
             push_option(text, "share", given(values, "share"), why)
         }
+        Test::Outs => push_outs(alloc, text, values),
+        Test::MainPass(option) => push_pass(text, option),
+        Test::MainTunnel(option) => push_tunnel(text, values, option),
+        Test::MainPcap => push_pcap(text, values, Profile::Main),
     }
 }
 
@@ -206,10 +219,20 @@ fn push_with_profile(text: &mut String, option: &str) -> Result<(), NoMemory> {
     push_option(text, option, None, "only with --in-profile")
 }
 
-fn push_pcap(text: &mut String, values: &ArgMatches<'_>) -> Result<(), NoMemory> {
+/// That a passphrase hasn't its length.
+fn push_pass(text: &mut String, option: &str) -> Result<(), NoMemory> {
+    push_option(text, option, None, "1 to 128 octets")
+}
+
+/// That the form of the tunnel is none.
+fn push_tunnel(text: &mut String, values: &ArgMatches<'_>, option: &str) -> Result<(), NoMemory> {
+    push_option(text, option, given(values, option), "own or librist")
+}
+
+fn push_pcap(text: &mut String, values: &ArgMatches<'_>, profile: Profile) -> Result<(), NoMemory> {
     match given(values, "udp") {
         Some(word) if is_set(values, "pcap") => {
-            let why = match profile_in(values) {
+            let why = match profile {
                 Profile::Simple => "an even number from 2 to 65534",
                 Profile::Main => "a number from 1 to 65535",
             };
@@ -275,5 +298,35 @@ fn push_inputs(text: &mut String, values: &ArgMatches<'_>) -> Result<(), NoMemor
             push_number(text, "in", given(values, "in"), input_counts(words.len()))
         }
         _ => push_place(text, "link", None, "a gateway has at least two"),
+    }
+}
+
+fn push_outs(alloc: Global, text: &mut String, values: &ArgMatches<'_>) -> Result<(), NoMemory> {
+    match given(values, "outs") {
+        Some(word) => push_place(text, "outs", Some(word), fault_of_outs(alloc, word)?),
+        None => push_place(text, "outs", None, OUTPUT),
+    }
+}
+
+/// Why a text is no outputs of a split.
+fn fault_of_outs(alloc: Global, word: &str) -> Result<&'static str, NoMemory> {
+    let (ports, _names) = match outs_in(alloc, word) {
+        Ok(outs) => outs,
+        Err(Refused::Usage) => return Ok(fault_of_parts(word)),
+        Err(Refused::Memory) => return Err(NoMemory),
+    };
+    if are_different(&ports) {
+        Ok("a name is given twice")
+    } else {
+        Ok("a port is given twice")
+    }
+}
+
+/// Why the parts of a text aren't each an output.
+fn fault_of_parts(word: &str) -> &'static str {
+    if word.split(',').count() > MAX_OUTS {
+        "at most eight"
+    } else {
+        OUTPUT
     }
 }

@@ -17,6 +17,7 @@ Receives, sends and examines RIST streams (VSF TR-06-1, and a tunnel after VSF T
   rist show CAPTURE           write the records of a capture to -, each as a line of JSON
   rist count CAPTURE          count what a receiver would make of the records of a capture
   rist pack SOURCE CAPTURE    write a capture of the media datagrams that carry a stream
+  rist split CAPTURE OUTS     write each flow of a captured tunnel to an output of its own
   rist send SOURCE LINK..     send a stream on links
   rist recv OUT LINK..        write a stream as it is received on links
   rist gate LINK..            receive on the first links, and send on over the others
@@ -61,6 +62,16 @@ const PACK: &str = "\
 usage: rist pack SOURCE CAPTURE [OPTION..]
 
 Writes a capture of the media datagrams that carry SOURCE.
+
+";
+
+const SPLIT: &str = "\
+usage: rist split CAPTURE OUTS [OPTION..]
+
+Writes the payloads of each flow of CAPTURE, a capture of a tunnel that carries several, to an output of
+its own, as a receiver plays them out. The datagrams are of the Main Profile, and the flows differ in
+their ports. OUTS is V=NAME,V=NAME.. with one to eight outputs: V is the even port, 2 to 65534, that the
+datagrams of the flow name, and each is given once; a NAME has no comma, and no two are the same.
 
 ";
 
@@ -318,6 +329,19 @@ static PACK_PIECES: [&str; 12] = [
     TUNNEL_ROW,
 ];
 
+static SPLIT_PIECES: [&str; 10] = [
+    SPLIT,
+    DELAY_ROW,
+    SPAN_ROW,
+    RESTART_ROW,
+    DRIFT_ROW,
+    PCAP_ROW,
+    UDP_ROW,
+    PASS_ROW,
+    BITS_ROW,
+    TUNNEL_ROW,
+];
+
 static SEND_PIECES: [&str; 19] = [
     SEND,
     FLOW_ROW,
@@ -420,6 +444,7 @@ fn pieces_of_topic(topic: Topic) -> &'static [&'static str]
         Topic::Show => &SHOW_PIECES,
         Topic::Count => &COUNT_PIECES,
         Topic::Pack => &PACK_PIECES,
+        Topic::Split => &SPLIT_PIECES,
         Topic::Send => &SEND_PIECES,
         Topic::Recv => &RECV_PIECES,
         Topic::Gate => &GATE_PIECES,

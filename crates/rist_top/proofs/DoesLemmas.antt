@@ -4,7 +4,7 @@ use mathlib.Core.Logic.{inl, inr}
 use Rattle.std.specs.Prelude.{Option, None, Some}
 use Rattle.std.specs.declared.string.String.{String}
 use Rattle.outside_host.specs.Shelf.{Shelf}
-use Rattle.rist_words.specs.CommandLine.{CommandLine, Replay, Show, Count, Pack, Send, Recv, Gate, Drill, SendCommand, RecvCommand, GateCommand}
+use Rattle.rist_words.specs.CommandLine.{CommandLine, Replay, Show, Count, Pack, Split, Send, Recv, Gate, Drill, SendCommand, RecvCommand, GateCommand}
 use Rattle.rist_top.specs.Causes.{CanRefuse}
 use Rattle.rist_top.specs.Does.{Does}
 use Rattle.rist_top.specs.DoesGate.{DoesGate}
@@ -23,6 +23,7 @@ no_files o (Replay c) none is files = absurd (cc (none, is))
 no_files o (Show c) none is files = absurd (cc (none, is))
 no_files o (Count c) none is files = absurd (cc (none, is))
 no_files o (Pack c) none is files = absurd (cc (none, is))
+no_files o (Split c) none is files = files
 no_files o (Send c) none is files = files
 no_files o (Recv c) none is files = files
 no_files o (Gate c) none is files = files
@@ -81,6 +82,7 @@ at_memory tells old (Replay c) = inl (untouched old (Replay c))
 at_memory tells old (Show c) = inl (untouched old (Show c))
 at_memory tells old (Count c) = inl (untouched old (Count c))
 at_memory tells old (Pack c) = untouched old (Pack c)
+at_memory tells old (Split c) = inl (untouched old (Split c))
 at_memory tells old (Send c) = inl (untouched old (Send c))
 at_memory tells old (Recv c) = inl (untouched old (Recv c))
 at_memory tells old (Gate c) = inl (untouched old (Gate c))
@@ -123,6 +125,7 @@ no_line (Some (Replay c)) recv gate none = absurd (cc (none))
 no_line (Some (Show c)) recv gate none = absurd (cc (none))
 no_line (Some (Count c)) recv gate none = absurd (cc (none))
 no_line (Some (Pack c)) recv gate none = absurd (cc (none))
+no_line (Some (Split c)) recv gate none = absurd (cc (none))
 no_line (Some (Send c)) recv gate none = absurd (cc (none))
 no_line (Some (Recv c)) recv gate none = absurd (recv c refl)
 no_line (Some (Gate c)) recv gate none = absurd (gate c refl)
@@ -171,6 +174,7 @@ pub does_no_gate : {A I O E L C : Type 0} (told : Bool) (tells : Tells I O E) (l
 does_no_gate told tells live words faults_were faults_are old new status none = record {
   gated = λ unused ran c is. absurd (none c is);
   ungated = λ unused refused c is. absurd (none c is);
+  reached = λ unused done c is. absurd (none c is);
   around = λ unused c is. absurd (none c is);
   links_opened = λ unused ran c is. absurd (none c is);
   random = λ unused failed c is. absurd (none c is);
@@ -183,6 +187,7 @@ pub gates_nothing : {A I O E L C : Type 0} (told : Bool) (tells : Tells I O E) (
 gates_nothing told tells live words faults old = record {
   gated = λ unused ran c is. absurd (ran refuses);
   ungated = λ unused refused c is. record { links = λ place. inl refl; clocks = λ place. inl refl; report = refl };
+  reached = λ unused done c is. absurd (cc (done));
   around = λ unused c is. record {
     sources = refl;
     sinks = refl;

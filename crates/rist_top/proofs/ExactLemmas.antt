@@ -30,7 +30,7 @@ use Rattle.rist_top.specs.declared.status.Status.{Status}
 use Rattle.rist_top.specs.declared.status.Status.TheVariants as statuses
 use Rattle.rist_top.proofs.PlaceLemmas.{same_here}
 
-same_back : {X : Type 0} (x y : X) → Back x ≡ Back y → x ≡ y
+pub same_back : {X : Type 0} (x y : X) → Back x ≡ Back y → x ≡ y
 same_back x y e = cc
 
 -- a walk that is Done ended well

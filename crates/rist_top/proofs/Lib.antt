@@ -14,3 +14,7 @@ pub mod GatingLemmas
 pub mod DoesLemmas
 pub mod PrintLemmas
 pub mod DrillLemmas
+pub mod SplitLemmas
+pub mod SplitHostLemmas
+pub mod DoesSplitLemmas
+pub mod ReachedLemmas

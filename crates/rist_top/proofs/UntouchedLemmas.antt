@@ -7,7 +7,7 @@ use Rattle.outside_host.specs.Shelf.{Shelf}
 use Rattle.psk_seal.specs.Sealer.{SealerState}
 use Rattle.rist_pack.specs.declared.bad.PackBad.{PackBad}
 use Rattle.rist_pack.specs.declared.bad.PackBad.TheVariants as packs
-use Rattle.rist_words.specs.CommandLine.{CommandLine, Replay, Show, Count, Pack, Send, Recv, Gate, Drill, PackCommand}
+use Rattle.rist_words.specs.CommandLine.{CommandLine, Replay, Show, Count, Pack, Split, Send, Recv, Gate, Drill, PackCommand}
 use Rattle.rist_top.specs.Works.{Works, pack_status}
 use Rattle.rist_top.specs.Ran.{Ran}
 use Rattle.rist_top.specs.Objects.{Tells, passage}
@@ -35,6 +35,7 @@ at_memory : {I O E L C : Type 0} (tells : Tells I O E) (old new : Shelf I O E L 
 at_memory tells old new (Replay c) left = left
 at_memory tells old new (Show c) left = left
 at_memory tells old new (Count c) left = left
+at_memory tells old new (Split c) left = left
 at_memory tells old new (Send c) left = left
 at_memory tells old new (Recv c) left = left
 at_memory tells old new (Gate c) left = left

@@ -7,7 +7,7 @@ use Rattle.outside_host.specs.declared.host.Place.TheVariants.{Here, Back}
 use Rattle.capture_file.specs.Capture.{Record}
 use Rattle.capture_walk.specs.Form.{Form, IsFile}
 use Rattle.rist_sender.specs.Links.{Line}
-use Rattle.rist_words.specs.CommandLine.{CommandLine, Replay, Show, Count, Pack, Send, Recv, Gate, Drill, SendCommand, RecvCommand, GateCommand}
+use Rattle.rist_words.specs.CommandLine.{CommandLine, Replay, Show, Count, Pack, Split, Send, Recv, Gate, Drill, SendCommand, RecvCommand, GateCommand}
 use Rattle.rist_compare.specs.declared.tear.Tear.{Tear}
 use Rattle.rist_top.specs.Ran.{source_name, sink_name}
 use Rattle.rist_top.specs.Sealing.{FailedAt}
@@ -27,6 +27,7 @@ IsWholeInput (Replay c) b = IsWholeFile (form_of c.session c.pcap) b
 IsWholeInput (Show c) b = IsWholeFile (form_of c.session c.pcap) b
 IsWholeInput (Count c) b = IsWholeFile (form_of c.session c.pcap) b
 IsWholeInput (Pack c) b = length b ≤ 2 ^ 40
+IsWholeInput (Split c) b = IsWholeFile (form_of c.session c.pcap) b
 IsWholeInput (Send c) b = length b ≤ 2 ^ 40
 IsWholeInput (Recv c) b = ⊥
 IsWholeInput (Gate c) b = ⊥

@@ -7,6 +7,7 @@ use Rattle.rist_top.specs.Causes.{CanRefuse}
 use Rattle.rist_top.specs.Complete.{CompletesGating}
 use Rattle.rist_top.specs.Frame.{KeepsAroundGate, links_gated}
 use Rattle.rist_top.specs.Gated.{Gated, Ungated}
+use Rattle.rist_top.specs.Reached.{GatesReached}
 use Rattle.rist_top.specs.Lines.{IfGate}
 use Rattle.rist_top.specs.Objects.{Tells}
 use Rattle.rist_top.specs.Sealing.{FailedAt}
@@ -22,6 +23,8 @@ pub record DoesGate {A I O E L C : Type 0} (told : Bool) (tells : Tells I O E) (
   -- the host; or no link was read or written
   pub gated : IsUnused told old → (CanRefuse status → ⊥) → IfGate words (λ c. Gated tells live old new c status)
   pub ungated : IsUnused told old → CanRefuse status → IfGate words (λ c. Ungated old new)
+  -- what its first links brought is one history, and where that is a run of copies of what was sent, what went on is what was reached
+  pub reached : IsUnused told old → status ≡ statuses.Done → IfGate words (λ c. GatesReached tells live old new c status)
   -- the run touches only what its line speaks of
   pub around : IsUnused told old → IfGate words (λ c. KeepsAroundGate old new c)
   -- just the links of the line are opened, in its order

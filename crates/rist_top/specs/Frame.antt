@@ -4,7 +4,7 @@ use Rattle.outside_net.specs.declared.link_spec.Role.TheVariants.{Receives, Send
 use Rattle.outside_host.specs.Shelf.{Shelf, ChangesSources, ChangesSinks}
 use Rattle.outside_host.specs.declared.host.Opened.{Opened}
 use Rattle.outside_host.specs.declared.host.Place.{Place}
-use Rattle.rist_words.specs.CommandLine.{CommandLine, Replay, Show, Count, Pack, Send, Recv, Gate, Drill, SendCommand, RecvCommand, GateCommand}
+use Rattle.rist_words.specs.CommandLine.{CommandLine, Replay, Show, Count, Pack, Split, Send, Recv, Gate, Drill, SendCommand, RecvCommand, GateCommand}
 use Rattle.rist_top.specs.Places.{CameBack, IsAsItWas, KeepsLive}
 use Rattle.rist_top.specs.Ran.{source_name, sink_name}
 
@@ -18,6 +18,7 @@ draws_words (Replay c) = false
 draws_words (Show c) = false
 draws_words (Count c) = false
 draws_words (Pack c) = is_some c.session.pass
+draws_words (Split c) = false
 draws_words (Send c) = is_some c.session.pass
 draws_words (Recv c) = is_some c.session.pass
 draws_words (Gate c) = gate_draws c

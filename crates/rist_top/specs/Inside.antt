@@ -1,3 +1,4 @@
 -- What private contracts cite.
 pub mod Answers
 pub mod Heard
+pub mod Splitting

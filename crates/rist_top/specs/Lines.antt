@@ -4,7 +4,7 @@ use Rattle.std.specs.declared.string.String.{String}
 use Rattle.outside_host.specs.Shelf.{Shelf}
 use Rattle.rist_help.specs.Asks.{ask_of}
 use Rattle.rist_help.specs.declared.Ask.{Ask}
-use Rattle.rist_words.specs.CommandLine.{CommandLine, Replay, Show, Count, Pack, Send, Recv, Gate, Drill, SendCommand, RecvCommand, GateCommand, DrillCommand, line_of}
+use Rattle.rist_words.specs.CommandLine.{CommandLine, Replay, Show, Count, Pack, Split, Send, Recv, Gate, Drill, SplitCommand, SendCommand, RecvCommand, GateCommand, DrillCommand, line_of}
 
 -- they are this line
 abbrev pub IsLine : {A : Type 0} → List (String A) → CommandLine → Type 0
@@ -16,6 +16,7 @@ IsPlain (Replay c) = Unit {0}
 IsPlain (Show c) = Unit {0}
 IsPlain (Count c) = Unit {0}
 IsPlain (Pack c) = Unit {0}
+IsPlain (Split c) = Unit {0}
 IsPlain (Send c) = Unit {0}
 IsPlain (Recv c) = ⊥
 IsPlain (Gate c) = ⊥
@@ -28,6 +29,7 @@ plain_line (Some (Replay c)) = Some (Replay c)
 plain_line (Some (Show c)) = Some (Show c)
 plain_line (Some (Count c)) = Some (Count c)
 plain_line (Some (Pack c)) = Some (Pack c)
+plain_line (Some (Split c)) = Some (Split c)
 plain_line (Some (Send c)) = Some (Send c)
 plain_line (Some (Recv c)) = None
 plain_line (Some (Gate c)) = None
@@ -49,12 +51,14 @@ AsksNothing words = ask_of (map string_bytes words) ≡ None
 abbrev pub IfAsk : {A : Type 0} → List (String A) → (Ask → Type 0) → Type 0
 IfAsk words P = (ask : Ask) → ask_of (map string_bytes words) ≡ Some ask → P ask
 
--- a command over a source and a sink: any but those over links, and a simulated run, which reads nothing
+-- a command over a source and a sink: any but a split, which has a sink for each output, those over links, and a simulated run,
+-- which reads nothing
 abbrev pub IsOverFiles : CommandLine → Type 0
 IsOverFiles (Replay c) = Unit {0}
 IsOverFiles (Show c) = Unit {0}
 IsOverFiles (Count c) = Unit {0}
 IsOverFiles (Pack c) = Unit {0}
+IsOverFiles (Split c) = ⊥
 IsOverFiles (Send c) = ⊥
 IsOverFiles (Recv c) = ⊥
 IsOverFiles (Gate c) = ⊥
@@ -63,6 +67,10 @@ IsOverFiles (Drill c) = ⊥
 -- P holds of the line that they are, if they are one over a source and a sink
 abbrev pub IfFiles : {A : Type 0} → List (String A) → (CommandLine → Type 0) → Type 0
 IfFiles words P = (c : CommandLine) → IsLine words c → IsOverFiles c → P c
+
+-- P holds of the split that they are, if they are one
+abbrev pub IfSplit : {A : Type 0} → List (String A) → (SplitCommand → Type 0) → Type 0
+IfSplit words P = (c : SplitCommand) → IsLine words (Split c) → P c
 
 -- P holds of the sending that they are, if they are one
 abbrev pub IfSending : {A : Type 0} → List (String A) → (SendCommand → Type 0) → Type 0

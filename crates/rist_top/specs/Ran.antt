@@ -4,7 +4,7 @@ use Rattle.outside_io.specs.Causes.{HasReadCause, HasWriteCause}
 use Rattle.outside_io.specs.Told.{IsEmpty}
 use Rattle.outside_host.specs.Shelf.{Shelf}
 use Rattle.outside_host.specs.declared.host.Place.TheVariants.{Here, Back}
-use Rattle.rist_words.specs.CommandLine.{CommandLine, Replay, Show, Count, Pack, Send, Recv, Gate, Drill}
+use Rattle.rist_words.specs.CommandLine.{CommandLine, Replay, Show, Count, Pack, Split, Send, Recv, Gate, Drill}
 use Rattle.rist_top.specs.Causes.{fault_of}
 use Rattle.rist_top.specs.Objects.{Tells, passage}
 use Rattle.rist_top.specs.Works.{Works}
@@ -18,18 +18,20 @@ source_name (Replay c) = c.capture
 source_name (Show c) = c.capture
 source_name (Count c) = c.capture
 source_name (Pack c) = c.source
+source_name (Split c) = c.capture
 source_name (Send c) = c.source
 source_name (Recv c) = []
 source_name (Gate c) = []
 source_name (Drill c) = []
 
--- the name of its sink: a showing, a counting and a simulated run write to the standard output, and a sending and a
--- gateway have none
+-- the name of its sink: a showing, a counting and a simulated run write to the standard output, a split has one for
+-- each output, and a sending and a gateway have none
 abbrev pub sink_name : CommandLine → List ℕ
 sink_name (Replay c) = c.out
 sink_name (Show c) = codes "-"
 sink_name (Count c) = codes "-"
 sink_name (Pack c) = c.capture
+sink_name (Split c) = []
 sink_name (Send c) = []
 sink_name (Recv c) = c.out
 sink_name (Gate c) = []

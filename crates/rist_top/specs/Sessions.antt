@@ -4,7 +4,7 @@ use Rattle.seq_unwrap.specs.declared.width.Width.TheVariants.{W16, W32}
 use Rattle.receiver_rules.specs.declared.limits.Limits.{Limits}
 use Rattle.rist_wire.specs.declared.session.Session.{Session}
 use Rattle.psk_seal.specs.Sealer.{SealerState}
-use Rattle.rist_words.specs.CommandLine.{ReplayCommand, CountCommand, PackCommand, SendCommand, RecvCommand, GateCommand, Receiver, Serving}
+use Rattle.rist_words.specs.CommandLine.{ReplayCommand, CountCommand, PackCommand, SplitCommand, SendCommand, RecvCommand, GateCommand, Receiver, Serving}
 use Rattle.rist_pack.specs.declared.settings.PackSettings.{PackSettings}
 use Rattle.rist_words.specs.CommandLine as lines
 use Rattle.rist_ends.specs.Settings.{limits_of, muted_settings}
@@ -40,6 +40,10 @@ session_read s = session_with s false false
 -- the limits of a replay's receiver, in ticks and packets
 abbrev pub replay_limits : ReplayCommand → Limits
 replay_limits c = limits_of (muted_settings c.delay c.span c.restart c.drift)
+
+-- those of each receiver of a split
+abbrev pub split_limits : SplitCommand → Limits
+split_limits c = limits_of (muted_settings c.delay c.span c.restart c.drift)
 
 -- those of a counting's receiver
 abbrev pub count_limits : CountCommand → Limits

@@ -18,7 +18,7 @@ use Rattle.rist_pack.specs.Packing.{Packs}
 use Rattle.rist_pack.specs.Capture.{packed_record, nonces_of}
 use Rattle.rist_pack.specs.declared.bad.PackBad.{PackBad}
 use Rattle.rist_pack.specs.declared.bad.PackBad.TheVariants as packs
-use Rattle.rist_words.specs.CommandLine.{CommandLine, Replay, Show, Count, Pack, Send, Recv, Gate, Drill, Session, ReplayCommand, ShowCommand, CountCommand, PackCommand}
+use Rattle.rist_words.specs.CommandLine.{CommandLine, Replay, Show, Count, Pack, Split, Send, Recv, Gate, Drill, Session, ReplayCommand, ShowCommand, CountCommand, PackCommand}
 use Rattle.rist_top.specs.Sessions.{session_with, session_read, replay_limits, count_limits, pack_settings}
 use Rattle.rist_top.specs.declared.status.Status.{Status}
 use Rattle.rist_top.specs.declared.status.Status.TheVariants as statuses
@@ -93,7 +93,7 @@ abbrev pub Counts : CountCommand → Passage → Status → Type 0
 Counts c p status = CountsAs (form_of c.session c.pcap) c p status
 
 -- what a command leaves of its source and its sink, where they tell, and what else is known of the sealer of a packing.
--- A sending has no sink: `Sent` is for it. A simulated run has no source: `DoesDrill` is.
+-- A split has several sinks: `Splits` is for it. A sending has no sink: `Sent` is. A simulated run has no source: `DoesDrill` is.
 abbrev pub Works : (SealerState → Type 0) → CommandLine → Passage → Status → Type 0
 Works IsKnown (Replay c) p status = Replays c p status
 Works IsKnown (Show c) p status = Shows c p status
@@ -101,6 +101,7 @@ Works IsKnown (Count c) p status = Counts c p status
 Works IsKnown (Pack c) p status =
     ((status ≡ statuses.EntropyFault) × (p.left ≡ p.had) × (p.holds ≡ p.held))
     ⊎ ((sealer : Option SealerState) × IsFreshFor c.session sealer × IfSome sealer IsKnown × PacksAs c sealer p status)
+Works IsKnown (Split c) p status = ⊥
 Works IsKnown (Send c) p status = ⊥
 Works IsKnown (Recv c) p status = ⊥
 Works IsKnown (Gate c) p status = ⊥

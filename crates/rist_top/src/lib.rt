@@ -9,6 +9,7 @@ mod receiving;
 mod sealing;
 mod sending;
 mod sessions;
+mod splitting;
 mod status;
 mod telling;
 mod top;

@@ -2,12 +2,12 @@
 ghost use Rattle.std.specs.Prelude.{◌≡◌, ◌≢◌, ◌⊎◌, Err, IfOk, IsTrue};
 ghost use Rattle.outside_io.specs.Causes.{HasOpenCause, Rose};
 ghost use Rattle.rist_words.specs.CommandLine.{Drill, DrillCommand, Gate, GateCommand};
-ghost use Rattle.rist_words.specs.CommandLine.{Recv, RecvCommand, Send, SendCommand};
+ghost use Rattle.rist_words.specs.CommandLine.{Recv, RecvCommand, Send, SendCommand, Split, SplitCommand};
 ghost use Rattle.rist_words.specs.Shown.{shown, shown_gate, shown_recv};
 ghost use Rattle.rist_words.specs.Ranges.{IsInRange};
 ghost use Rattle.rist_top.specs.Causes.{CanRefuse, fault_of};
 ghost use Rattle.rist_top.specs.DoesAsk.{DoesAsk};
-ghost use Rattle.rist_top.specs.Lines.{AsksNothing, IfAsk, IfDrill, IfReceiving, IsFresh, IsLine};
+ghost use Rattle.rist_top.specs.Lines.{AsksNothing, IfAsk, IfDrill, IfReceiving, IfSplit, IsFresh, IsLine};
 ghost use Rattle.rist_top.specs.Lines.{IsNoLine, IsNoPlainLine, IsOverFiles, IsPlain};
 ghost use Rattle.rist_top.specs.Ran.{Ran, source_name, sink_name};
 ghost use Rattle.rist_top.specs.Frame.{KeepsAround, KeepsOthers, OpensLinksAfter, OpensSourceFirst, links_opened};
@@ -16,16 +16,19 @@ ghost use Rattle.rist_top.specs.Untouched.{Untouched};
 ghost use Rattle.rist_top.specs.Sealing.{FailedAt};
 ghost use Rattle.rist_top.specs.Sent.{IsUnused, Sent, Unsent};
 ghost use Rattle.rist_top.specs.Received.{Received, Unreceived};
+ghost use Rattle.rist_top.specs.Reached.{IsPlayedOut, ReceivesReached};
 ghost use Rattle.rist_top.specs.Complete.{CompletesReceiving};
 ghost use Rattle.rist_top.specs.Does.{Does};
 ghost use Rattle.rist_top.specs.DoesGate.{DoesGate};
 ghost use Rattle.rist_top.specs.DoesDrill.{DoesDrill};
+ghost use Rattle.rist_top.specs.DoesSplit.{DoesSplit};
 
 use crate::asking::answer;
 use crate::drilling::drill_line;
 use crate::gating::gate_line;
 use crate::receiving::receive_line;
 use crate::sending::send_line;
+use crate::splitting::split_line;
 use crate::status::Status;
 use crate::telling::Telling;
 use crate::working::{Worked, work};
@@ -64,6 +67,10 @@ pub fn run<R: Threads + Wait + Sync, H: Host>(
     ensures does { Does H.tells ⟦<H as Telling>⟧.objects ⟦<H as Telling>⟧.live words.now
         (H.faults host.old) (H.faults host.new) (H.shelf host.old) (H.shelf host.new) result }
 
+    // What a split leaves, and how it ends: each output as a replay at its port.
+    ensures splits { IfSplit words.now (λ c. DoesSplit H.tells ⟦<H as Telling>⟧.objects c
+        (H.faults host.old) (H.faults host.new) (H.shelf host.old) (H.shelf host.new) result) }
+
     // What a simulated run leaves, and how it ends.
     ensures drills { IfDrill words.now (λ c. DoesDrill H.tells ⟦<H as Telling>⟧.objects c
         (H.faults host.old) (H.faults host.new) (H.shelf host.old) (H.shelf host.new) result) }
@@ -75,6 +82,12 @@ pub fn run<R: Threads + Wait + Sync, H: Host>(
         Received ⟦<H as Telling>⟧.objects ⟦<H as Telling>⟧.live (H.shelf host.old) (H.shelf host.new) c result) }
     ensures unreceived { IsUnused H.tells (H.shelf host.old) → CanRefuse result
         → IfReceiving words.now (λ c. Unreceived (H.shelf host.old) (H.shelf host.new) c) }
+
+    // What the links of a receiving brought is one history, each link's own in its order; and where that is a run of copies
+    // of what was sent, what came back under OUT is what was reached.
+    ensures reached { IsUnused H.tells (H.shelf host.old) → IsPlayedOut result
+        → IfReceiving words.now (λ c. ReceivesReached ⟦<H as Telling>⟧.objects ⟦<H as Telling>⟧.live
+        (H.shelf host.old) (H.shelf host.new) c) }
 
     // A receiving, too, touches only what its line speaks of.
     ensures around { IsUnused H.tells (H.shelf host.old)
@@ -149,6 +162,8 @@ pub fn plain<H: Host>(alloc: Global, words: &[String], host: &mut H) -> Status
         (H.faults host.old) (H.faults host.new) (H.shelf host.old) (H.shelf host.new) result) }
     ensures does { Does H.tells ⟦<H as Telling>⟧.objects ⟦<H as Telling>⟧.live words.now
         (H.faults host.old) (H.faults host.new) (H.shelf host.old) (H.shelf host.new) result }
+    ensures splits { IfSplit words.now (λ c. DoesSplit H.tells ⟦<H as Telling>⟧.objects c
+        (H.faults host.old) (H.faults host.new) (H.shelf host.old) (H.shelf host.new) result) }
     ensures drills { IfDrill words.now (λ c. DoesDrill H.tells ⟦<H as Telling>⟧.objects c
         (H.faults host.old) (H.faults host.new) (H.shelf host.old) (H.shelf host.new) result) }
 {
@@ -206,6 +221,9 @@ fn run_line<H: Host>(alloc: Global, host: &mut H, line: &Line<'_>) -> Status
     ensures random { (c : SendCommand) → shown line.now ≡ Send c
         → IsUnused H.tells (H.shelf host.old) → result ≡ Status.EntropyFault
         → FailedAt ⟦<H as Telling>⟧.objects (H.shelf host.old) (H.shelf host.new) }
+    ensures split { (c : SplitCommand) → shown line.now ≡ Split c
+        → DoesSplit H.tells ⟦<H as Telling>⟧.objects c
+        (H.faults host.old) (H.faults host.new) (H.shelf host.old) (H.shelf host.new) result }
     ensures drill { (c : DrillCommand) → shown line.now ≡ Drill c
         → DoesDrill H.tells ⟦<H as Telling>⟧.objects c
         (H.faults host.old) (H.faults host.new) (H.shelf host.old) (H.shelf host.new) result }
@@ -215,6 +233,7 @@ fn run_line<H: Host>(alloc: Global, host: &mut H, line: &Line<'_>) -> Status
         Line::Show(_) => file_line(alloc, host, line),
         Line::Count(_) => file_line(alloc, host, line),
         Line::Pack(_) => file_line(alloc, host, line),
+        Line::Split(line) => split_line(alloc, host, line),
         Line::Send(line) => send_line(alloc, host, line),
         Line::Drill(line) => drill_line(alloc, host, line),
         Line::Recv(_) | Line::Gate(_) => unreachable!(),
@@ -268,6 +287,7 @@ fn source_name<'a>(line: &Line<'a>) -> &'a str
         Line::Show(line) => line.capture,
         Line::Count(line) => line.capture,
         Line::Pack(line) => line.source,
+        Line::Split(line) => line.capture,
         Line::Send(line) => line.source,
         Line::Recv(_) | Line::Gate(_) | Line::Drill(_) => "",
     }
@@ -282,6 +302,7 @@ fn sink_name<'a>(line: &Line<'a>) -> &'a str
         Line::Replay(line) => line.out,
         Line::Show(_) | Line::Count(_) => "-",
         Line::Pack(line) => line.capture,
-        Line::Send(_) | Line::Recv(_) | Line::Gate(_) | Line::Drill(_) => unreachable!(),
+        Line::Split(_) | Line::Send(_) | Line::Recv(_) | Line::Gate(_) | Line::Drill(_) =>
+            unreachable!(),
     }
 }

@@ -270,6 +270,7 @@ pub fn work<H: Host>(
                 status,
             },
         },
-        Line::Send(_) | Line::Recv(_) | Line::Gate(_) | Line::Drill(_) => unreachable!(),
+        Line::Split(_) | Line::Send(_) | Line::Recv(_) | Line::Gate(_) | Line::Drill(_) =>
+            unreachable!(),
     }
 }

@@ -4,3 +4,4 @@ pub mod PartRanges
 pub mod RangeLemmas
 mod Rows
 pub mod LinkLemmas
+pub mod OutLemmas

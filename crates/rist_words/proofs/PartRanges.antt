@@ -16,9 +16,10 @@ use Rattle.outside_io.specs.declared.profile.Profile.TheVariants.{Simple, Main}
 use Rattle.rist_words.specs.declared.values.Numbers.{Numbers}
 use Rattle.rist_words.specs.Commands.{SessionNames, incoming_names, session_names}
 use Rattle.rist_words.specs.Values.{is_numeral, is_among, nack_of, number_at, number_in, number_of, ◌>>=◌, profile_of, phrase_of, is_set, flag_of, tunnel_of}
-use Rattle.rist_words.specs.CommandLine.{Session, Stream, Receiver, Serving, ports, key_bits, delays, spans, restarts, flows, firsts, gaps, leads, stores, holds, lingers, turn_counts}
-use Rattle.rist_words.specs.CommandLine.{reorders, retry_times, retry_counts, own_ssrcs, idle_times, kept_counts, are_unset, incoming_of, session_named, session_of, pcap_with, stream_of, receiver_of, serving_of}
+use Rattle.rist_words.specs.CommandLine.{Session, Stream, Receiver, Serving, key_bits, delays, spans, restarts, flows, firsts, gaps, leads, stores, holds, lingers, turn_counts}
+use Rattle.rist_words.specs.CommandLine.{reorders, retry_times, retry_counts, own_ssrcs, idle_times, kept_counts, are_unset, incoming_of, session_named, session_of, tunnel_session_of, pcap_with, stream_of, receiver_of, serving_of}
 use Rattle.rist_words.specs.Links.{colon, each_link, gate_links_of, input_counts, inputs_of, link_of, link_ports, link_texts, link_weights, links_of, shares_of, split_at, weights_in}
+use Rattle.rist_words.specs.Outs.{ports}
 use Rattle.rist_words.specs.Ranges.{IsInSession, IsUdpPort, IsInStream, IsInReceiver, IsInServing, IsWeight}
 
 -- a value that was read, and the rest of the reading
@@ -126,6 +127,28 @@ named_range names asks rows s e =
 
 pub session_range : (rows : List Row) (s : Session) → session_of rows ≡ Some s → IsInSession s
 session_range rows s e = named_range session_names (is_set (first_of (codes "echo") rows)) rows s e
+
+-- a session of the Main Profile at a port that can be one
+pub tunnel_session_range : (port : ℕ) (rows : List Row) (s : Session) → IsAmong ports port → tunnel_session_of port rows ≡ Some s
+    → IsInSession s × (s.profile ≡ Main)
+tunnel_session_range port rows s p e =
+    let pass = reads (phrase_of Main (first_of session_names.pass rows)) _ s e in
+    let bits = reads (number_of key_bits (first_of session_names.bits rows)) _ s pass.rest in
+    let tunnel = reads (tunnel_of Main (first_of session_names.tunnel rows)) _ s bits.rest in
+    let b = number_range key_bits (first_of session_names.bits rows) bits.value (record { least = omega arith; most = omega arith; multiple = refl }) bits.is in
+    subst (λ own. IsInSession own × (own.profile ≡ Main)) (same_some _ _ tunnel.rest) (
+      record {
+        even = p.multiple;
+        low = p.least;
+        high = p.most;
+        bits = two_bits bits.value b;
+        pass = phrase_length Main (first_of session_names.pass rows) pass.value pass.is;
+        simple = λ is. cc;
+        full = λ is. cc;
+        tunnel = λ is. cc;
+      },
+      refl,
+    )
 
 -- a session of its own, or that of the other links
 pub incoming_range : (session : Session) (rows : List Row) (s : Session) → IsInSession session → incoming_of session rows ≡ Some s → IsInSession s

@@ -1,17 +1,20 @@
 -- Each reading of a line gives a value in its range.
 use Rattle.std.proofs.Common.{◌≡◌, List, [], ◌∷◌, Bool, true, false, cond, Option, Some, None, refl, subst, arith, length}
-use Rattle.std.specs.Prelude.{option_map, codes}
+use Rattle.std.specs.Prelude.{option_map, codes, slice_index}
+use Rattle.outside_io.specs.declared.profile.Profile.TheVariants.{Main}
 use Rattle.std.specs.Str.{bytes_eq}
 use Rattle.clap.specs.Words.{Kinds, Row, Text, all_of, first_of}
 use Rattle.rist_words.specs.Commands.{faults_of, command_in}
 use Rattle.rist_words.specs.Values.{is_set, number_at, number_of, name_of}
-use Rattle.rist_words.specs.CommandLine.{CommandLine, Replay, Show, Count, Pack, Send, Recv, Gate, Drill, ReplayCommand, ShowCommand, CountCommand, PackCommand, SendCommand, RecvCommand, GateCommand, DrillCommand}
-use Rattle.rist_words.specs.CommandLine.{delays, spans, restarts, gaps, leads, stores, holds, lingers, turn_counts, incoming_of, session_of, pcap_of, stream_of, receiver_of, serving_of}
+use Rattle.rist_words.specs.CommandLine.{CommandLine, Replay, Show, Count, Pack, Split, Send, Recv, Gate, Drill, ReplayCommand, ShowCommand, CountCommand, PackCommand, SplitCommand, SendCommand, RecvCommand, GateCommand, DrillCommand}
+use Rattle.rist_words.specs.CommandLine.{delays, spans, restarts, gaps, leads, stores, holds, lingers, turn_counts, incoming_of, session_of, tunnel_session_of, pcap_of, stream_of, receiver_of, serving_of}
 use Rattle.rist_words.specs.CommandLine.{drill_numbers, drill_counts, drill_links, drill_losses}
-use Rattle.rist_words.specs.CommandLine.{replay_of, show_of, count_of, pack_of, send_of, recv_of, gate_of, drill_of, command_line, taken_line, line_of}
+use Rattle.rist_words.specs.CommandLine.{replay_of, show_of, count_of, pack_of, split_of, send_of, recv_of, gate_of, drill_of, command_line, taken_line, line_of}
 use Rattle.rist_words.specs.Links.{gate_links_of, links_of, shares_of}
-use Rattle.rist_words.specs.Ranges.{IsInReplay, IsInShow, IsInCount, IsInPack, IsInSend, IsInRecv, IsInGate, IsInDrill, IsInRange}
-use Rattle.rist_words.proofs.PartRanges.{reads, same_some, number_range, position_range, session_range, incoming_range, udp_range, stream_range, links_range, share_range, receiver_range, serving_range, gate_links_range}
+use Rattle.rist_words.specs.Outs.{outs_of}
+use Rattle.rist_words.specs.Ranges.{IsInReplay, IsInShow, IsInCount, IsInPack, IsInSplit, IsInSend, IsInRecv, IsInGate, IsInDrill, IsInRange}
+use Rattle.rist_words.proofs.PartRanges.{reads, same_some, number_range, position_range, session_range, incoming_range, tunnel_session_range, udp_range, option_range, stream_range, links_range, share_range, receiver_range, serving_range, gate_links_range}
+use Rattle.rist_words.proofs.OutLemmas.{split_outs_range}
 use Rattle.rist_words.proofs.PartRanges.{default_gap, default_lead, default_store, default_hold, default_linger, default_turns}
 
 replay_range : (rows : List Row) (c : ReplayCommand) → replay_of rows ≡ Some c → IsInReplay c
@@ -80,6 +83,40 @@ pack_range rows c e =
       stream = stream_range session.value.profile rows stream.value stream.is;
       some_gap = g.least;
       gap = g.most;
+    })
+
+split_range : (rows : List Row) (c : SplitCommand) → split_of rows ≡ Some c → IsInSplit c
+split_range rows c e =
+    let capture = reads (name_of (first_of (codes "capture") rows)) _ c e in
+    let outs = reads (outs_of (first_of (codes "outs") rows)) _ c capture.rest in
+    let session = reads (tunnel_session_of (slice_index outs.value.0 0) rows) _ c outs.rest in
+    let delay = reads (number_of delays (first_of (codes "delay") rows)) _ c session.rest in
+    let span = reads (number_of spans (first_of (codes "span") rows)) _ c delay.rest in
+    let restart = reads (number_of restarts (first_of (codes "restart") rows)) _ c span.rest in
+    let pcap = reads (pcap_of Main rows) _ c restart.rest in
+    let o = split_outs_range (first_of (codes "outs") rows) outs.value outs.is in
+    let t = tunnel_session_range (slice_index outs.value.0 0) rows session.value (o.are.numbers 0 (omega (arith, o.some))) session.is in
+    let d = option_range delays (first_of (codes "delay") rows) delay.value delay.is (omega arith) (omega arith) refl in
+    let s = option_range spans (first_of (codes "span") rows) span.value span.is (omega arith) (omega arith) refl in
+    let r = option_range restarts (first_of (codes "restart") rows) restart.value restart.is (omega arith) (omega arith) refl in
+    subst IsInSplit (same_some _ _ pcap.rest) (record {
+      session = t.0;
+      main = t.1;
+      some = o.some;
+      few = o.are.few;
+      count = o.are.count;
+      even = λ k inside. (o.are.numbers k inside).multiple;
+      low = λ k inside. (o.are.numbers k inside).least;
+      high = λ k inside. (o.are.numbers k inside).most;
+      different = o.different;
+      named = o.are.named;
+      apart = o.apart;
+      some_delay = d.least;
+      delay = d.most;
+      some_span = s.least;
+      span = s.most;
+      restart = r.most;
+      udp = rw t.1 (udp_range Main (is_set (first_of (codes "pcap") rows)) (first_of (codes "udp") rows) pcap.value pcap.is);
     })
 
 send_range : (rows : List Row) (c : SendCommand) → send_of rows ≡ Some c → IsInSend c
@@ -192,22 +229,23 @@ mapped f P (Some a) c each to e = subst IsInRange (same_some (f a) c e) (to a (e
 command_range : (name : Text) (rows : List Row) (c : CommandLine) → command_line name rows ≡ Some c → IsInRange c
 command_range name rows c e =
     by_name (bytes_eq name (codes "replay")) (bytes_eq name (codes "show")) (bytes_eq name (codes "count")) (bytes_eq name (codes "pack"))
-    (bytes_eq name (codes "send")) (bytes_eq name (codes "recv")) (bytes_eq name (codes "gate")) (bytes_eq name (codes "drill")) e
+    (bytes_eq name (codes "split")) (bytes_eq name (codes "send")) (bytes_eq name (codes "recv")) (bytes_eq name (codes "gate")) (bytes_eq name (codes "drill")) e
   where
-    by_name : (a b n d s r g w : Bool)
+    by_name : (a b n d l s r g w : Bool)
         → cond a (option_map Replay (replay_of rows)) (cond b (option_map Show (show_of rows)) (cond n (option_map Count (count_of rows))
-        (cond d (option_map Pack (pack_of rows)) (cond s (option_map Send (send_of rows)) (cond r (option_map Recv (recv_of rows))
-        (cond g (option_map Gate (gate_of rows)) (cond w (option_map Drill (drill_of rows)) None))))))) ≡ Some c
+        (cond d (option_map Pack (pack_of rows)) (cond l (option_map Split (split_of rows)) (cond s (option_map Send (send_of rows)) (cond r (option_map Recv (recv_of rows))
+        (cond g (option_map Gate (gate_of rows)) (cond w (option_map Drill (drill_of rows)) None)))))))) ≡ Some c
         → IsInRange c
-    by_name true b n d s r g w p = mapped Replay IsInReplay (replay_of rows) c (replay_range rows) (λ a i. i) p
-    by_name false true n d s r g w p = mapped Show IsInShow (show_of rows) c (show_range rows) (λ a i. i) p
-    by_name false false true d s r g w p = mapped Count IsInCount (count_of rows) c (count_range rows) (λ a i. i) p
-    by_name false false false true s r g w p = mapped Pack IsInPack (pack_of rows) c (pack_range rows) (λ a i. i) p
-    by_name false false false false true r g w p = mapped Send IsInSend (send_of rows) c (send_range rows) (λ a i. i) p
-    by_name false false false false false true g w p = mapped Recv IsInRecv (recv_of rows) c (recv_range rows) (λ a i. i) p
-    by_name false false false false false false true w p = mapped Gate IsInGate (gate_of rows) c (gate_range rows) (λ a i. i) p
-    by_name false false false false false false false true p = mapped Drill IsInDrill (drill_of rows) c (drill_range rows) (λ a i. i) p
-    by_name false false false false false false false false p = cc
+    by_name true b n d l s r g w p = mapped Replay IsInReplay (replay_of rows) c (replay_range rows) (λ a i. i) p
+    by_name false true n d l s r g w p = mapped Show IsInShow (show_of rows) c (show_range rows) (λ a i. i) p
+    by_name false false true d l s r g w p = mapped Count IsInCount (count_of rows) c (count_range rows) (λ a i. i) p
+    by_name false false false true l s r g w p = mapped Pack IsInPack (pack_of rows) c (pack_range rows) (λ a i. i) p
+    by_name false false false false true s r g w p = mapped Split IsInSplit (split_of rows) c (split_range rows) (λ a i. i) p
+    by_name false false false false false true r g w p = mapped Send IsInSend (send_of rows) c (send_range rows) (λ a i. i) p
+    by_name false false false false false false true g w p = mapped Recv IsInRecv (recv_of rows) c (recv_range rows) (λ a i. i) p
+    by_name false false false false false false false true w p = mapped Gate IsInGate (gate_of rows) c (gate_range rows) (λ a i. i) p
+    by_name false false false false false false false false true p = mapped Drill IsInDrill (drill_of rows) c (drill_range rows) (λ a i. i) p
+    by_name false false false false false false false false false p = cc
 
 taken_range : (kinds : Kinds) (named : Option (Text × List Row)) (c : CommandLine) → taken_line kinds named ≡ Some c → IsInRange c
 taken_range [] None c e = cc

@@ -5,7 +5,7 @@ use Rattle.gre_tunnel.specs.declared.tunnel.Tunnel.TheVariants.{Librist, Own}
 use Rattle.outside_io.specs.declared.profile.Profile.TheVariants.{Main, Simple}
 use Rattle.rist_words.specs.Commands.{command_in, faults_of}
 use Rattle.request_rules.specs.declared.policy.NackKind.TheVariants.{Mask, Range}
-use Rattle.rist_words.specs.CommandLine.{Count, Drill, Gate, Pack, Receiver, Recv, Replay, Send, Serving, Session, Show, Stream, line_of}
+use Rattle.rist_words.specs.CommandLine.{Count, Drill, Gate, Pack, Receiver, Recv, Replay, Send, Serving, Session, Show, Split, Stream, line_of}
 
 -- a session without options
 abbrev plain : Session
@@ -121,6 +121,37 @@ not_wide = refl
 -- a stream without options
 abbrev plain_stream : Stream
 plain_stream = record { nulls = false; wide = false; flow = 270544960; first = 0 }
+
+split_in_two : line_of (codes "rist" ∷ codes "split" ∷ codes "a" ∷ codes "1970=b,1968=c=d" ∷ codes "--pass=p" ∷ codes "--tunnel=librist" ∷ codes "--udp=5001" ∷ codes "--pcap" ∷ [])
+    ≡ Some (Split (record {
+      capture = codes "a";
+      ports = 1970 ∷ 1968 ∷ [];
+      names = codes "b" ∷ codes "c=d" ∷ [];
+      session = record plain { profile = Main; port = 1970; pass = Some (codes "p"); tunnel = Librist; echo = true };
+      delay = 1000;
+      span = 2048;
+      restart = 0;
+      drift = false;
+      pcap = Some 5001;
+    }))
+unfolding clap_on_literals faults_of command_in
+split_in_two = refl
+
+split_at_one_port_twice : line_of (codes "rist" ∷ codes "split" ∷ codes "a" ∷ codes "1968=b,1968=c" ∷ []) ≡ None
+unfolding clap_on_literals faults_of command_in
+split_at_one_port_twice = refl
+
+split_into_one_name_twice : line_of (codes "rist" ∷ codes "split" ∷ codes "a" ∷ codes "1968=b,1970=b" ∷ []) ≡ None
+unfolding clap_on_literals faults_of command_in
+split_into_one_name_twice = refl
+
+split_with_an_empty_part : line_of (codes "rist" ∷ codes "split" ∷ codes "a" ∷ codes "1968=b," ∷ []) ≡ None
+unfolding clap_on_literals faults_of command_in
+split_with_an_empty_part = refl
+
+split_with_a_profile : line_of (codes "rist" ∷ codes "split" ∷ codes "a" ∷ codes "1968=b" ∷ codes "--profile=main" ∷ []) ≡ None
+unfolding clap_on_literals faults_of command_in
+split_with_a_profile = refl
 
 shared : line_of (codes "rist" ∷ codes "send" ∷ codes "-" ∷ codes "127.0.0.1:5000" ∷ codes "--share=3:1" ∷ codes "010.0.0.255:5002" ∷ [])
     ≡ Some (Send (record {

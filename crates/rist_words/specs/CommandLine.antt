@@ -1,16 +1,19 @@
 -- What a command line is: the command with all its values, where the words are taken and each value reads (this
 -- profile).
-use Rattle.std.specs.Prelude.{Bool, true, false, not, ◌&&◌, ℕ, List, [], ◌∷◌, length, Option, Some, None, is_none, is_some, option_and_then, option_map, if◌then◌else◌, codes}
+use Rattle.std.specs.Prelude.{Bool, true, false, not, ◌&&◌, ℕ, List, [], ◌∷◌, length, Option, Some, None, slice_index, slice_index_or, is_none, is_some, option_and_then, option_map, if◌then◌else◌, codes}
 use Rattle.std.specs.Str.{bytes_eq}
 use Rattle.clap.specs.Words.{Kinds, Row, Text, all_of, first_of}
 use Rattle.gre_tunnel.specs.declared.tunnel.Tunnel.{Tunnel}
 use Rattle.outside_io.specs.declared.profile.Profile.{Profile}
+use Rattle.outside_io.specs.declared.profile.Profile.TheVariants.{Main}
 use Rattle.rist_words.specs.declared.values.Numbers.{Numbers}
 use Rattle.rist_words.specs.Commands.{SessionNames, faults_of, command_in, incoming_names, session_names}
 use Rattle.outside_net.specs.declared.link_spec.LinkSpec.{LinkSpec}
 use Rattle.request_rules.specs.declared.policy.NackKind.{NackKind}
 use Rattle.rist_words.specs.Values.{echo_of, flag_of, is_set, nack_of, name_of, number_at, number_in, number_of, phrase_of, profile_of, tunnel_of, ◌>>=◌}
 use Rattle.rist_words.specs.Links.{gate_links_of, link_ports, links_of, shares_of}
+use Rattle.rist_words.specs.Outs.{outs_of}
+pub use Rattle.rist_words.specs.Outs.{ports}
 
 -- how the datagrams of a session are made: the UDP port of media, the passphrase if there is one, the bits of its key,
 -- whether RTP and RTCP are written as full datagrams, whose form the tunnel's datagrams have, and whether a sender's
@@ -68,6 +71,19 @@ pub record PackCommand : Type 0 where
   pub session : Session
   pub stream : Stream
   pub gap : ℕ
+
+-- a split of a capture of a tunnel: the port and the name of each output, in their order; the session that all have but for
+-- the port, which is that of the first output; and the rest as of a replay
+pub record SplitCommand : Type 0 where
+  pub capture : Text
+  pub ports : List ℕ
+  pub names : List Text
+  pub session : Session
+  pub delay : ℕ
+  pub span : ℕ
+  pub restart : ℕ
+  pub drift : Bool
+  pub pcap : Option ℕ
 
 -- a stream sent on links: the time between two datagrams in microseconds; the time before the first one, how many packets
 -- are stored, and for how many milliseconds none is sent again; the links' weights, where they share the stream; for how
@@ -144,16 +160,13 @@ pub data CommandLine : Type 0 where
   Show : ShowCommand → CommandLine
   Count : CountCommand → CommandLine
   Pack : PackCommand → CommandLine
+  Split : SplitCommand → CommandLine
   Send : SendCommand → CommandLine
   Recv : RecvCommand → CommandLine
   Gate : GateCommand → CommandLine
   Drill : DrillCommand → CommandLine
 
--- the numbers that each option takes. Those of `--port`: an even UDP port
-abbrev pub ports : Numbers
-ports = record { default = 1968; least = 2; most = 65534; multiple_of = 2 }
-
--- `--bits`: 128 or 256
+-- the numbers that each option takes. Those of `--bits`: 128 or 256
 abbrev pub key_bits : Numbers
 key_bits = record { default = 128; least = 128; most = 256; multiple_of = 128 }
 
@@ -278,6 +291,14 @@ incoming_of session rows =
     if is_some (first_of incoming_names.profile rows) then session_named incoming_names false rows
     else (if are_unset incoming_names rows then Some session else None)
 
+-- the session of a command that is always in the Main Profile, at this port
+abbrev pub tunnel_session_of : ℕ → List Row → Option Session
+tunnel_session_of port rows = do
+  pass ← phrase_of Main (first_of session_names.pass rows)
+  bits ← number_of key_bits (first_of session_names.bits rows)
+  tunnel ← tunnel_of Main (first_of session_names.tunnel rows)
+  Some (record { profile = Main; port = port; pass = pass; bits = bits; full = false; tunnel = tunnel; echo = echo_of tunnel false })
+
 -- the UDP port of a pcap file's datagrams: `--pcap` and `--udp` are given both or neither
 abbrev pub pcap_with : Profile → Bool → Option Text → Option (Option ℕ)
 pcap_with profile false None = Some None
@@ -339,6 +360,41 @@ pack_of rows = do
   stream ← stream_of session.profile rows
   gap ← number_of gaps (first_of (codes "gap") rows)
   Some (record { source = source; capture = capture; session = session; stream = stream; gap = gap })
+
+-- the values of a split
+abbrev pub split_of : List Row → Option SplitCommand
+split_of rows = do
+  capture ← name_of (first_of (codes "capture") rows)
+  outs ← outs_of (first_of (codes "outs") rows)
+  session ← tunnel_session_of (slice_index outs.0 0) rows
+  delay ← number_of delays (first_of (codes "delay") rows)
+  span ← number_of spans (first_of (codes "span") rows)
+  restart ← number_of restarts (first_of (codes "restart") rows)
+  pcap ← pcap_of Main rows
+  Some (record {
+    capture = capture;
+    ports = outs.0;
+    names = outs.1;
+    session = session;
+    delay = delay;
+    span = span;
+    restart = restart;
+    drift = is_set (first_of (codes "drift") rows);
+    pcap = pcap;
+  })
+
+-- the replay that an output of a split is like: that of the same options, in the Main Profile and at the output's port
+abbrev pub replay_at : SplitCommand → ℕ → ReplayCommand
+replay_at c v = record {
+  capture = c.capture;
+  out = slice_index_or c.names v [];
+  session = record c.session { port = slice_index c.ports v };
+  delay = c.delay;
+  span = c.span;
+  restart = c.restart;
+  drift = c.drift;
+  pcap = c.pcap;
+}
 
 -- the values of a sending
 abbrev pub send_of : List Row → Option SendCommand
@@ -428,10 +484,11 @@ command_line name rows =
     else (if bytes_eq name (codes "show") then option_map Show (show_of rows)
     else (if bytes_eq name (codes "count") then option_map Count (count_of rows)
     else (if bytes_eq name (codes "pack") then option_map Pack (pack_of rows)
+    else (if bytes_eq name (codes "split") then option_map Split (split_of rows)
     else (if bytes_eq name (codes "send") then option_map Send (send_of rows)
     else (if bytes_eq name (codes "recv") then option_map Recv (recv_of rows)
     else (if bytes_eq name (codes "gate") then option_map Gate (gate_of rows)
-    else (if bytes_eq name (codes "drill") then option_map Drill (drill_of rows) else None)))))))
+    else (if bytes_eq name (codes "drill") then option_map Drill (drill_of rows) else None))))))))
 
 -- with nothing against the words, the line of the command that they name
 abbrev pub taken_line : Kinds → Option (Text × List Row) → Option CommandLine

@@ -68,6 +68,11 @@ abbrev pub pack_app : App
 pack_app = with_arguments (session_app (codes "pack")) (codes "flow" ∷ codes "first" ∷ codes "gap" ∷ []) (codes "nulls" ∷ codes "wide" ∷ codes "full" ∷ [])
     (codes "source" ∷ codes "capture" ∷ [])
 
+-- a split, which is always in the Main Profile and has the ports of its outputs: its options, its flags and its positions
+abbrev pub split_app : App
+split_app = with_arguments (with_rules Valued (new_app (codes "split")) (codes "pass" ∷ codes "bits" ∷ codes "tunnel" ∷ []))
+    (codes "delay" ∷ codes "span" ∷ codes "restart" ∷ codes "udp" ∷ []) (codes "pcap" ∷ codes "drift" ∷ []) (codes "capture" ∷ codes "outs" ∷ [])
+
 -- a sending: its options, its flags and its positions, of which the last takes one link or more
 abbrev pub send_app : App
 send_app = with_rules Positions (with_arguments (session_app (codes "send"))
@@ -98,8 +103,8 @@ drill_app = with_rules Position (new_app (codes "drill")) (codes "number" ∷ co
 
 -- the commands over files
 abbrev pub files_app : App
-files_app = with_subcommand (with_subcommand (with_subcommand (with_subcommand (new_app (codes "rist")) replay_app.top) show_app.top) count_app.top)
-    pack_app.top
+files_app = with_subcommand (with_subcommand (with_subcommand (with_subcommand (with_subcommand (new_app (codes "rist")) replay_app.top) show_app.top)
+    count_app.top) pack_app.top) split_app.top
 
 -- the program: those, the commands over links, and the simulated run
 abbrev pub rist_app : App

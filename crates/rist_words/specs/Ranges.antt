@@ -1,12 +1,13 @@
 -- The ranges and combinations of a line's values (this profile).
-use Rattle.std.specs.Prelude.{◌≡◌, ◌⊎◌, ℕ, ◌+◌, ◌%◌, ◌^◌, ◌<◌, ◌≤◌, false, None, IfSome, length}
+use Rattle.std.specs.Prelude.{◌≡◌, ◌⊎◌, ℕ, [], ◌+◌, ◌%◌, ◌^◌, ◌<◌, ◌≤◌, false, None, IfSome, length, slice_index, slice_index_or}
 use Rattle.std.specs.List.{All}
 use Rattle.gre_tunnel.specs.declared.tunnel.Tunnel.TheVariants.{Own}
 use Rattle.outside_io.specs.declared.profile.Profile.{Profile}
-use Rattle.outside_io.specs.declared.profile.Profile.TheVariants.{Simple}
-use Rattle.rist_words.specs.CommandLine.{CommandLine, Replay, Show, Count, Pack, Send, Recv, Gate, Drill, Session, Stream, Receiver, Serving, ReplayCommand, ShowCommand, CountCommand, PackCommand, SendCommand, RecvCommand, GateCommand, DrillCommand}
-use Rattle.rist_words.specs.CommandLine.{ports, delays, spans, restarts, gaps, leads, stores, holds, lingers, turn_counts, reorders, retry_times, retry_counts, idle_times, kept_counts, drill_counts, drill_links, drill_losses}
+use Rattle.outside_io.specs.declared.profile.Profile.TheVariants.{Simple, Main}
+use Rattle.rist_words.specs.CommandLine.{CommandLine, Replay, Show, Count, Pack, Split, Send, Recv, Gate, Drill, Session, Stream, Receiver, Serving, ReplayCommand, ShowCommand, CountCommand, PackCommand, SplitCommand, SendCommand, RecvCommand, GateCommand, DrillCommand}
+use Rattle.rist_words.specs.CommandLine.{delays, spans, restarts, gaps, leads, stores, holds, lingers, turn_counts, reorders, retry_times, retry_counts, idle_times, kept_counts, drill_counts, drill_links, drill_losses}
 use Rattle.rist_words.specs.Links.{link_weights}
+use Rattle.rist_words.specs.Outs.{ports}
 
 -- an even port, a key's length, and a passphrase, full datagrams and another tunnel in the Main Profile alone
 pub record IsInSession (s : Session) : Type 0 where
@@ -65,6 +66,27 @@ pub record IsInPack (c : PackCommand) : Type 0 where
   pub stream : IsInStream c.session.profile c.stream
   pub some_gap : gaps.least ≤ c.gap
   pub gap : c.gap ≤ gaps.most
+
+-- one to eight outputs, of even ports and of names that aren't empty, no two of either the same; a session of the Main
+-- Profile, and of a replay what a split has too
+pub record IsInSplit (c : SplitCommand) : Type 0 where
+  pub session : IsInSession c.session
+  pub main : c.session.profile ≡ Main
+  pub some : 1 ≤ length c.ports
+  pub few : length c.ports ≤ 8
+  pub count : length c.names ≡ length c.ports
+  pub even : (k : ℕ) → k < length c.ports → slice_index c.ports k % 2 ≡ 0
+  pub low : (k : ℕ) → k < length c.ports → ports.least ≤ slice_index c.ports k
+  pub high : (k : ℕ) → k < length c.ports → slice_index c.ports k ≤ ports.most
+  pub different : (j k : ℕ) → j < length c.ports → k < length c.ports → slice_index c.ports j ≡ slice_index c.ports k → j ≡ k
+  pub named : (k : ℕ) → k < length c.names → 1 ≤ length (slice_index_or c.names k [])
+  pub apart : (j k : ℕ) → j < length c.names → k < length c.names → slice_index_or c.names j [] ≡ slice_index_or c.names k [] → j ≡ k
+  pub some_delay : delays.least ≤ c.delay
+  pub delay : c.delay ≤ delays.most
+  pub some_span : spans.least ≤ c.span
+  pub span : c.span ≤ spans.most
+  pub restart : c.restart ≤ restarts.most
+  pub udp : IfSome c.pcap (λ port. IsUdpPort c.session.profile port)
 
 -- a weight that a link takes
 pub record IsWeight (weight : ℕ) : Type 0 where
@@ -148,6 +170,7 @@ IsInRange (Replay c) = IsInReplay c
 IsInRange (Show c) = IsInShow c
 IsInRange (Count c) = IsInCount c
 IsInRange (Pack c) = IsInPack c
+IsInRange (Split c) = IsInSplit c
 IsInRange (Send c) = IsInSend c
 IsInRange (Recv c) = IsInRecv c
 IsInRange (Gate c) = IsInGate c

@@ -1,5 +1,5 @@
 -- A line as a command, without where its texts lie in memory.
-use Rattle.std.specs.Prelude.{option_map}
+use Rattle.std.specs.Prelude.{map, option_map}
 use Rattle.rist_words.specs.declared.lines.Line.{Line}
 use Rattle.rist_words.specs.declared.lines.Line.TheVariants as lines
 use Rattle.rist_words.specs.declared.lines.SessionWords.{SessionWords}
@@ -7,6 +7,7 @@ use Rattle.rist_words.specs.declared.lines.ReplayLine.{ReplayLine}
 use Rattle.rist_words.specs.declared.lines.ShowLine.{ShowLine}
 use Rattle.rist_words.specs.declared.lines.CountLine.{CountLine}
 use Rattle.rist_words.specs.declared.lines.PackLine.{PackLine}
+use Rattle.rist_words.specs.declared.lines.SplitLine.{SplitLine}
 use Rattle.rist_words.specs.declared.lines.SendLine.{SendLine}
 use Rattle.rist_words.specs.declared.lines.StreamWords.{StreamWords}
 use Rattle.rist_words.specs.declared.lines.ReceiverWords.{ReceiverWords}
@@ -16,7 +17,7 @@ use Rattle.rist_words.specs.declared.lines.GateLine.{GateLine}
 use Rattle.rist_words.specs.declared.lines.DrillLine.{DrillLine}
 use Rattle.rist_words.specs.declared.session.SessionOptions.{SessionOptions}
 use Rattle.rist_words.specs.Commands.{SessionNames}
-use Rattle.rist_words.specs.CommandLine.{CommandLine, Replay, Show, Count, Pack, Send, Recv, Gate, Drill, Session, Stream, Receiver, Serving, ReplayCommand, ShowCommand, CountCommand, PackCommand, SendCommand, RecvCommand, GateCommand, DrillCommand}
+use Rattle.rist_words.specs.CommandLine.{CommandLine, Replay, Show, Count, Pack, Split, Send, Recv, Gate, Drill, Session, Stream, Receiver, Serving, ReplayCommand, ShowCommand, CountCommand, PackCommand, SplitCommand, SendCommand, RecvCommand, GateCommand, DrillCommand}
 
 -- the names of a session's options
 abbrev pub shown_names : SessionOptions → SessionNames
@@ -45,6 +46,20 @@ shown_stream s = record { nulls = s.nulls; wide = s.wide; flow = s.flow; first =
 -- the packing that a line says
 abbrev pub shown_pack : PackLine → PackCommand
 shown_pack l = record { source = l.source.now; capture = l.capture.now; session = shown_session l.session; stream = shown_stream l.stream; gap = l.gap }
+
+-- the split that a line says
+abbrev pub shown_split : SplitLine → SplitCommand
+shown_split l = record {
+  capture = l.capture.now;
+  ports = l.ports.items;
+  names = map (λ name. name.now) l.names.items;
+  session = shown_session l.session;
+  delay = l.delay;
+  span = l.span;
+  restart = l.restart;
+  drift = l.drift;
+  pcap = l.pcap;
+}
 
 -- the sending that a line says
 abbrev pub shown_send : SendLine → SendCommand
@@ -99,6 +114,7 @@ shown (lines.Replay l) = Replay (shown_replay l)
 shown (lines.Show l) = Show (shown_show l)
 shown (lines.Count l) = Count (shown_count l)
 shown (lines.Pack l) = Pack (shown_pack l)
+shown (lines.Split l) = Split (shown_split l)
 shown (lines.Send l) = Send (shown_send l)
 shown (lines.Recv l) = Recv (shown_recv l)
 shown (lines.Gate l) = Gate (shown_gate l)

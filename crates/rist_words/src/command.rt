@@ -2,7 +2,7 @@
 ghost use Rattle.std.specs.Prelude.{◌≡◌, IfOk, false, map};
 ghost use Rattle.clap.specs.Words.{app_of, rule_of, with_rule, with_subcommand};
 ghost use Rattle.clap.specs.declared.Command.TheViews.{out-Command as fields_of};
-ghost use Rattle.rist_words.specs.Commands.{rule_for, with_rules, session_app, with_arguments, replay_app, show_app, count_app, pack_app};
+ghost use Rattle.rist_words.specs.Commands.{rule_for, with_rules, session_app, with_arguments, replay_app, show_app, count_app, pack_app, split_app};
 ghost use Rattle.rist_words.specs.Commands.{send_app, recv_app, gate_app, drill_app, files_app, rist_app};
 
 use clap::{Arg, ArgAction, Command};
@@ -13,7 +13,7 @@ static SESSION: [&str; 5] = ["profile", "port", "pass", "bits", "tunnel"];
 
 static REPLAY: [&str; 2] = ["capture", "out"];
 
-/// The options of a replay, and of a counting.
+/// The options of a replay, of a counting, and of a split.
 static REPLAY_OPTIONS: [&str; 4] = ["delay", "span", "restart", "udp"];
 
 /// The position of a showing, and of a counting.
@@ -21,7 +21,7 @@ static CAPTURE: [&str; 1] = ["capture"];
 
 static SHOW_OPTIONS: [&str; 1] = ["udp"];
 
-/// The flags of a replay, and of a counting.
+/// The flags of a replay, of a counting, and of a split.
 static REPLAY_FLAGS: [&str; 2] = ["pcap", "drift"];
 
 /// The flag of a showing.
@@ -30,6 +30,11 @@ static SHOW_FLAGS: [&str; 1] = ["pcap"];
 static PACK: [&str; 2] = ["source", "capture"];
 
 static PACK_OPTIONS: [&str; 3] = ["flow", "first", "gap"];
+
+/// The options of a split by which its session is given.
+static TUNNEL: [&str; 3] = ["pass", "bits", "tunnel"];
+
+static SPLIT: [&str; 2] = ["capture", "outs"];
 
 static SEND: [&str; 1] = ["source"];
 
@@ -108,7 +113,8 @@ fn over_files<'a>(alloc: Global) -> Result<Command<'a>, AllocError>
     let program = below(program, replay(alloc)?)?;
     let program = below(program, show(alloc)?)?;
     let program = below(program, count(alloc)?)?;
-    Ok(below(program, pack(alloc)?)?)
+    let program = below(program, pack(alloc)?)?;
+    Ok(below(program, split(alloc)?)?)
 }
 
 /// The command of a replay.
@@ -145,6 +151,15 @@ fn pack<'a>(alloc: Global) -> Result<Command<'a>, AllocError>
 {
     let pack = session(alloc, "pack")?;
     with_arguments(alloc, pack, &PACK_OPTIONS, &PACK_FLAGS, &PACK)
+}
+
+/// The command of a split, which is always in the Main Profile and has the ports of its outputs.
+fn split<'a>(alloc: Global) -> Result<Command<'a>, AllocError>
+    ensures app { IfOk result (λ r. app_of r ≡ split_app) }
+    ensures local { IfOk result (λ r. (fields_of r).has_globals ≡ false) }
+{
+    let split = with_all(alloc, Command::new(alloc, "split"), Kind::Valued, &TUNNEL)?;
+    with_arguments(alloc, split, &REPLAY_OPTIONS, &REPLAY_FLAGS, &SPLIT)
 }
 
 /// The command of a sending, over one link or more.

@@ -9,6 +9,7 @@ pub mod laws;
 mod lines;
 pub mod links;
 pub mod matching;
+pub mod outs;
 pub mod pcap;
 pub mod reading;
 pub mod receiving;
@@ -17,6 +18,6 @@ pub mod values;
 
 pub use lines::{
     CountLine, DrillLine, GateLine, Line, PackLine, ReceiverWords, RecvLine, Refused, ReplayLine,
-    SendLine, ServingWords, SessionWords, ShowLine, StreamWords,
+    SendLine, ServingWords, SessionWords, ShowLine, SplitLine, StreamWords,
 };
 pub use reading::line;

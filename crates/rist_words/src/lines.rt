@@ -17,6 +17,8 @@ pub enum Line<'a> {
     Count(CountLine<'a>),
     /// `pack SOURCE CAPTURE`
     Pack(PackLine<'a>),
+    /// `split CAPTURE OUTS`
+    Split(SplitLine<'a>),
     /// `send SOURCE LINK..`
     Send(SendLine<'a>),
     /// `recv OUT LINK..`
@@ -123,6 +125,29 @@ pub struct PackLine<'a> {
     pub stream: StreamWords,
     /// The time between two datagrams in microseconds, 1 to 1,000,000.
     pub gap: u64,
+}
+
+/// Write each flow of a captured tunnel to an output of its own.
+#[derive(Debug, PartialEq, Eq, Drop)]
+pub struct SplitLine<'a> {
+    /// The capture's name.
+    pub capture: &'a str,
+    /// The port of each output, one to eight different even numbers from 2 to 65,534.
+    pub ports: Vec<u16>,
+    /// The name of each output, in the order of the ports, and no two the same.
+    pub names: Vec<&'a str>,
+    /// How the capture's datagrams are read: in the Main Profile, with the port of the first output.
+    pub session: SessionWords<'a>,
+    /// The playout delay in milliseconds, 1 to 30,000.
+    pub delay: u64,
+    /// The buffer's capacity in packets, 1 to 16,384.
+    pub span: u64,
+    /// How long no packet must have been kept before another flow takes over, in milliseconds, 0 to 60,000; 0 is never.
+    pub restart: u64,
+    /// Whether deadlines follow a sender's clock that drifts.
+    pub drift: bool,
+    /// The UDP port of the datagrams where the capture is a pcap file, 1 to 65,535.
+    pub pcap: Option<u16>,
 }
 
 /// Send a stream on links.

@@ -175,7 +175,7 @@ fn address_of(text: &str) -> Option<[u8; 4]>
 }
 
 /// The text before the first of a mark, and the text behind it.
-fn split_at<'a>(text: &'a str, mark: char) -> Option<(&'a str, &'a str)>
+pub(crate) fn split_at<'a>(text: &'a str, mark: char) -> Option<(&'a str, &'a str)>
     requires ascii { mark < 128 }
     ensures { option_map (λ s. (s.0.now, s.1.now)) result ≡ split_at mark text.now }
 {
@@ -229,7 +229,7 @@ fn weights_in(alloc: Global, links: usize, text: &str) -> Result<Vec<u8>, Refuse
 }
 
 /// Adds one more behind the others.
-fn push<T: Drop>(list: &mut Vec<T>, item: T) -> Result<(), AllocError>
+pub(crate) fn push<T: Drop>(list: &mut Vec<T>, item: T) -> Result<(), AllocError>
     ensures ok { OnOk result (list.new.items ≡ list.old.items ++ item ∷ []) }
 {
     list.push(item)?;

@@ -1,20 +1,23 @@
 //! The line that the words are.
 ghost use Rattle.std.specs.Prelude.{◌≡◌, Err, Some, None, IfOk, map, option_map, string_bytes};
 ghost use Rattle.clap.specs.Words.{found_of, rows_of};
-ghost use Rattle.rist_words.specs.CommandLine.{line_of, command_line, replay_of, show_of, count_of, pack_of, send_of, recv_of, gate_of, drill_of};
-ghost use Rattle.rist_words.specs.Shown.{shown, shown_replay, shown_show, shown_count, shown_pack, shown_send, shown_recv, shown_gate, shown_drill};
+ghost use Rattle.rist_words.specs.CommandLine.{line_of, command_line, replay_of, show_of, count_of, pack_of, split_of, send_of, recv_of, gate_of, drill_of};
+ghost use Rattle.rist_words.specs.Shown.{shown, shown_replay, shown_show, shown_count, shown_pack, shown_split, shown_send, shown_recv, shown_gate, shown_drill};
 
 use crate::drilling::drill_line;
 use crate::lines::{
     CountLine, GateLine, Line, PackLine, RecvLine, Refused, ReplayLine, SendLine, ShowLine,
+    SplitLine,
 };
 use crate::links::{gate_links, links, share};
 use crate::matching::matched;
+use crate::outs::outs;
 use crate::pcap::pcap;
 use crate::receiving::{DELAY, RESTART, SPAN, TURNS, receiver, serving};
-use crate::session::{incoming, session, stream};
+use crate::session::{incoming, session, stream, tunnel_session};
 use crate::values::{Numbers, is_set, name, number};
 use clap::ArgMatches;
+use outside_io::Profile;
 use std::alloc::Global;
 
 pub const GAP: Numbers = Numbers {
@@ -81,6 +84,8 @@ fn command_line<'a>(
         Ok(Line::Count(count_line(values).ok_or(Refused::Usage)?))
     } else if command == "pack" {
         Ok(Line::Pack(pack_line(values).ok_or(Refused::Usage)?))
+    } else if command == "split" {
+        Ok(Line::Split(split_line(alloc, values)?))
     } else if command == "send" {
         Ok(Line::Send(send_line(alloc, values)?))
     } else if command == "recv" {
@@ -155,6 +160,29 @@ fn pack_line<'a>(values: &ArgMatches<'a>) -> Option<PackLine<'a>>
         session,
         stream: stream(values, session.profile)?,
         gap: number(values, "gap", GAP)?,
+    })
+}
+
+fn split_line<'a>(alloc: Global, values: &ArgMatches<'a>) -> Result<SplitLine<'a>, Refused>
+    ensures ok { IfOk result (λ l. split_of (rows_of (found_of values.now)) ≡ Some (shown_split l)) }
+    ensures usage { result ≡ Err Refused.Usage → split_of (rows_of (found_of values.now)) ≡ None }
+{
+    let capture = name(values, "capture").ok_or(Refused::Usage)?;
+    let (ports, names) = match outs(alloc, values) {
+        Ok(outs) => outs,
+        Err(refused) => return Err(refused),
+    };
+    let session = tunnel_session(values, ports[0]).ok_or(Refused::Usage)?;
+    Ok(SplitLine {
+        capture,
+        ports,
+        names,
+        session,
+        delay: number(values, "delay", DELAY).ok_or(Refused::Usage)?,
+        span: number(values, "span", SPAN).ok_or(Refused::Usage)?,
+        restart: number(values, "restart", RESTART).ok_or(Refused::Usage)?,
+        drift: is_set(values, "drift"),
+        pcap: pcap(values, Profile::Main).ok_or(Refused::Usage)?,
     })
 }
 

@@ -2,7 +2,7 @@
 ghost use Rattle.std.specs.Prelude.{◌≡◌, false, option_map};
 ghost use Rattle.clap.specs.Words.{found_of, rows_of};
 ghost use Rattle.rist_words.specs.Commands.{incoming_names, session_names};
-ghost use Rattle.rist_words.specs.CommandLine.{are_unset, firsts, incoming_of, session_named, session_of, stream_of};
+ghost use Rattle.rist_words.specs.CommandLine.{are_unset, firsts, incoming_of, session_named, session_of, stream_of, tunnel_session_of};
 ghost use Rattle.rist_words.specs.Values.{echo_of};
 ghost use Rattle.rist_words.specs.Shown.{shown_names, shown_session, shown_stream};
 
@@ -72,7 +72,8 @@ pub fn session<'a>(values: &ArgMatches<'a>) -> Option<SessionWords<'a>>
 
 /// The session of the links that a gateway receives on: that of the others where no profile is given for it.
 pub fn incoming<'a>(values: &ArgMatches<'a>, others: SessionWords<'a>) -> Option<SessionWords<'a>>
-    ensures { option_map shown_session result ≡ incoming_of (shown_session others.entry) (rows_of (found_of values.now)) }
+    ensures { option_map shown_session result
+        ≡ incoming_of (shown_session others.entry) (rows_of (found_of values.now)) }
 {
     match given(values, INCOMING.profile) {
         Some(_) => session_named(values, INCOMING, false),
@@ -115,6 +116,24 @@ fn session_named<'a>(
         full,
         tunnel,
         echo: echo_of(tunnel, asks),
+    })
+}
+
+/// The session of a command that is always in the Main Profile, at this port.
+pub fn tunnel_session<'a>(values: &ArgMatches<'a>, port: u16) -> Option<SessionWords<'a>>
+    ensures { option_map shown_session result ≡ tunnel_session_of port (rows_of (found_of values.now)) }
+{
+    let pass = phrase(values, OWN.pass, Profile::Main)?;
+    let bits = number(values, OWN.bits, BITS)? as u16;
+    let tunnel = tunnel(values, OWN.tunnel, Profile::Main)?;
+    Some(SessionWords {
+        profile: Profile::Main,
+        port,
+        pass,
+        bits,
+        full: false,
+        tunnel,
+        echo: echo_of(tunnel, false),
     })
 }
 

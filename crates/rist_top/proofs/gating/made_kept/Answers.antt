@@ -1,5 +1,5 @@
 -- What is made is what the line says.
-use Rattle.std.proofs.Common.{◌≡◌, ◌∙◌, Option, Some, subst}
+use Rattle.std.proofs.Common.{◌≡◌, ◌∙◌, Some, subst}
 use Rattle.std.specs.Prelude.{IfOk}
 use Rattle.rist_gateway.specs.Setup.{gate_setup_of}
 use Rattle.rist_words.specs.Shown.{shown_gate}

@@ -19,6 +19,7 @@ use Rattle.rist_top.proofs.PiecesLemmas.{in_pieces}
 use Rattle.rist_top.proofs.WholeLemmas.{sent_completes}
 use Rattle.rist_top.proofs.DoesLemmas.{does_no_line, does_nothing}
 use Rattle.rist_top.proofs.DrillLemmas.{no_drill}
+use Rattle.rist_top.proofs.DoesSplitLemmas.{no_split, splits_nothing}
 use Rattle.rist_top.proofs.PrintLemmas.{prints_nothing}
 use Rattle.rist_top.proofs.top.plain.Goals as goal
 
@@ -89,6 +90,15 @@ returns-in-Err-Usage-clause-does g c = does_no_line _ _ _ _ _ _ _ _ _ (c.in-Err-
 
 pub returns-in-Err-Memory-clause-does : goal.returns-in-Err-Memory-clause-does
 returns-in-Err-Memory-clause-does g c = does_nothing _ _ _ _ _ _
+
+pub returns-in-Ok-clause-splits : goal.returns-in-Ok-clause-splits
+returns-in-Ok-clause-splits g c k is = c.run_line.ensures.split k (same_line _ _ (sym c.in-Ok.ensures.ok ∙ is))
+
+pub returns-in-Err-Usage-clause-splits : goal.returns-in-Err-Usage-clause-splits
+returns-in-Err-Usage-clause-splits g c k is = absurd (no_split _ k (c.in-Err-Usage.ensures.usage (search rules)) is)
+
+pub returns-in-Err-Memory-clause-splits : goal.returns-in-Err-Memory-clause-splits
+returns-in-Err-Memory-clause-splits g c k is = splits_nothing _ _ _ _ _
 
 pub returns-in-Ok-clause-drills : goal.returns-in-Ok-clause-drills
 returns-in-Ok-clause-drills g c k is = c.run_line.ensures.drill k (same_line _ _ (sym c.in-Ok.ensures.ok ∙ is))

@@ -9,9 +9,11 @@ use Rattle.rist_top.specs.Received.{Unreceived}
 use Rattle.rist_help.proofs.AskLemmas.{asks_none}
 use Rattle.rist_top.proofs.DoesLemmas.{does_no_gate, does_no_line, gate_is_none, gates_nothing, is_line, no_both, no_line, no_plain_line, receiving_is_none, same_gate, same_receiving}
 use Rattle.rist_top.proofs.DrillLemmas.{no_drill}
+use Rattle.rist_top.proofs.DoesSplitLemmas.{no_split, splits_nothing}
 use Rattle.rist_top.proofs.PrintLemmas.{prints_nothing}
 use Rattle.rist_top.proofs.GatingLemmas.{gated_completes, gated_same, gating_same}
 use Rattle.rist_top.proofs.HeardLemmas.{completes_same, received_completes, received_same}
+use Rattle.rist_top.proofs.ReachedLemmas.{done_ran, gated_reached, received_reached}
 use Rattle.rist_top.proofs.top.run.Goals as goal
 
 pub receive_line-requires-clause-range : goal.receive_line-requires-clause-range
@@ -24,6 +26,16 @@ pub returns-in-Receive-clause-received : goal.returns-in-Receive-clause-received
 returns-in-Receive-clause-received g c unused ran k is =
     received_same _ _ (g.H.Host.shelf c.args.host.now) (g.H.Host.shelf c.receive_line.new.host) _ k c.receive_line.result
     (same_receiving _ _ k (c.waiting_line.ensures.receive _ c.in-Receive.is) is) (c.receive_line.ensures.received unused ran)
+
+pub returns-in-Receive-clause-reached : goal.returns-in-Receive-clause-reached
+returns-in-Receive-clause-reached g c unused out k is =
+    received_reached _ _ (g.H.Host.shelf c.args.host.now) (g.H.Host.shelf c.receive_line.new.host) k c.receive_line.result out
+    (λ ran.
+    received_same _ _ (g.H.Host.shelf c.args.host.now) (g.H.Host.shelf c.receive_line.new.host) _ k c.receive_line.result
+    (same_receiving _ _ k (c.waiting_line.ensures.receive _ c.in-Receive.is) is) (c.receive_line.ensures.received unused ran))
+
+pub returns-in-Gate-clause-reached : goal.returns-in-Gate-clause-reached
+returns-in-Gate-clause-reached g c unused out k is = absurd (no_both _ k _ is (c.waiting_line.ensures.gate _ c.in-Gate.is))
 
 pub returns-in-Receive-clause-heard : goal.returns-in-Receive-clause-heard
 returns-in-Receive-clause-heard g c unused opened k is =
@@ -50,6 +62,9 @@ returns-in-Gate-clause-gates g c =
       gated = λ unused ran k is.
           gated_same _ _ old new _ k c.gate_line.result (same_gate _ _ k (c.waiting_line.ensures.gate _ c.in-Gate.is) is) (c.gate_line.ensures.gated unused ran);
       ungated = λ unused refused k is. c.gate_line.ensures.ungated unused refused;
+      reached = λ unused done k is.
+          gated_reached _ _ old new k c.gate_line.result done
+          (gated_same _ _ old new _ k c.gate_line.result (same_gate _ _ k (c.waiting_line.ensures.gate _ c.in-Gate.is) is) (c.gate_line.ensures.gated unused (done_ran c.gate_line.result done)));
       around = λ unused k is. subst (KeepsAroundGate old new) (same_gate _ _ k (c.waiting_line.ensures.gate _ c.in-Gate.is) is) (c.gate_line.ensures.around unused);
       links_opened = λ unused ran k is.
           subst (λ x. new.opened_links ≡ links_gated x) (same_gate _ _ k (c.waiting_line.ensures.gate _ c.in-Gate.is) is) (c.gate_line.ensures.links_opened unused ran);
@@ -129,6 +144,15 @@ returns-in-Plain-clause-refused g c none = c.plain.ensures.refused (no_plain_lin
 
 pub returns-in-Plain-clause-same : goal.returns-in-Plain-clause-same
 returns-in-Plain-clause-same g c tells none = c.plain.ensures.same tells (no_plain_line _ none)
+
+pub returns-in-Receive-clause-splits : goal.returns-in-Receive-clause-splits
+returns-in-Receive-clause-splits g c k is = absurd (no_split _ k (receiving_is_none _ _ (c.waiting_line.ensures.receive _ c.in-Receive.is)) is)
+
+pub returns-in-Gate-clause-splits : goal.returns-in-Gate-clause-splits
+returns-in-Gate-clause-splits g c k is = absurd (no_split _ k (gate_is_none _ _ (c.waiting_line.ensures.gate _ c.in-Gate.is)) is)
+
+pub returns-in-Memory-clause-splits : goal.returns-in-Memory-clause-splits
+returns-in-Memory-clause-splits g c k is = splits_nothing _ _ _ _ _
 
 pub returns-in-Receive-clause-drills : goal.returns-in-Receive-clause-drills
 returns-in-Receive-clause-drills g c k is = absurd (no_drill _ k (receiving_is_none _ _ (c.waiting_line.ensures.receive _ c.in-Receive.is)) is)
