@@ -228,7 +228,7 @@ fn a_truncated_capture_says_where_it_was_cut(rt: HostRuntime) -> Result<(), Fail
     let cut = Status::BadCapture(CapKind::Truncated, 74);
     let parts: [&[u8]; 4] = [NAME, A, B, b"\0\x02\0"];
     let (a, b) = split(rt.alloc(), LINE, &parts, &NONE, cut)?;
-    assert!(rt; a.as_slice() == b"A" && b.as_slice() == b"B");
+    assert!(rt; a.as_slice() == b"A".as_slice() && b.as_slice() == b"B".as_slice());
     Ok(())
 }
 
