@@ -12,6 +12,8 @@
     pieces.py restarted FILE CAME CUT NEXT END  the same of two streams, the second of which begins with piece CUT: at most NEXT
                                                pieces may be missing before the first that came of each, and END after its
                                                last
+    pieces.py held FILE PCAP CAME              the pieces of FILE that end a frame of PCAP, in their order, are the pieces that
+                                               came: its status is 1 where they aren't
     pieces.py cut FILE CUT FIRST SECOND        writes the pieces before CUT to FIRST, and the others to SECOND
 """
 import random
@@ -111,6 +113,22 @@ def judge(name, came, cuts, front, end):
     return 0 if is_good else 1
 
 
+def frames_of(name):
+    with open(name, 'rb') as octets:
+        octets.read(24)
+        while head := octets.read(16):
+            yield octets.read(int.from_bytes(head[8:12], 'little'))
+
+
+def held(name, pcap, came):
+    sent = list(pieces_of(name))
+    places = {piece: k for k, piece in enumerate(sent)}
+    ends = {places[frame[-LENGTH:]] for frame in frames_of(pcap) if frame[-LENGTH:] in places}
+    is_good = list(pieces_of(came)) == [sent[k] for k in sorted(ends)]
+    print(f'{len(ends)} of {len(sent)} pieces are in the capture; what came is these in order: ' + ('good' if is_good else 'NOT GOOD'))
+    return 0 if is_good else 1
+
+
 def cut(name, at, first, second):
     with open(first, 'wb') as before, open(second, 'wb') as after:
         for k, piece in enumerate(pieces_of(name)):
@@ -118,4 +136,4 @@ def cut(name, at, first, second):
 
 
 sys.exit({'make': make, 'feed': feed, 'take': take, 'compare': compare, 'restarted': restarted,
-          'cut': cut}[sys.argv[1]](*sys.argv[2:]))
+          'held': held, 'cut': cut}[sys.argv[1]](*sys.argv[2:]))
