@@ -35,7 +35,8 @@ inverse a = product_of_squares 7 a
 -- i + 5, i + 6 and i + 7 (modulo 8) of b and of bit i of 63 in base 16 (section 5.1.1)
 unfoldable pub affine_image : ℕ → ℕ
 affine_image b =
-    bit_xor (bit_xor (bit_xor (bit_xor (bit_xor b (rotate_left w8 b 1)) (rotate_left w8 b 2)) (rotate_left w8 b 3)) (rotate_left w8 b 4)) 0x63
+    bit_xor (bit_xor (bit_xor (bit_xor (bit_xor b (rotate_left w8 b 1)) (rotate_left w8 b 2)) (rotate_left w8 b 3))
+    (rotate_left w8 b 4)) 0x63
 
 -- the S-box (section 5.1.1)
 unfoldable pub sub_byte : ℕ → ℕ

@@ -1,5 +1,6 @@
 -- The key schedule (FIPS 197, section 5.2). A word is the list of its four octets.
-use Rattle.std.specs.Prelude.{ℕ, zero, suc, ◌+◌, ◌-◌, ◌/◌, ◌%◌, List, [], ◌∷◌, ◌++◌, length, map, take, drop, if◌then◌else◌, nat_lt, ◌==◌, ◌&&◌, slice_index_or, bit_xor}
+use Rattle.std.specs.Prelude.{ℕ, zero, suc, ◌+◌, ◌-◌, ◌/◌, ◌%◌, List, [], ◌∷◌, ◌++◌, length, map, take, drop}
+use Rattle.std.specs.Prelude.{if◌then◌else◌, nat_lt, ◌==◌, ◌&&◌, slice_index_or, bit_xor}
 use Rattle.std.specs.Simd.Lanes.{zip2}
 use Rattle.aes_block.specs.Field.{times_x, sub_byte}
 

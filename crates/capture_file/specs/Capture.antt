@@ -1,5 +1,6 @@
--- The capture file (this profile): eight octets of a name, and then records one after another. A record is its link (8 bits),
--- its channel (8 bits), its length (16 bits), its time in microseconds (64 bits), and its octets. Numbers are big-endian.
+-- The capture file (this profile): eight octets of a name, and then records one after another. A record is its link (8
+-- bits), its channel (8 bits), its length (16 bits), its time in microseconds (64 bits), and its octets. Numbers are
+-- big-endian.
 use Rattle.std.specs.Prelude.{◌≡◌, ℕ, ◌^◌, ◌<◌, ◌≤◌, List, [], ◌∷◌, ◌++◌, length, flat_map, All}
 use Rattle.std.specs.Int.{w16, w64, to_be_bytes}
 use Rattle.outside_io.specs.declared.channel.Channel.{Channel}

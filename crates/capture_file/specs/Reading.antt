@@ -1,5 +1,6 @@
 -- What a reader answers, by the octets that remained and that remain now, where those are told.
-use Rattle.std.specs.Prelude.{◌≡◌, ◌≢◌, ◌⊎◌, ℕ, ◌<◌, List, [], ◌++◌, length, take, None, Some, Result, Ok, Err, IfSome, if◌then◌else◌, ◌==◌, Bool, true, false}
+use Rattle.std.specs.Prelude.{◌≡◌, ◌≢◌, ◌⊎◌, ℕ, ◌<◌, List, [], ◌++◌, length, take, None, Some, Result, Ok, Err, IfSome}
+use Rattle.std.specs.Prelude.{if◌then◌else◌, ◌==◌, Bool, true, false}
 use Rattle.std.specs.declared.option.Option.{Option}
 use Rattle.outside_io.specs.Causes.{Fault, NoFault, Read}
 use Rattle.outside_io.specs.Told.{Takes, IsEmpty}
@@ -32,7 +33,8 @@ name_at at = if at == 0 then magic else []
 abbrev pub IsBadAt : ℕ → List ℕ → CapBad → Type 0
 IsBadAt at b (Bad kind place) =
     ((at ≡ 0) × (kind ≡ Magic) × (place ≡ 0) × (take 8 b ≢ magic))
-    ⊎ ((place ≡ offset_at at) × ((rest : List ℕ) × (b ≡ name_at at ++ rest) × (0 < length rest) × (fault_at place rest ≡ Some kind)))
+    ⊎ ((place ≡ offset_at at)
+    × ((rest : List ℕ) × (b ≡ name_at at ++ rest) × (0 < length rest) × (fault_at place rest ≡ Some kind)))
 IsBadAt at b ReadFault = ⊥
 
 -- what was read before a fault is no whole name, or the name where it was not read yet and no whole record
@@ -43,7 +45,8 @@ IsUnfinished at part = ((at ≡ 0) × (length part < 8)) ⊎ ((rest : List ℕ) 
 abbrev pub ReadsNext : ℕ → Option (List ℕ) → Option (List ℕ) → List ℕ → Result (Option Head) CapBad → Type 0
 ReadsNext at old new buf (Ok None) = Takes old new (name_at at) × IsEmpty new
 ReadsNext at old new buf (Ok (Some head)) =
-    Fits (record_of head (take head.length buf)) × Takes old new (name_at at ++ spelling (record_of head (take head.length buf)))
+    Fits (record_of head (take head.length buf))
+    × Takes old new (name_at at ++ spelling (record_of head (take head.length buf)))
 ReadsNext at old new buf (Err (Bad kind place)) = IfSome old (λ b. IsBadAt at b (Bad kind place))
 ReadsNext at old new buf (Err ReadFault) = IsCutShort old new (IsUnfinished at)
 

@@ -1,5 +1,6 @@
 -- The tests of a capture, in their order (this profile).
-use Rattle.std.specs.Prelude.{◌≡◌, ◌≢◌, ◌⊎◌, ℕ, ◌+◌, ◌^◌, ◌<◌, List, ◌++◌, length, take, drop, flat_map, All, if◌then◌else◌, nat_lt, None, Some, get_or}
+use Rattle.std.specs.Prelude.{◌≡◌, ◌≢◌, ◌⊎◌, ℕ, ◌+◌, ◌^◌, ◌<◌, List, ◌++◌, length, take, drop, flat_map, All}
+use Rattle.std.specs.Prelude.{if◌then◌else◌, nat_lt, None, Some, get_or}
 use Rattle.std.specs.declared.option.Option.{Option}
 use Rattle.std.specs.Int.{w16, w64, from_be_bytes}
 use Rattle.capture_file.specs.Capture.{Record, Fits, magic, spelling}

@@ -14,7 +14,8 @@ use Rattle.pcap_file.specs.declared.format.Format.{Format}
 use Rattle.pcap_file.specs.declared.bad.PcapKind.{PcapKind}
 use Rattle.pcap_file.specs.declared.bad.PcapKind.TheVariants as pcap_kinds
 
--- a capture file; or a pcap file, whose records are the datagrams that its frames carry to this UDP port in this profile
+-- a capture file; or a pcap file, whose records are the datagrams that its frames carry to this UDP port in this
+-- profile
 pub data Form : Type 0 where
   Capture : Form
   Pcap : Profile → ℕ → Form
@@ -66,7 +67,8 @@ IsBadCapture (Pcap profile port) done b kind at = ⊥
 -- the same of a pcap file
 abbrev pub IsBadPcap : Form → List Record → List ℕ → PcapKind → ℕ → Type 0
 IsBadPcap Capture done b kind at = ⊥
-IsBadPcap (Pcap profile port) done b kind at = (kind ≢ pcap_kinds.TooLong) × PcapBadAt b kind at × Fronts (Pcap profile port) done b
+IsBadPcap (Pcap profile port) done b kind at =
+    (kind ≢ pcap_kinds.TooLong) × PcapBadAt b kind at × Fronts (Pcap profile port) done b
 
 -- a record behind these ends past the greatest offset
 abbrev pub IsTooLong : Form → List Record → List ℕ → Type 0

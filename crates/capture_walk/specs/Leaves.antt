@@ -1,6 +1,6 @@
--- What a walk over the records of a file leaves, by how it ended. `so_far` is what the visitor writes while records come, and
--- `whole` what it has written after the end. Of a source it says what was read from the front; `ahead` is how many octets may
--- have been read beside that, ahead of need.
+-- What a walk over the records of a file leaves, by how it ended. `so_far` is what the visitor writes while records
+-- come, and `whole` what it has written after the end. Of a source it says what was read from the front; `ahead` is how
+-- many octets may have been read beside that, ahead of need.
 use Rattle.std.specs.Prelude.{◌⊎◌, ◌^◌, ◌≤◌, ℕ, List, [], ◌∷◌, ◌++◌, length, IfSome, Option, Result, Ok, Err, ◌≡◌}
 use Rattle.outside_io.specs.Told.{Passage, Appends, AppendsBetween, IsReadTo, IsEmpty}
 use Rattle.capture_file.specs.Capture.{Record}
@@ -22,14 +22,15 @@ pub record HasGiven (form : Form) (ahead : ℕ) (rs : List Record) (b : List ℕ
   pub file : IsFile form rs octets
   pub read : IsReadTo ahead octets b left
 
--- of these octets these whole records were read, and then what ends a walk so. Want of memory and a failed write are no end
--- of a file
+-- of these octets these whole records were read, and then what ends a walk so. Want of memory and a failed write are no
+-- end of a file
 abbrev pub EndsAfter : Form → ℕ → List ℕ → Option (List ℕ) → List Record → Result Unit WalkBad → Type 0
 EndsAfter form ahead b left done (Ok x) = IsEmpty left × IsFile form done b × (length b ≤ 2 ^ 40)
 EndsAfter form ahead b left done (Err (bads.BadCapture kind at)) = IsBadCapture form done b kind at
 EndsAfter form ahead b left done (Err (bads.BadPcap kind at)) = IsBadPcap form done b kind at
 EndsAfter form ahead b left done (Err bads.TooLong) = IsTooLong form done b
-EndsAfter form ahead b left done (Err bads.ReadFault) = (read : List ℕ) × IsReadTo ahead read b left × Fronts form done read
+EndsAfter form ahead b left done (Err bads.ReadFault) =
+    (read : List ℕ) × IsReadTo ahead read b left × Fronts form done read
 EndsAfter form ahead b left done (Err bads.WriteFault) = ⊥
 EndsAfter form ahead b left done (Err bads.Memory) = ⊥
 
@@ -37,22 +38,26 @@ EndsAfter form ahead b left done (Err bads.Memory) = ⊥
 
 -- The write of a record failed. It is the last that was read: what is written of those before stands in the sink, and
 -- behind it a front part of what this one adds.
-pub record FailsAtRecord (form : Form) (so_far : List Record → List ℕ) (ahead : ℕ) (b : List ℕ) (p : Passage) : Type 0 where
+pub record FailsAtRecord (form : Form) (so_far : List Record → List ℕ) (ahead : ℕ) (b : List ℕ)
+    (p : Passage) : Type 0 where
   pub done : List Record
   pub last : Record
   pub read : HasGiven form ahead (done ++ last ∷ []) b p.left
   pub written : AppendsBetween p.held p.holds (so_far done) (so_far (done ++ last ∷ []))
 
--- The write of the end failed. What is written of the records stands in the sink, and behind it a front part of what the
--- end adds.
-pub record FailsAtEnd (form : Form) (so_far whole : List Record → List ℕ) (ahead : ℕ) (b : List ℕ) (p : Passage) : Type 0 where
+-- The write of the end failed. What is written of the records stands in the sink, and behind it a front part of what
+-- the end adds.
+pub record FailsAtEnd (form : Form) (so_far whole : List Record → List ℕ) (ahead : ℕ) (b : List ℕ)
+    (p : Passage) : Type 0 where
   pub done : List Record
   pub end : Result Unit WalkBad
   pub ended : EndsAfter form ahead b p.left done end
   pub written : AppendsBetween p.held p.holds (so_far done) (whole done)
 
--- Memory was refused for a record. It is the last that was read, and what is written of those before stands in the sink.
-pub record WantsMemory (form : Form) (so_far : List Record → List ℕ) (ahead : ℕ) (b : List ℕ) (p : Passage) : Type 0 where
+-- Memory was refused for a record. It is the last that was read, and what is written of those before stands in the
+-- sink.
+pub record WantsMemory (form : Form) (so_far : List Record → List ℕ) (ahead : ℕ) (b : List ℕ)
+    (p : Passage) : Type 0 where
   pub done : List Record
   pub last : Record
   pub read : HasGiven form ahead (done ++ last ∷ []) b p.left
@@ -63,12 +68,15 @@ pub record IsUnbegun (ahead : ℕ) (b : List ℕ) (p : Passage) : Type 0 where
   pub read : IsReadTo ahead [] b p.left
   pub written : p.holds ≡ p.held
 
--- What the end of a walk says of what a source, where it tells, had and has left, and of what a sink held and holds. But
--- where a write failed or memory was refused, the sink has gained what is written of the whole records and the end.
+-- What the end of a walk says of what a source, where it tells, had and has left, and of what a sink held and holds.
+-- But where a write failed or memory was refused, the sink has gained what is written of the whole records and the end.
 abbrev pub Leaves : Form → (List Record → List ℕ) → (List Record → List ℕ) → ℕ → Passage → Result Unit WalkBad → Type 0
-Leaves form so_far whole ahead p (Err bads.WriteFault) = IfSome p.had (λ b. FailsAtRecord form so_far ahead b p ⊎ FailsAtEnd form so_far whole ahead b p)
-Leaves form so_far whole ahead p (Err bads.Memory) = IfSome p.had (λ b. WantsMemory form so_far ahead b p ⊎ IsUnbegun ahead b p)
-Leaves form so_far whole ahead p end = IfSome p.had (λ b. (done : List Record) × EndsAfter form 0 b p.left done end × Appends p.held p.holds (whole done))
+Leaves form so_far whole ahead p (Err bads.WriteFault) =
+    IfSome p.had (λ b. FailsAtRecord form so_far ahead b p ⊎ FailsAtEnd form so_far whole ahead b p)
+Leaves form so_far whole ahead p (Err bads.Memory) =
+    IfSome p.had (λ b. WantsMemory form so_far ahead b p ⊎ IsUnbegun ahead b p)
+Leaves form so_far whole ahead p end =
+    IfSome p.had (λ b. (done : List Record) × EndsAfter form 0 b p.left done end × Appends p.held p.holds (whole done))
 
 -- ---- what a visitor took
 
@@ -82,9 +90,10 @@ IfBrought (Err bads.ReadFault) P = P
 IfBrought (Err bads.WriteFault) P = Unit {0}
 IfBrought (Err bads.Memory) P = Unit {0}
 
--- some records and then the end were seen; where the source tells, they are the whole records that were read of it before
--- what ends a walk so
-pub record Brought (form : Form) (had left : Option (List ℕ)) (has_seen : List Record → Type 0) (end : Result Unit WalkBad) : Type 0 where
+-- some records and then the end were seen; where the source tells, they are the whole records that were read of it
+-- before what ends a walk so
+pub record Brought (form : Form) (had left : Option (List ℕ)) (has_seen : List Record → Type 0)
+    (end : Result Unit WalkBad) : Type 0 where
   pub done : List Record
   pub seen : has_seen done
   pub read : IfSome had (λ b. EndsAfter form 0 b left done end)

@@ -1,6 +1,7 @@
 -- GRE headers in UDP (RFC 2784, section 2; RFC 2890, section 2; RFC 8086, section 3), and which octets
 -- begin with one. No checksum stands in a header that is taken (this profile).
-use Rattle.std.specs.Prelude.{◌≡◌, ◌⊎◌, ℕ, ◌+◌, ◌*◌, ◌^◌, ◌<◌, List, [], ◌++◌, Option, Some, None, is_some, IfSome, IsSome}
+use Rattle.std.specs.Prelude.{◌≡◌, ◌⊎◌, ℕ, ◌+◌, ◌*◌, ◌^◌, ◌<◌, List, [], ◌++◌, Option, Some, None, is_some, IfSome}
+use Rattle.std.specs.Prelude.{IsSome}
 use Rattle.std.specs.Int.{w16, w32, to_be_bytes, from_bool}
 
 -- the protocols of the tunnel: two of IEEE's local experimental EtherTypes (this profile), for a keepalive

@@ -1,10 +1,12 @@
 -- What is read of octets as a GRE header: the header and where the rest begins, or the first test that
 -- fails. Bits are counted from the least significant of the first two octets, a word of 16 bits.
-use Rattle.std.specs.Prelude.{ℕ, ◌+◌, ◌*◌, ◌%◌, Bool, ◌&&◌, ◌||◌, not, List, length, take, drop, if◌then◌else◌, ◌==◌, nat_lt, Option, Some, None, is_some, Result, Ok, Err}
+use Rattle.std.specs.Prelude.{ℕ, ◌+◌, ◌*◌, ◌%◌, Bool, ◌&&◌, ◌||◌, not, List, length, take, drop, if◌then◌else◌, ◌==◌}
+use Rattle.std.specs.Prelude.{nat_lt, Option, Some, None, is_some, Result, Ok, Err}
 use Rattle.std.specs.Int.{w16, w32, from_be_bytes, bit_at, from_bool}
 use Rattle.gre_tunnel.specs.declared.gre.Gre.{Gre}
 use Rattle.gre_tunnel.specs.declared.gre.GreBad.{GreBad}
-use Rattle.gre_tunnel.specs.declared.gre.GreBad.TheVariants.{Short, Version, Checksum, Reserved, KeyedNoSequence, Protocol}
+use Rattle.gre_tunnel.specs.declared.gre.GreBad.TheVariants.{Short, Version, Checksum, Reserved, KeyedNoSequence}
+use Rattle.gre_tunnel.specs.declared.gre.GreBad.TheVariants.{Protocol}
 use Rattle.gre_tunnel.specs.Gre.{Header, keepalive_protocol, datagram_protocol, full_protocol}
 
 -- the flags and the version

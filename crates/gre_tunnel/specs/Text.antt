@@ -1,7 +1,8 @@
 -- What is printed for each test that fails.
 use Rattle.std.specs.Prelude.{ℕ, List, codes}
 use Rattle.gre_tunnel.specs.declared.gre.GreBad.{GreBad}
-use Rattle.gre_tunnel.specs.declared.gre.GreBad.TheVariants.{Short, Version, Checksum, Reserved, KeyedNoSequence, Protocol}
+use Rattle.gre_tunnel.specs.declared.gre.GreBad.TheVariants.{Short, Version, Checksum, Reserved, KeyedNoSequence}
+use Rattle.gre_tunnel.specs.declared.gre.GreBad.TheVariants.{Protocol}
 
 -- the text of each refusal
 abbrev pub text_of : GreBad → List ℕ

@@ -20,7 +20,8 @@ pub record AreOut {L : Type 0} (old new : ℕ → Place L) (links : List L) : Ty
 
 -- these objects came back to the first places, in order, where those were out, and all others stand as they stood
 pub record AreBack {L : Type 0} (old new : ℕ → Place L) (links : List L) : Type 0 where
-  pub now : (place : ℕ) (d : L) → place < length links → old place ≡ Out → new place ≡ Back (slice_index_or links place d)
+  pub now : (place : ℕ) (d : L) → place < length links → old place ≡ Out
+      → new place ≡ Back (slice_index_or links place d)
   pub others : (place : ℕ) → length links ≤ place → new place ≡ old place
 
 -- an object stands as it stood, or it was handed out and came back as it was

@@ -13,7 +13,8 @@ StayOthers old new names = (name : List ℕ) → (Contains names name → ⊥) �
 
 -- the sinks of these names were handed out, in order, and all others stand as they stood
 pub record AreOut {O : Type 0} (old new : List ℕ → Place O) (names : List (List ℕ)) (sinks : List O) : Type 0 where
-  pub was : (place : ℕ) (d : O) → place < length names → old (slice_index_or names place []) ≡ Here (slice_index_or sinks place d)
+  pub was : (place : ℕ) (d : O) → place < length names
+      → old (slice_index_or names place []) ≡ Here (slice_index_or sinks place d)
   pub now : All (λ name. new name ≡ Out) names
   pub others : StayOthers old new names
 

@@ -39,8 +39,9 @@ abbrev pub total_length : Datagram → OtherFields → ℕ
 total_length datagram others =
     20 + length others.options + udp_length datagram + length others.padding
 
--- The header: version 4 and how many 32-bit words it has, the service, the total length, the identification, the flags (no
--- more fragments follow) and the fragment offset 0, the time to live, the protocol, the checksum, the addresses, the options.
+-- The header: version 4 and how many 32-bit words it has, the service, the total length, the identification, the flags
+-- (no more fragments follow) and the fragment offset 0, the time to live, the protocol, the checksum, the addresses,
+-- the options.
 unfoldable pub header_octets : Datagram → OtherFields → List ℕ
 header_octets datagram others =
     (64 + (5 + length others.options / 4)) ∷ others.service ∷

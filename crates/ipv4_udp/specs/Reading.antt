@@ -1,8 +1,11 @@
--- What is read of octets as a UDP datagram in IPv4 (RFC 791, section 3.1; RFC 768): its value, or the first test that fails.
-use Rattle.std.specs.Prelude.{ℕ, ◌-◌, ◌*◌, ◌/◌, ◌%◌, ◌^◌, Bool, true, false, ◌&&◌, ◌||◌, not, List, ◌++◌, length, take, drop, slice_index, if◌then◌else◌, ◌==◌, nat_lt, Result, Ok, Err}
+-- What is read of octets as a UDP datagram in IPv4 (RFC 791, section 3.1; RFC 768): its value, or the first test that
+-- fails.
+use Rattle.std.specs.Prelude.{ℕ, ◌-◌, ◌*◌, ◌/◌, ◌%◌, ◌^◌, Bool, true, false, ◌&&◌, ◌||◌, not, List, ◌++◌, length, take}
+use Rattle.std.specs.Prelude.{drop, slice_index, if◌then◌else◌, ◌==◌, nat_lt, Result, Ok, Err}
 use Rattle.std.specs.Int.{w16, w32, from_be_bytes}
 use Rattle.ipv4_udp.specs.declared.ip.IpBad.{IpBad}
-use Rattle.ipv4_udp.specs.declared.ip.IpBad.TheVariants.{Short, Version, Header, HeaderSum, Length, Fragment, Protocol, UdpShort, UdpLength, UdpSum}
+use Rattle.ipv4_udp.specs.declared.ip.IpBad.TheVariants.{Short, Version, Header, HeaderSum, Length, Fragment, Protocol}
+use Rattle.ipv4_udp.specs.declared.ip.IpBad.TheVariants.{UdpShort, UdpLength, UdpSum}
 use Rattle.ipv4_udp.specs.declared.ip.Sums.{Sums}
 use Rattle.ipv4_udp.specs.declared.ip.Sums.TheVariants.{Test, Skip}
 use Rattle.ipv4_udp.specs.Sum.{is_summed}
@@ -56,7 +59,8 @@ udp_len udp = number_at 4 udp
 -- Between these addresses its checksum is wrong, where checksums count. 0 says that none was made.
 abbrev pub is_bad_udp_sum : Sums → ℕ → ℕ → List ℕ → Bool
 is_bad_udp_sum sums from to udp =
-    is_tested sums && (not (number_at 6 udp == 0) && not (is_summed (pseudo_header from to (udp_len udp) ++ take (udp_len udp) udp)))
+    is_tested sums && (not (number_at 6 udp == 0)
+    && not (is_summed (pseudo_header from to (udp_len udp) ++ take (udp_len udp) udp)))
 
 -- its value, where no test fails
 abbrev pub value_in : ℕ → ℕ → List ℕ → Datagram

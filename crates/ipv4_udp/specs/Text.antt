@@ -1,7 +1,8 @@
 -- What is printed for each test that fails.
 use Rattle.std.specs.Prelude.{ℕ, List, codes}
 use Rattle.ipv4_udp.specs.declared.ip.IpBad.{IpBad}
-use Rattle.ipv4_udp.specs.declared.ip.IpBad.TheVariants.{Short, Version, Header, HeaderSum, Length, Fragment, Protocol, UdpShort, UdpLength, UdpSum}
+use Rattle.ipv4_udp.specs.declared.ip.IpBad.TheVariants.{Short, Version, Header, HeaderSum, Length, Fragment, Protocol}
+use Rattle.ipv4_udp.specs.declared.ip.IpBad.TheVariants.{UdpShort, UdpLength, UdpSum}
 
 -- the text of a test
 abbrev pub text_of : IpBad → List ℕ

@@ -14,7 +14,8 @@ datagram_with head payload = record {
   payload = payload;
 }
 
--- The other fields (this profile): service and identification 0, not to be fragmented, a time to live of 64, no options.
+-- The other fields (this profile): service and identification 0, not to be fragmented, a time to live of 64, no
+-- options.
 abbrev pub fields_with : ℕ → ℕ → OtherFields
 fields_with header_sum udp_sum = record {
   service = 0;

@@ -1,6 +1,7 @@
--- What the words of a made script do to its datagrams (this profile): each that is put draws one word, which loses it or
--- says in which of the next five slots it is carried.
-use Rattle.std.specs.Prelude.{ℕ, ◌≡◌, ◌+◌, ◌-◌, ◌/◌, ◌%◌, List, [], ◌∷◌, ◌++◌, get_or, Bool, nat_lt, nat_le, if◌then◌else◌}
+-- What the words of a made script do to its datagrams (this profile): each that is put draws one word, which loses it
+-- or says in which of the next five slots it is carried.
+use Rattle.std.specs.Prelude.{ℕ, ◌≡◌, ◌+◌, ◌-◌, ◌/◌, ◌%◌, List, [], ◌∷◌, ◌++◌, get_or, Bool, nat_lt, nat_le}
+use Rattle.std.specs.Prelude.{if◌then◌else◌}
 use Rattle.std.specs.List.{range_with_len, flat_map, filter, sum_by}
 use Rattle.rand_chacha.specs.ChaCha.{ChaCha}
 use Rattle.made_script.specs.declared.draws.Way.{Way}
@@ -17,7 +18,8 @@ script_word script place = word_of script.number 0 place
 -- a datagram that is put in a slot, by its word: not in the list where it is lost, else due one to five slots later
 abbrev pub due_by : Script → ℕ → Way → ℕ → ℕ → ℕ → List Due
 due_by script slot way link place word =
-    if nat_lt (word % 1000) script.loss then [] else record { way = way; link = link; place = place; slot = slot + 1 + word / 65536 % 5 } ∷ []
+    if nat_lt (word % 1000) script.loss then []
+    else record { way = way; link = link; place = place; slot = slot + 1 + word / 65536 % 5 } ∷ []
 
 -- so many datagrams of a link from a place on, which draw the words from one on
 abbrev pub dues_on : Script → ℕ → ℕ → Way → ℕ → ℕ → ℕ → List Due
@@ -40,7 +42,8 @@ new_below way before after links = sum_by (new_on way before after) (range_with_
 -- all that were put one way: they draw words by link, and then by place
 abbrev pub dues_of : Script → ℕ → ℕ → Way → Held → Held → ℕ → List Due
 dues_of script slot first way before after links =
-    flat_map (λ link. dues_on script slot (first + new_below way before after link) way link (held_on way before link) (new_on way before after link))
+    flat_map (λ link. dues_on script slot (first + new_below way before after link) way link (held_on way before link)
+    (new_on way before after link))
     (range_with_len 0 links)
 
 -- how many words were drawn, how many datagrams the links held then, and what is due
@@ -92,5 +95,6 @@ pub record DrawsMore (old new : DrawsState) (count : ℕ) (more : ℕ → List D
   pub script : new.script ≡ old.script
   pub slot : new.slot ≡ old.slot
   pub held : new.held ≡ old.held
-  pub words : (first : ℕ) → old.words ≡ generator_at old.script.number 0 first → new.words ≡ generator_at old.script.number 0 (first + count)
+  pub words : (first : ℕ) → old.words ≡ generator_at old.script.number 0 first
+      → new.words ≡ generator_at old.script.number 0 (first + count)
   pub dues : (first : ℕ) → old.words ≡ generator_at old.script.number 0 first → new.dues ≡ old.dues ++ more first

@@ -15,7 +15,8 @@ word_of number filling place = word_at 4 (key_of (seed_of number filling)) 0 (pl
 
 -- the generator whose next word is that at a place
 abbrev pub generator_at : ℕ → ℕ → ℕ → ChaCha
-generator_at number filling place = record { key = key_of (seed_of number filling); stream = 0; word_pos = place % 2 ^ 68 }
+generator_at number filling place =
+    record { key = key_of (seed_of number filling); stream = 0; word_pos = place % 2 ^ 68 }
 
 -- so many words of a number from a place on, and how many calls failed
 pub record DrawnState : Type 0 where

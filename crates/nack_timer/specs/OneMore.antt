@@ -15,12 +15,14 @@ use Rattle.nack_timer.specs.TimerAfter.{IsTimerAfter, highest_number}
 -- a packet opens no epoch, unless it is the first of all
 abbrev pub IsOfEpoch : Limits → List Step → ℕ → ℕ → Arrival → Type 0
 IsOfEpoch limits before link tick arrival =
-    epoch_number limits (buffer_history (media_step link tick arrival ∷ before)) ≡ epoch_number limits (buffer_history before)
+    epoch_number limits (buffer_history (media_step link tick arrival ∷ before))
+    ≡ epoch_number limits (buffer_history before)
 
 -- it opens the next one
 abbrev pub OpensNext : Limits → List Step → ℕ → ℕ → Arrival → Type 0
 OpensNext limits before link tick arrival =
-    epoch_number limits (buffer_history (media_step link tick arrival ∷ before)) ≡ epoch_number limits (buffer_history before) + 1
+    epoch_number limits (buffer_history (media_step link tick arrival ∷ before))
+    ≡ epoch_number limits (buffer_history before) + 1
 
 -- the timer stands for the history with a packet of the epoch at this time, by which this number became the highest
 abbrev pub RaisesAt : TimerState → TimerState → ℕ → ℕ → Type 0
@@ -40,8 +42,8 @@ RenewsAt old new at high =
     → effective_time (media_step link tick arrival ∷ before) ≡ at
     → IsTimerAfter new limits (media_step link tick arrival ∷ before)
 
--- the words are those by which the rules ask at this time, where the buffer has come to it and the longest round-trip time
--- is so many ticks
+-- the words are those by which the rules ask at this time, where the buffer has come to it and the longest round-trip
+-- time is so many ticks
 abbrev pub AsksAt : TimerState → State → ℕ → ℕ → List AskWord → Type 0
 AsksAt t buffer at rtt words =
     (before : List Step) (link tick micros : ℕ) → IsTimerAfter t buffer.limits before

@@ -20,8 +20,8 @@ pub record IsInRange (settings : Settings) : Type 0 where
   pub least : settings.least ≤ 1000
   pub tries : settings.tries ≤ 32
 
--- when it asks, its buffer's span, the highest number that it was told, and the packets that it keeps as missing, by rising
--- number; some of them may have come since
+-- when it asks, its buffer's span, the highest number that it was told, and the packets that it keeps as missing, by
+-- rising number; some of them may have come since
 pub record TimerState : Type 0 where
   pub policy : Policy
   pub span : ℕ

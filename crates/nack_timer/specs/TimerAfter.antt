@@ -1,5 +1,6 @@
 -- What a timer keeps, against the history that it stands for.
-use Rattle.std.specs.Prelude.{◌≡◌, ℕ, ◌+◌, ◌<◌, ◌≤◌, List, [], ◌∷◌, true, false, Bool, ◌==◌, Option, None, Some, option_map}
+use Rattle.std.specs.Prelude.{◌≡◌, ℕ, ◌+◌, ◌<◌, ◌≤◌, List, [], ◌∷◌, true, false, Bool, ◌==◌, Option, None, Some}
+use Rattle.std.specs.Prelude.{option_map}
 use Rattle.std.specs.List.{list_any}
 use Rattle.receiver_rules.specs.declared.limits.Limits.{Limits}
 use Rattle.receiver_rules.specs.declared.anchor.Anchor.{Anchor}
@@ -18,11 +19,12 @@ use Rattle.nack_timer.specs.State.{TimerState, AreRising, high_or}
 abbrev pub highest_number : Limits → List BufferStep → Option ℕ
 highest_number limits history = option_map (λ h. h.number) (highest_of (accepted_packets limits history))
 
--- a number is missing, and may still be asked for: it isn't below the first packet's, a higher one was kept that lies less
--- than the capacity above it, it wasn't played out, and it wasn't kept
+-- a number is missing, and may still be asked for: it isn't below the first packet's, a higher one was kept that lies
+-- less than the capacity above it, it wasn't played out, and it wasn't kept
 pub record IsLookedFor (limits : Limits) (history : List BufferStep) (x : ℕ) : Type 0 where
   pub first : (a : Anchor) → anchor_of limits history ≡ Some a → a.number ≤ x
-  pub below : (h : Highest) → highest_of (accepted_packets limits history) ≡ Some h → (x < h.number) × (h.number < x + limits.capacity)
+  pub below : (h : Highest) → highest_of (accepted_packets limits history) ≡ Some h
+      → (x < h.number) × (h.number < x + limits.capacity)
   pub out : playout_floor (accepted_packets limits history) (current_moment history) ≤ x
   pub new : is_accepted (accepted_packets limits history) x ≡ false
   pub passed : is_passed (accepted_packets limits history) x ≡ true
@@ -41,13 +43,15 @@ abbrev pub AreEntriesOf : (ℕ → ℕ) → List Request → List Missing → Ty
 AreEntriesOf found requests [] = Unit {0}
 AreEntriesOf found requests (e ∷ es) = IsEntryOf found requests e × AreEntriesOf found requests es
 
--- the timer stands for the history: it knows the current epoch's highest number, tells of each entry what came of it, and keeps
--- all that is looked for; nothing from the highest number on was asked for, and where none is known no packet came
+-- the timer stands for the history: it knows the current epoch's highest number, tells of each entry what came of it,
+-- and keeps all that is looked for; nothing from the highest number on was asked for, and where none is known no packet
+-- came
 pub record IsTimerAfter (t : TimerState) (limits : Limits) (history : List Step) : Type 0 where
   pub span : t.span ≡ limits.capacity
   pub high : t.high ≡ highest_number limits (buffer_history history)
   pub order : AreRising 0 (high_or t.high) t.missing
-  pub entries : AreEntriesOf (found_time limits (buffer_history history)) (requests_of limits t.policy history) t.missing
+  pub entries : AreEntriesOf (found_time limits (buffer_history history)) (requests_of limits t.policy history)
+      t.missing
   pub keeps : (x : ℕ) → IsLookedFor limits (buffer_history history) x → has_entry t.missing x ≡ true
   pub unasked : (x : ℕ) → high_or t.high ≤ x → request_times (requests_of limits t.policy history) x ≡ []
   pub started : t.high ≡ None → anchor_of limits (buffer_history history) ≡ None

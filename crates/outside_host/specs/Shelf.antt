@@ -1,5 +1,6 @@
 -- The objects of a host, by the names or places that they are asked by.
-use Rattle.std.specs.Prelude.{◌≡◌, ◌≢◌, ℕ, List, [], ◌∷◌, ◌++◌, length, Bool, true, false, Option, None, IfSome, Result, Ok, Err}
+use Rattle.std.specs.Prelude.{◌≡◌, ◌≢◌, ℕ, List, [], ◌∷◌, ◌++◌, length, Bool, true, false, Option, None, IfSome, Result}
+use Rattle.std.specs.Prelude.{Ok, Err}
 use Rattle.outside_io.specs.Causes.{RoseWhere}
 use Rattle.outside_host.specs.declared.host.HostBad.{HostBad}
 use Rattle.outside_host.specs.declared.host.HostBad.TheVariants.{Failed, NoMemory}
@@ -9,8 +10,8 @@ use Rattle.outside_host.specs.declared.host.Opened.{Opened}
 use Rattle.outside_host.specs.declared.reception.Reception.{Reception}
 
 -- what stands under each name and at each place; which links were handed out, the oldest first, so that their number is
--- the place of the next one; the places of the clock and of the source of random words that are handed out next; and the counts
--- of the receiver that came last, where one did
+-- the place of the next one; the places of the clock and of the source of random words that are handed out next; and
+-- the counts of the receiver that came last, where one did
 pub record Shelf (I O E L C : Type 0) : Type 0 where
   pub sources : List ℕ → Place I
   pub sinks : List ℕ → Place O
@@ -28,8 +29,8 @@ pub record HandsOut {N X : Type 0} (old new : N → Place X) (name : N) (object 
   pub now : new name ≡ Out
   pub others : (n : N) → n ≢ name → new n ≡ old n
 
--- the object stands as come back under the name, or at the place, that it was out from; where none was out, and under all others, all
--- stands as it stood
+-- the object stands as come back under the name, or at the place, that it was out from; where none was out, and under
+-- all others, all stands as it stood
 pub record TakesBack {N X : Type 0} (old new : N → Place X) (name : N) (object : X) : Type 0 where
   pub now : old name ≡ Out → new name ≡ Back object
   pub kept : old name ≢ Out → new name ≡ old name

@@ -17,4 +17,5 @@ index_of (s ∷ slots) name = if bytes_eq (string_bytes s.name) name then 0 else
 
 -- the index of the first slot of a name, where there is one
 abbrev pub IsFirstOf : {T : Type 0} → List (Slot T) → List ℕ → Option ℕ → Type 0
-IsFirstOf slots name found = MatchOption found (index_of slots name ≡ length slots) (λ i. (i ≡ index_of slots name) × (i < length slots))
+IsFirstOf slots name found =
+    MatchOption found (index_of slots name ≡ length slots) (λ i. (i ≡ index_of slots name) × (i < length slots))

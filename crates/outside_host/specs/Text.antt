@@ -13,6 +13,7 @@ host_text NoMemory = codes "out of memory"
 abbrev pub reception_text : Reception → List ℕ
 reception_text r =
     codes "kept " ++ (decimal r.kept ++ (codes ", late " ++ (decimal r.late ++ (codes ", behind " ++ (decimal r.behind
-    ++ (codes ", early " ++ (decimal r.early ++ (codes ", twice " ++ (decimal r.twice ++ (codes ", span " ++ (decimal r.span
+    ++ (codes ", early " ++ (decimal r.early
+    ++ (codes ", twice " ++ (decimal r.twice ++ (codes ", span " ++ (decimal r.span
     ++ (codes ", stranger " ++ (decimal r.stranger ++ (codes ", exhausted " ++ (decimal r.exhausted
     ++ (codes ", refused " ++ decimal r.refused))))))))))))))))

@@ -23,7 +23,13 @@ GivesCount (Cut s) room count = ReadsToCut s room count
 -- the source after a read that gave so many octets
 abbrev pub after_read : MemSource → ℕ → MemSource
 after_read (Whole s) count = Whole (record { remaining = drop count s.remaining; calls = call_done s.calls })
-after_read (Cut s) count = Cut (record { remaining = drop count s.remaining; given = s.given + count; cuts = s.cuts; calls = call_done s.calls })
+after_read (Cut s) count =
+    Cut (record {
+      remaining = drop count s.remaining;
+      given = s.given + count;
+      cuts = s.cuts;
+      calls = call_done s.calls;
+    })
 
 -- the source after a read that failed
 abbrev pub after_fault : MemSource → MemSource

@@ -20,7 +20,8 @@ cut_source octets cuts failing = record { remaining = octets; given = 0; cuts = 
 
 -- a source after a read that gave so many octets
 abbrev pub after_read : CutSource → ℕ → CutSource
-after_read s count = record { remaining = drop count s.remaining; given = s.given + count; cuts = s.cuts; calls = call_done s.calls }
+after_read s count =
+    record { remaining = drop count s.remaining; given = s.given + count; cuts = s.cuts; calls = call_done s.calls }
 
 -- random words: those that remain
 pub record MemoryWords : Type 0 where
@@ -49,4 +50,5 @@ pub record ReadsToCut (s : CutSource) (room count : ℕ) : Type 0 where
 
 -- this cut counts where it is past the place and before the next one so far
 abbrev pub IsEarlier : ℕ → ℕ → ℕ → ℕ → Type 0
-IsEarlier at cut next result = ((at < cut) × (cut < next) × (result ≡ cut)) ⊎ ((at < cut → next ≤ cut) × (result ≡ next))
+IsEarlier at cut next result =
+    ((at < cut) × (cut < next) × (result ≡ cut)) ⊎ ((at < cut → next ≤ cut) × (result ≡ next))

@@ -1,4 +1,5 @@
--- Files and standard streams: their counts of faults, and what a call does to the reader or writer behind, where that tells.
+-- Files and standard streams: their counts of faults, and what a call does to the reader or writer behind, where that
+-- tells.
 use Rattle.std.specs.Prelude.{◌≡◌, ◌≢◌, ℕ, List, Option, None, Result, codes}
 use Rattle.std.specs.Io.KnownBytes.{Appends, ReadConsumes}
 use Rattle.outside_io.specs.Told.{IsPrefix}
@@ -24,9 +25,12 @@ sink_faults (sinks.File s) = s.faults
 sink_faults (sinks.Stream s) = s.faults
 
 -- the reader behind gave what was read
-abbrev pub ReadsBehind : {F I : Type 0} → (F → Option (List ℕ)) → (I → Option (List ℕ)) → RealSource F I → RealSource F I → Result ℕ Failed → List ℕ → Type 0
-ReadsBehind file stream (sources.File s) (sources.File t) result buf = ReadConsumes (file s.inner) (file t.inner) result buf
-ReadsBehind file stream (sources.Stream s) (sources.Stream t) result buf = ReadConsumes (stream s.inner) (stream t.inner) result buf
+abbrev pub ReadsBehind : {F I : Type 0} → (F → Option (List ℕ)) → (I → Option (List ℕ)) → RealSource F I
+    → RealSource F I → Result ℕ Failed → List ℕ → Type 0
+ReadsBehind file stream (sources.File s) (sources.File t) result buf =
+    ReadConsumes (file s.inner) (file t.inner) result buf
+ReadsBehind file stream (sources.Stream s) (sources.Stream t) result buf =
+    ReadConsumes (stream s.inner) (stream t.inner) result buf
 ReadsBehind file stream (sources.File s) (sources.Stream t) result buf = ⊥
 ReadsBehind file stream (sources.Stream s) (sources.File t) result buf = ⊥
 
@@ -35,16 +39,19 @@ abbrev pub WritesFront : Option (List ℕ) → Option (List ℕ) → List ℕ �
 WritesFront old new piece = (front : List ℕ) × IsPrefix front piece × Appends old new front
 
 -- the writer behind has gained the piece
-abbrev pub WritesBehind : {F O : Type 0} → (F → Option (List ℕ)) → (O → Option (List ℕ)) → RealSink F O → RealSink F O → List ℕ → Type 0
+abbrev pub WritesBehind : {F O : Type 0} → (F → Option (List ℕ)) → (O → Option (List ℕ)) → RealSink F O → RealSink F O
+    → List ℕ → Type 0
 WritesBehind file stream (sinks.File s) (sinks.File t) piece = Appends (file s.inner) (file t.inner) piece
 WritesBehind file stream (sinks.Stream s) (sinks.Stream t) piece = Appends (stream s.inner) (stream t.inner) piece
 WritesBehind file stream (sinks.File s) (sinks.Stream t) piece = ⊥
 WritesBehind file stream (sinks.Stream s) (sinks.File t) piece = ⊥
 
 -- the writer behind has gained a front part of the piece
-abbrev pub WritesFrontBehind : {F O : Type 0} → (F → Option (List ℕ)) → (O → Option (List ℕ)) → RealSink F O → RealSink F O → List ℕ → Type 0
+abbrev pub WritesFrontBehind : {F O : Type 0} → (F → Option (List ℕ)) → (O → Option (List ℕ)) → RealSink F O
+    → RealSink F O → List ℕ → Type 0
 WritesFrontBehind file stream (sinks.File s) (sinks.File t) piece = WritesFront (file s.inner) (file t.inner) piece
-WritesFrontBehind file stream (sinks.Stream s) (sinks.Stream t) piece = WritesFront (stream s.inner) (stream t.inner) piece
+WritesFrontBehind file stream (sinks.Stream s) (sinks.Stream t) piece =
+    WritesFront (stream s.inner) (stream t.inner) piece
 WritesFrontBehind file stream (sinks.File s) (sinks.Stream t) piece = ⊥
 WritesFrontBehind file stream (sinks.Stream s) (sinks.File t) piece = ⊥
 

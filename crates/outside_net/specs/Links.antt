@@ -1,5 +1,6 @@
 -- What a link gives and takes.
-use Rattle.std.specs.Prelude.{◌≡◌, ◌≢◌, ◌≤◌, ℕ, List, [], ◌∷◌, ◌++◌, take, Option, Some, Result, Ok, Err, Bool, true, false}
+use Rattle.std.specs.Prelude.{◌≡◌, ◌≢◌, ◌≤◌, ℕ, List, [], ◌∷◌, ◌++◌, take, Option, Some, Result, Ok, Err, Bool, true}
+use Rattle.std.specs.Prelude.{false}
 use Rattle.outside_io.specs.declared.channel.Channel.{Channel}
 use Rattle.outside_net.specs.declared.link.Got.{Got}
 use Rattle.outside_net.specs.declared.link.Got.TheVariants as got

@@ -44,8 +44,8 @@ abbrev pub rest_of : List ScriptRead → List ScriptRead
 rest_of [] = []
 rest_of (read ∷ script) = script
 
--- The answers that are still to come of a script: a call that is to fail fails and leaves the script as it is, any other gives
--- the next answer.
+-- The answers that are still to come of a script: a call that is to fail fails and leaves the script as it is, any
+-- other gives the next answer.
 abbrev pub answers_of : CallPlaces → List ScriptRead → ℕ → Answer
 answers_of calls script zero = if fails_next calls then Failed else first_answer script
 answers_of calls script (suc k) = answers_of (call_made calls) (if fails_next calls then script else rest_of script) k
@@ -56,8 +56,9 @@ knows_in known channels.Media = known.media
 knows_in known channels.Control = known.control
 knows_in known channels.Tunnel = known.tunnel
 
--- a link in memory: the answers of its script that are left, its reads and writes, the peers that it knows and those that it knew
--- before the last datagram, the datagrams that it took, the oldest first, how many it has room for, and its counts
+-- a link in memory: the answers of its script that are left, its reads and writes, the peers that it knows and those
+-- that it knew before the last datagram, the datagrams that it took, the oldest first, how many it has room for, and
+-- its counts
 pub record ScriptState : Type 0 where
   pub script : List ScriptRead
   pub reads : CallPlaces
@@ -75,7 +76,8 @@ FitsDatagram (reads.Datagram channel octets) = length octets ≤ 2048
 FitsDatagram reads.Quiet = Unit {0}
 
 -- a link of which no call was made: its script, whether the peers are known, its room, and the calls that are to fail
-pub record IsNewLink (given : List ScriptRead) (peer : Bool) (space : ℕ) (failing_reads failing_writes : List ℕ) (link : ScriptState) : Type 0 where
+pub record IsNewLink (given : List ScriptRead) (peer : Bool) (space : ℕ) (failing_reads failing_writes : List ℕ)
+    (link : ScriptState) : Type 0 where
   pub script : link.script ≡ given
   pub reads : link.reads ≡ record { failing = failing_reads; made = 0 }
   pub writes : link.writes ≡ record { failing = failing_writes; made = 0 }

@@ -1,6 +1,8 @@
--- The UDP datagrams of a capture of the network, as the records of a capture file. An Ethernet header is fourteen octets and
--- ends in the type of what follows (IEEE 802.3, clause 3.2); a VLAN tag is four octets more (IEEE 802.1Q, clause 9.6).
-use Rattle.std.specs.Prelude.{ℕ, ◌+◌, Bool, ◌&&◌, not, ◌==◌, List, [], ◌∷◌, length, take, drop, flat_map, if◌then◌else◌, nat_lt, None, Some, Result, Ok, Err}
+-- The UDP datagrams of a capture of the network, as the records of a capture file. An Ethernet header is fourteen
+-- octets and ends in the type of what follows (IEEE 802.3, clause 3.2); a VLAN tag is four octets more (IEEE 802.1Q,
+-- clause 9.6).
+use Rattle.std.specs.Prelude.{ℕ, ◌+◌, Bool, ◌&&◌, not, ◌==◌, List, [], ◌∷◌, length, take, drop, flat_map, if◌then◌else◌}
+use Rattle.std.specs.Prelude.{nat_lt, None, Some, Result, Ok, Err}
 use Rattle.std.specs.declared.option.Option.{Option}
 use Rattle.std.specs.Borrow.{Bor}
 use Rattle.std.specs.Int.{w16, from_be_bytes}
@@ -30,7 +32,8 @@ vlan_type = 0x8100
 -- a VLAN tag follows, and behind it an IPv4 datagram
 abbrev pub has_tagged_ip : List ℕ → Bool
 has_tagged_ip octets =
-    (ether_type_at 12 octets == vlan_type) && (not (nat_lt (length octets) 18) && (ether_type_at 16 octets == ipv4_type))
+    (ether_type_at 12 octets == vlan_type)
+    && (not (nat_lt (length octets) 18) && (ether_type_at 16 octets == ipv4_type))
 
 -- the IPv4 datagram behind an Ethernet header; one VLAN tag is stepped over
 abbrev pub ethernet_ip : List ℕ → Option (List ℕ)
@@ -45,8 +48,8 @@ abbrev pub ip_in : ℕ → List ℕ → Option (List ℕ)
 ip_in link_type octets =
     if link_type == ethernet then ethernet_ip octets else (if link_type == raw_ip then Some octets else None)
 
--- the channel whose datagrams go to this destination: in the Main Profile the tunnel, in the Simple Profile media at the port
--- and control at the next one
+-- the channel whose datagrams go to this destination: in the Main Profile the tunnel, in the Simple Profile media at
+-- the port and control at the next one
 abbrev pub channel_at : Profile → ℕ → ℕ → Option Channel
 channel_at Main port to = if to == port then Some Tunnel else None
 channel_at Simple port to = if to == port then Some Media else (if to == port + 1 then Some Control else None)
@@ -60,7 +63,8 @@ on_channel (Some channel) payload = Some (channel, payload)
 abbrev pub carried_by : Profile → ℕ → Result Datagram IpBad → Option (Channel × List ℕ)
 carried_by profile port (Err bad) = None
 carried_by profile port (Ok datagram) =
-    if nat_lt 2048 (length datagram.payload) then None else on_channel (channel_at profile port datagram.to_port) datagram.payload
+    if nat_lt 2048 (length datagram.payload) then None
+    else on_channel (channel_at profile port datagram.to_port) datagram.payload
 
 -- the same of an IPv4 datagram, whose checksums don't count
 abbrev pub carried_in : Profile → ℕ → Option (List ℕ) → Option (Channel × List ℕ)

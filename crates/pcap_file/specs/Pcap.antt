@@ -1,6 +1,7 @@
--- Captures of the network in the classic pcap format, version 2.4 (draft-ietf-opsawg-pcap, sections 4 and 5): a header, and then
--- packet records one after another.
-use Rattle.std.specs.Prelude.{◌≡◌, ℕ, ◌+◌, ◌*◌, ◌/◌, ◌%◌, ◌^◌, ◌<◌, ◌≤◌, ◌||◌, ◌==◌, Bool, true, List, ◌++◌, length, take, flat_map, map, All}
+-- Captures of the network in the classic pcap format, version 2.4 (draft-ietf-opsawg-pcap, sections 4 and 5): a header,
+-- and then packet records one after another.
+use Rattle.std.specs.Prelude.{◌≡◌, ℕ, ◌+◌, ◌*◌, ◌/◌, ◌%◌, ◌^◌, ◌<◌, ◌≤◌, ◌||◌, ◌==◌, Bool, true, List, ◌++◌, length}
+use Rattle.std.specs.Prelude.{take, flat_map, map, All}
 use Rattle.std.specs.Int.{w16, w32, to_be_bytes, to_le_bytes}
 use Rattle.pcap_file.specs.declared.format.ByteOrder.{ByteOrder}
 use Rattle.pcap_file.specs.declared.format.ByteOrder.TheVariants.{Big, Little}
@@ -35,8 +36,8 @@ raw_ip = 101
 abbrev pub is_link_type : ℕ → Bool
 is_link_type link_type = (link_type == ethernet) || (link_type == raw_ip)
 
--- The octets are a header of this format: the magic number, the version 2.4, three numbers of 32 bits that are not read, and
--- the link type, the low half of a number of 32 bits.
+-- The octets are a header of this format: the magic number, the version 2.4, three numbers of 32 bits that are not
+-- read, and the link type, the low half of a number of 32 bits.
 pub record IsHeader (format : Format) (octets : List ℕ) : Type 0 where
   pub unread : List ℕ
   pub unread_len : length unread ≡ 12
@@ -47,7 +48,8 @@ pub record IsHeader (format : Format) (octets : List ℕ) : Type 0 where
   pub whole : octets ≡ spelled_32 format.order (magic_of format.fraction)
       ++ (spelled_16 format.order 2 ++ (spelled_16 format.order 4 ++ (unread ++ spelled_32 format.order link_word)))
 
--- a packet record: when it was captured, in seconds and a fraction, how long the packet was, and the octets of it that were kept
+-- a packet record: when it was captured, in seconds and a fraction, how long the packet was, and the octets of it that
+-- were kept
 pub record Packet : Type 0 where
   pub seconds : ℕ
   pub fraction : ℕ

@@ -3,8 +3,8 @@ use Rattle.std.specs.Prelude.{ℕ, List, [], Bool, false, None}
 use Rattle.std.specs.declared.option.Option.{Option}
 use Rattle.pcap_file.specs.declared.format.Format.{Format}
 
--- `remaining`: the octets that it has still to read, where the source tells them; the first of them are those that it took
--- from the source ahead of need. `format`: what the header told, once it was read. `at`: the next record's offset.
+-- `remaining`: the octets that it has still to read, where the source tells them; the first of them are those that it
+-- took from the source ahead of need. `format`: what the header told, once it was read. `at`: the next record's offset.
 pub record ReaderState : Type 0 where
   pub remaining : Option (List ℕ)
   pub ahead : List ℕ

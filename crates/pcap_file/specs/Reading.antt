@@ -1,5 +1,6 @@
 -- What a reader answers, by the octets that remained and that remain now, where those are told.
-use Rattle.std.specs.Prelude.{◌≡◌, ◌⊎◌, ℕ, ◌+◌, ◌<◌, List, [], ◌++◌, length, take, None, Some, Result, Ok, Err, IfSome, Bool, true, false}
+use Rattle.std.specs.Prelude.{◌≡◌, ◌⊎◌, ℕ, ◌+◌, ◌<◌, List, [], ◌++◌, length, take, None, Some, Result, Ok, Err, IfSome}
+use Rattle.std.specs.Prelude.{Bool, true, false}
 use Rattle.std.specs.declared.option.Option.{Option}
 use Rattle.outside_io.specs.Causes.{Fault, NoFault, Read}
 use Rattle.outside_io.specs.Told.{Takes, IsEmpty}
@@ -82,7 +83,8 @@ IsUnfinished known part =
 abbrev pub ReadsNext : ReaderState → ReaderState → List ℕ → Result (Option Frame) PcapBad → Type 0
 ReadsNext old new buf (Ok None) = Ends old new
 ReadsNext old new buf (Ok (Some frame)) = GivesFrame old new (shown frame buf)
-ReadsNext old new buf (Err (Bad kind place)) = IfSome old.remaining (λ octets. IsBadAt old.format old.at octets kind place)
+ReadsNext old new buf (Err (Bad kind place)) =
+    IfSome old.remaining (λ octets. IsBadAt old.format old.at octets kind place)
 ReadsNext old new buf (Err ReadFault) = IsCutShort old.remaining new.remaining (IsUnfinished old.format)
 
 -- a reader is spent after all but a frame

@@ -1,5 +1,6 @@
 -- The tests of a pcap file, in their order.
-use Rattle.std.specs.Prelude.{◌≡◌, ◌⊎◌, ℕ, ◌+◌, ◌%◌, ◌^◌, ◌<◌, Bool, ◌&&◌, not, ◌==◌, List, ◌++◌, length, flat_map, All, take, drop, if◌then◌else◌, nat_lt, None, Some}
+use Rattle.std.specs.Prelude.{◌≡◌, ◌⊎◌, ℕ, ◌+◌, ◌%◌, ◌^◌, ◌<◌, Bool, ◌&&◌, not, ◌==◌, List, ◌++◌, length, flat_map, All}
+use Rattle.std.specs.Prelude.{take, drop, if◌then◌else◌, nat_lt, None, Some}
 use Rattle.std.specs.declared.option.Option.{Option}
 use Rattle.std.specs.Int.{w16, w32, from_be_bytes, from_le_bytes}
 use Rattle.pcap_file.specs.declared.format.ByteOrder.{ByteOrder}
@@ -75,7 +76,8 @@ or_else (Some kind) next = Some kind
 
 -- the first test that fails of what stands at this offset; none where a record stands there
 abbrev pub fault_at : ByteOrder → ℕ → List ℕ → Option PcapKind
-fault_at order at rest = or_else (fault_of_head order at (take 16 rest)) (fault_of_body order (take 16 rest) (drop 16 rest))
+fault_at order at rest =
+    or_else (fault_of_head order at (take 16 rest)) (fault_of_body order (take 16 rest) (drop 16 rest))
 
 -- whole records stand behind a header before this offset, and there a test fails first
 pub record FaultIn (octets : List ℕ) (kind : PcapKind) (at : ℕ) : Type 0 where

@@ -32,8 +32,8 @@ pub record Draws (old new : Option (List ℕ)) (nonces : List ℕ) (count : ℕ)
   pub taken : Takes old new words
   pub given : GiveNonces words nonces count
 
--- The draw came to its end at the first call that failed: the source as that call found it, fewer than sixteen words on,
--- had had no fault, and nothing was taken from it after that.
+-- The draw came to its end at the first call that failed: the source as that call found it, fewer than sixteen words
+-- on, had had no fault, and nothing was taken from it after that.
 pub record EndsAtFault {E : Type 0} (remaining : E → Option (List ℕ)) (faults : E → ℕ) (old new : E) : Type 0 where
   pub found : E
   pub words : List ℕ

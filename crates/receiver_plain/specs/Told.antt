@@ -4,7 +4,8 @@ use Rattle.std.specs.Borrow.{Bor}
 use Rattle.std.specs.Prelude.{ℕ}
 use Rattle.seq_unwrap.specs.Nearest.{cycle_of}
 use Rattle.receiver_plain.specs.declared.steps.Event.{Event as ToldEvent}
-use Rattle.receiver_plain.specs.declared.steps.Event.TheVariants.{Media as ToldMedia, TimeOnly as ToldTimeOnly, End as ToldEnd}
+use Rattle.receiver_plain.specs.declared.steps.Event.TheVariants.{Media as ToldMedia, TimeOnly as ToldTimeOnly}
+use Rattle.receiver_plain.specs.declared.steps.Event.TheVariants.{End as ToldEnd}
 use Rattle.receiver_plain.specs.declared.steps.Step.{Step as ToldStep}
 use Rattle.receiver_rules.specs.Steps.{Event, Media, TimeOnly, End, Step}
 use Rattle.receiver_rules.specs.Seen.{seen}

@@ -1,6 +1,7 @@
--- The epochs of a history (this profile). A sender that is started again comes with another SSRC and other numbers; its flow then
--- opens an epoch, in which numbers and deadlines count anew.
-use Rattle.std.specs.Prelude.{◌≡◌, ℕ, ℤ, ◌+◌, List, [], ◌∷◌, Bool, true, false, not, ◌&&◌, nat_lt, nat_le, ◌==◌, if◌then◌else◌, Option, None, Some}
+-- The epochs of a history (this profile). A sender that is started again comes with another SSRC and other numbers; its
+-- flow then opens an epoch, in which numbers and deadlines count anew.
+use Rattle.std.specs.Prelude.{◌≡◌, ℕ, ℤ, ◌+◌, List, [], ◌∷◌, Bool, true, false, not, ◌&&◌, nat_lt, nat_le, ◌==◌}
+use Rattle.std.specs.Prelude.{if◌then◌else◌, Option, None, Some}
 use Rattle.std.specs.List.{list_any}
 use Rattle.receiver_rules.specs.declared.verdict.Verdict.{Verdict}
 use Rattle.receiver_rules.specs.declared.limits.Limits.{Limits}
@@ -8,11 +9,13 @@ use Rattle.receiver_rules.specs.declared.anchor.Anchor.{Anchor}
 use Rattle.receiver_rules.specs.Steps.{Arrival, Event, Media, TimeOnly, End, Step, effective_time}
 use Rattle.receiver_rules.specs.Clock.{transit_of, clock_base, clock_of}
 use Rattle.receiver_rules.specs.declared.clock.Clock.{Clock}
-use Rattle.receiver_rules.specs.Packets.{Packet, highest_of, At, number_of, timestamp_of, placed_packet, is_buffered, verdict_of, is_kept}
+use Rattle.receiver_rules.specs.Packets.{Packet, highest_of, At, number_of, timestamp_of, placed_packet, is_buffered}
+use Rattle.receiver_rules.specs.Packets.{verdict_of, is_kept}
 
 -- what an arrival fixes where it opens an epoch
 abbrev pub new_anchor : ℕ → Arrival → Anchor
-new_anchor t arrival = record { flow = arrival.flow; time = t; number = number_of None arrival; timestamp = timestamp_of None arrival }
+new_anchor t arrival =
+    record { flow = arrival.flow; time = t; number = number_of None arrival; timestamp = timestamp_of None arrival }
 
 -- an epoch: what the arrival that opened it fixed, the packets that were kept in it, the newest first, the effective
 -- time at which the last of them came, and the transits of the originals among them, the newest first
@@ -43,12 +46,14 @@ opens_epoch limits (current ∷ earlier) t arrival = opens_next limits current t
 -- the epoch of an arrival: the current one, or the one that it opens
 abbrev pub epoch_at : Limits → List Epoch → ℕ → Arrival → Epoch
 epoch_at limits [] t arrival = new_epoch t arrival
-epoch_at limits (current ∷ earlier) t arrival = if opens_next limits current t arrival then new_epoch t arrival else current
+epoch_at limits (current ∷ earlier) t arrival =
+    if opens_next limits current t arrival then new_epoch t arrival else current
 
 -- the epochs before that one
 abbrev pub earlier_at : Limits → List Epoch → ℕ → Arrival → List Epoch
 earlier_at limits [] t arrival = []
-earlier_at limits (current ∷ earlier) t arrival = if opens_next limits current t arrival then current ∷ earlier else earlier
+earlier_at limits (current ∷ earlier) t arrival =
+    if opens_next limits current t arrival then current ∷ earlier else earlier
 
 -- what the deadlines of an epoch's next packets count from
 abbrev pub base_of : Limits → Epoch → ℤ
@@ -60,14 +65,17 @@ verdict_in limits epoch t arrival = verdict_of limits epoch.anchor (base_of limi
 
 -- the packet that it is
 abbrev pub packet_in : Limits → Epoch → Arrival → Packet
-packet_in limits epoch arrival = placed_packet limits epoch.anchor (base_of limits epoch) (highest_of epoch.accepted) arrival
+packet_in limits epoch arrival =
+    placed_packet limits epoch.anchor (base_of limits epoch) (highest_of epoch.accepted) arrival
 
 -- the epoch after it: only a packet that is kept changes it
 abbrev pub epoch_with : Limits → Epoch → ℕ → Arrival → Epoch
 epoch_with limits epoch t arrival =
     record {
       anchor = epoch.anchor;
-      accepted = if is_kept (verdict_in limits epoch t arrival) then packet_in limits epoch arrival ∷ epoch.accepted else epoch.accepted;
+      accepted =
+          if is_kept (verdict_in limits epoch t arrival) then packet_in limits epoch arrival ∷ epoch.accepted
+          else epoch.accepted;
       last = if is_kept (verdict_in limits epoch t arrival) then t else epoch.last;
       transits =
           if is_kept (verdict_in limits epoch t arrival) && not arrival.again
@@ -77,14 +85,16 @@ epoch_with limits epoch t arrival =
 
 -- the epochs after one more step
 abbrev pub epochs_after : Limits → List Epoch → ℕ → Event → List Epoch
-epochs_after limits epochs t (Media arrival) = epoch_with limits (epoch_at limits epochs t arrival) t arrival ∷ earlier_at limits epochs t arrival
+epochs_after limits epochs t (Media arrival) =
+    epoch_with limits (epoch_at limits epochs t arrival) t arrival ∷ earlier_at limits epochs t arrival
 epochs_after limits epochs t TimeOnly = epochs
 epochs_after limits epochs t End = epochs
 
 -- the epochs of a history, the newest first
 abbrev pub epochs_of : Limits → List Step → List Epoch
 epochs_of limits [] = []
-epochs_of limits (step ∷ before) = epochs_after limits (epochs_of limits before) (effective_time (step ∷ before)) step.event
+epochs_of limits (step ∷ before) =
+    epochs_after limits (epochs_of limits before) (effective_time (step ∷ before)) step.event
 
 -- ---- the current epoch
 

@@ -52,7 +52,8 @@ packets_over (epoch ∷ earlier) = packets_over earlier ++ by_number epoch.accep
 -- the packets that were played out at a moment: all of the epochs that are over, and then those of the newest one
 abbrev pub playout_of : List Epoch → Moment → List Packet
 playout_of [] moment = []
-playout_of (current ∷ earlier) moment = packets_over earlier ++ filter (is_played_out current.accepted moment) (by_number current.accepted)
+playout_of (current ∷ earlier) moment =
+    packets_over earlier ++ filter (is_played_out current.accepted moment) (by_number current.accepted)
 
 -- the packets that were played out: epoch after epoch, each one's by rising number
 abbrev pub played_out_packets : Limits → List Step → List Packet
@@ -60,7 +61,9 @@ played_out_packets limits history = playout_of (epochs_of limits history) (curre
 
 -- the packets that wait in the buffer, by rising number: all of them are the current epoch's
 abbrev pub buffered_packets : Limits → List Step → List Packet
-buffered_packets limits history = filter (is_buffered (accepted_packets limits history) (current_moment history)) (by_number (accepted_packets limits history))
+buffered_packets limits history =
+    filter (is_buffered (accepted_packets limits history) (current_moment history))
+    (by_number (accepted_packets limits history))
 
 -- the payloads that were released, in the order of their release
 abbrev pub released_payloads : Limits → List Step → List (List ℕ)

@@ -7,7 +7,8 @@ use Rattle.receiver_rules.specs.declared.verdict.Verdict.{Verdict}
 use Rattle.receiver_rules.specs.declared.limits.Limits.{Limits}
 use Rattle.receiver_rules.specs.declared.anchor.Anchor.{Anchor}
 use Rattle.receiver_rules.specs.Steps.{Arrival, Event, Media, TimeOnly, End, Step, effective_time}
-use Rattle.receiver_rules.specs.Packets.{Packet, highest_of, placed_packet, is_played_out, verdict_of, is_kept, by_number}
+use Rattle.receiver_rules.specs.Packets.{Packet, highest_of, placed_packet, is_played_out, verdict_of, is_kept}
+use Rattle.receiver_rules.specs.Packets.{by_number}
 use Rattle.receiver_rules.specs.Epochs.{new_anchor}
 use Rattle.receiver_rules.specs.History.{current_moment}
 
@@ -26,14 +27,17 @@ one_anchor (step ∷ before) = one_anchor_after (one_anchor before) (effective_t
 abbrev pub one_accepted_after : Limits → Option Anchor → List Packet → ℕ → Event → List Packet
 one_accepted_after limits first accepted t (Media arrival) =
     let a = unwrap_or first (new_anchor t arrival) in
-    if is_kept (verdict_of limits a (pos a.time) accepted t arrival) then placed_packet limits a (pos a.time) (highest_of accepted) arrival ∷ accepted else accepted
+    if is_kept (verdict_of limits a (pos a.time) accepted t arrival)
+    then placed_packet limits a (pos a.time) (highest_of accepted) arrival ∷ accepted else accepted
 one_accepted_after limits first accepted t TimeOnly = accepted
 one_accepted_after limits first accepted t End = accepted
 
 -- the packets that were kept, the newest first
 abbrev pub one_accepted : Limits → List Step → List Packet
 one_accepted limits [] = []
-one_accepted limits (step ∷ before) = one_accepted_after limits (one_anchor before) (one_accepted limits before) (effective_time (step ∷ before)) step.event
+one_accepted limits (step ∷ before) =
+    one_accepted_after limits (one_anchor before) (one_accepted limits before) (effective_time (step ∷ before))
+    step.event
 
 -- the verdict on an arrival that comes after a history
 abbrev pub one_verdict : Limits → List Step → ℕ → Arrival → Verdict
@@ -44,7 +48,9 @@ one_verdict limits before tick arrival =
 
 -- the packets that were played out, by rising number
 abbrev pub one_playout : Limits → List Step → List Packet
-one_playout limits history = filter (is_played_out (one_accepted limits history) (current_moment history)) (by_number (one_accepted limits history))
+one_playout limits history =
+    filter (is_played_out (one_accepted limits history) (current_moment history))
+    (by_number (one_accepted limits history))
 
 -- the payloads that were released, in the order of their release
 abbrev pub one_release : Limits → List Step → List (List ℕ)

@@ -1,9 +1,11 @@
 -- The rules for one arrival, given the packets that were kept before it (this profile; numbers are extended in the
 -- sense of RFC 3550, appendix A.1, and a retransmission is a packet like any other: VSF TR-06-1).
-use Rattle.std.specs.Prelude.{ℕ, ℤ, pos, ◌+ℤ◌, ◌-ℤ◌, int_le, int_lt, ◌≤◌, ◌+◌, ◌-◌, ◌*◌, ◌^◌, max, List, [], ◌∷◌, Bool, true, false, not, ◌&&◌, nat_le, nat_lt, ◌==◌, if◌then◌else◌, Option, None, Some}
+use Rattle.std.specs.Prelude.{ℕ, ℤ, pos, ◌+ℤ◌, ◌-ℤ◌, int_le, int_lt, ◌≤◌, ◌+◌, ◌-◌, ◌*◌, ◌^◌, max, List, [], ◌∷◌, Bool}
+use Rattle.std.specs.Prelude.{true, false, not, ◌&&◌, nat_le, nat_lt, ◌==◌, if◌then◌else◌, Option, None, Some}
 use Rattle.std.specs.List.{list_any}
 use Rattle.receiver_rules.specs.declared.verdict.Verdict.{Verdict}
-use Rattle.receiver_rules.specs.declared.verdict.Verdict.TheVariants.{Kept, Stranger, Exhausted, Late, Behind, Early, Twice, Span}
+use Rattle.receiver_rules.specs.declared.verdict.Verdict.TheVariants.{Kept, Stranger, Exhausted, Late, Behind, Early}
+use Rattle.receiver_rules.specs.declared.verdict.Verdict.TheVariants.{Twice, Span}
 use Rattle.receiver_rules.specs.declared.limits.Limits.{Limits}
 use Rattle.receiver_rules.specs.declared.anchor.Anchor.{Anchor}
 use Rattle.receiver_rules.specs.declared.anchor.Highest.{Highest}
@@ -23,7 +25,8 @@ pub record Packet : Type 0 where
 -- the kept packet with the highest number, after one more
 abbrev pub higher : Packet → Option Highest → Highest
 higher p None = record { number = p.number; timestamp = p.timestamp }
-higher p (Some highest) = if nat_lt highest.number p.number then record { number = p.number; timestamp = p.timestamp } else highest
+higher p (Some highest) =
+    if nat_lt highest.number p.number then record { number = p.number; timestamp = p.timestamp } else highest
 
 -- the kept packet with the highest number, where any is kept
 abbrev pub highest_of : List Packet → Option Highest
@@ -83,7 +86,9 @@ is_buffered accepted moment p = not (is_played_out accepted moment p)
 -- one above the highest number that was played out, and 0 where none was
 abbrev pub playout_floor : List Packet → Moment → ℕ
 playout_floor [] moment = 0
-playout_floor (k ∷ accepted) moment = if is_past_deadline moment k then max (k.number + 1) (playout_floor accepted moment) else playout_floor accepted moment
+playout_floor (k ∷ accepted) moment =
+    if is_past_deadline moment k then max (k.number + 1) (playout_floor accepted moment)
+    else playout_floor accepted moment
 
 -- ---- the verdict
 
@@ -93,7 +98,8 @@ distance a b = (a - b) + (b - a)
 
 -- at most some number that was played out
 abbrev pub is_behind_playout : List Packet → Moment → Packet → Bool
-is_behind_playout accepted moment p = list_any (λ k. is_played_out accepted moment k && nat_le p.number k.number) accepted
+is_behind_playout accepted moment p =
+    list_any (λ k. is_played_out accepted moment k && nat_le p.number k.number) accepted
 
 -- some kept packet has its number
 abbrev pub is_duplicate : List Packet → Packet → Bool
@@ -101,7 +107,8 @@ is_duplicate accepted p = list_any (λ k. k.number == p.number) accepted
 
 -- some buffered number lies the capacity or more away
 abbrev pub is_beyond_capacity : Limits → List Packet → Moment → Packet → Bool
-is_beyond_capacity limits accepted moment p = list_any (λ k. is_buffered accepted moment k && nat_le limits.capacity (distance k.number p.number)) accepted
+is_beyond_capacity limits accepted moment p =
+    list_any (λ k. is_buffered accepted moment k && nat_le limits.capacity (distance k.number p.number)) accepted
 
 -- which tests fit an arrival, in the order in which they are made
 pub record Tests : Type 0 where
@@ -148,7 +155,8 @@ tests_of limits anchor accepted t flow p =
 -- the verdict on an arrival at an effective time
 abbrev pub verdict_of : Limits → Anchor → ℤ → List Packet → ℕ → Arrival → Verdict
 verdict_of limits anchor base accepted t arrival =
-    first_verdict (tests_of limits anchor accepted t arrival.flow (placed_packet limits anchor base (highest_of accepted) arrival))
+    first_verdict (tests_of limits anchor accepted t arrival.flow
+    (placed_packet limits anchor base (highest_of accepted) arrival))
 
 -- the verdict by which a packet is kept
 abbrev pub is_kept : Verdict → Bool

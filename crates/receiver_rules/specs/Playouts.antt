@@ -15,7 +15,8 @@ playouts_over (epoch ∷ earlier) = playouts_over earlier ++ by_number epoch.acc
 -- and behind them those of the newest epoch that were played out at a moment
 abbrev pub playouts_at : List Epoch → Moment → List (List Packet)
 playouts_at [] moment = []
-playouts_at (current ∷ earlier) moment = playouts_over earlier ++ filter (is_played_out current.accepted moment) (by_number current.accepted) ∷ []
+playouts_at (current ∷ earlier) moment =
+    playouts_over earlier ++ filter (is_played_out current.accepted moment) (by_number current.accepted) ∷ []
 
 -- what was played out of each epoch of a history
 abbrev pub playouts_of : Limits → List Step → List (List Packet)

@@ -13,7 +13,15 @@ use Rattle.receiver_rules.specs.declared.place.Position.{Position}
 
 -- an arrival as the rules see it
 abbrev pub seen : Offered → Arrival
-seen arrival = record { flow = arrival.flow; again = arrival.again; width = arrival.width; word = arrival.word; timestamp = arrival.stamp; payload = arrival.payload.now }
+seen arrival =
+    record {
+      flow = arrival.flow;
+      again = arrival.again;
+      width = arrival.width;
+      word = arrival.word;
+      timestamp = arrival.stamp;
+      payload = arrival.payload.now;
+    }
 
 -- a tick, or the end of all
 abbrev pub moment_of : Option ℕ → Moment
@@ -22,7 +30,8 @@ moment_of (Some t) = At t
 
 -- the packet at a place
 abbrev pub packet_at : Position → List ℕ → Packet
-packet_at place payload = record { number = place.number; timestamp = place.timestamp; deadline = place.deadline; payload = payload }
+packet_at place payload =
+    record { number = place.number; timestamp = place.timestamp; deadline = place.deadline; payload = payload }
 
 -- the place of a packet
 pub record IsPlaceOf (place : Position) (p : Packet) : Type 0 where
@@ -32,7 +41,8 @@ pub record IsPlaceOf (place : Position) (p : Packet) : Type 0 where
 
 -- the highest kept packet after one more
 abbrev pub highest_with : ℕ → ℕ → Option Highest → Highest
-highest_with number timestamp highest = higher (record { number = number; timestamp = timestamp; deadline = pos 0; payload = [] }) highest
+highest_with number timestamp highest =
+    higher (record { number = number; timestamp = timestamp; deadline = pos 0; payload = [] }) highest
 
 -- the least transit of the window that is not full yet, with one more
 abbrev pub least_after : Clock → ℤ → ℤ
@@ -61,4 +71,5 @@ begun_clock (Some anchor) clock t = clock
 
 -- the clock after a packet, which may count
 abbrev pub counted_clock : Limits → Anchor → Clock → ℕ → ℕ → Bool → Clock
-counted_clock limits anchor clock t timestamp counts = if counts then clock_after limits clock (transit_of anchor t timestamp) else clock
+counted_clock limits anchor clock t timestamp counts =
+    if counts then clock_after limits clock (transit_of anchor t timestamp) else clock

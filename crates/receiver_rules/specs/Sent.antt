@@ -1,6 +1,7 @@
 -- What a sender sent, which copies of it came, and which of them came in time, where deadlines count from one base.
 -- Nothing here extends a sequence number, and nothing speaks of what a receiver keeps.
-use Rattle.std.specs.Prelude.{◌≢◌, ℕ, ℤ, pos, ◌-ℤ◌, int_le, int_lt, ◌+◌, ◌*◌, ◌/◌, ◌%◌, ◌^◌, ◌<◌, ◌≤◌, max, List, [], ◌∷◌, Bool, not, ◌&&◌, nat_le, nat_lt, ◌==◌, if◌then◌else◌, Option, None, Some, unwrap_or}
+use Rattle.std.specs.Prelude.{◌≢◌, ℕ, ℤ, pos, ◌-ℤ◌, int_le, int_lt, ◌+◌, ◌*◌, ◌/◌, ◌%◌, ◌^◌, ◌<◌, ◌≤◌, max, List, []}
+use Rattle.std.specs.Prelude.{◌∷◌, Bool, not, ◌&&◌, nat_le, nat_lt, ◌==◌, if◌then◌else◌, Option, None, Some, unwrap_or}
 use Rattle.std.specs.List.{list_any}
 use Rattle.receiver_rules.specs.declared.limits.Limits.{Limits}
 use Rattle.receiver_rules.specs.declared.verdict.Verdict.{Verdict}
@@ -24,7 +25,14 @@ HasSteadyTimestamps p = (m n : ℕ) → m ≤ n → p.timestamp m ≤ p.timestam
 -- a copy of a number, the original or a retransmission, as it is seen at the other end
 abbrev pub copy_of : SentStream → ℕ → Bool → Arrival
 copy_of p n again =
-    record { flow = p.flow; again = again; width = p.width; word = n % cycle_of p.width; timestamp = p.timestamp n % 4294967296; payload = p.payload n }
+    record {
+      flow = p.flow;
+      again = again;
+      width = p.width;
+      word = n % cycle_of p.width;
+      timestamp = p.timestamp n % 4294967296;
+      payload = p.payload n;
+    }
 
 -- what a step brings: a copy of this number, which may be a retransmission, or no copy
 pub data Content : Type 0 where
@@ -76,18 +84,21 @@ abbrev pub arrives_in_window : Limits → SentStream → Start → List ℕ → 
 arrives_in_window limits p s reached t n =
     not (int_le (number_deadline limits p s n) (pos t))
     && (not (int_lt (pos (t + 2 * limits.playout_delay)) (number_deadline limits p s n))
-    && not (list_any (λ m. not (int_le (number_deadline limits p s m) (pos t)) && nat_le limits.capacity (distance m n)) reached))
+    && not (list_any (λ m. not (int_le (number_deadline limits p s m) (pos t)) && nat_le limits.capacity (distance m n))
+    reached))
 
 -- the numbers that were reached, after one more step
 abbrev pub reached_after : Limits → SentStream → Option Start → List ℕ → ℕ → Content → List ℕ
 reached_after limits p first reached t (CopyOf n again) =
-    if arrives_in_window limits p (unwrap_or first (record { number = n; time = t })) reached t n then n ∷ reached else reached
+    if arrives_in_window limits p (unwrap_or first (record { number = n; time = t })) reached t n then n ∷ reached
+    else reached
 reached_after limits p first reached t NoCopy = reached
 
 -- the numbers of which a copy arrived in its window, a number once for each such copy
 abbrev pub reached_numbers : Limits → SentStream → List Delivery → List ℕ
 reached_numbers limits p [] = []
-reached_numbers limits p (d ∷ before) = reached_after limits p (start_of before) (reached_numbers limits p before) (run_time (d ∷ before)) d.what
+reached_numbers limits p (d ∷ before) =
+    reached_after limits p (start_of before) (reached_numbers limits p before) (run_time (d ∷ before)) d.what
 
 -- the greatest of some numbers
 abbrev pub greatest_of : List ℕ → ℕ
@@ -112,7 +123,8 @@ IsNearAfter limits p (Some s) reached (CopyOf n again) = IsNear p s.number (grea
 -- each arrival is a copy of a sent number that its words tell apart
 abbrev pub AreDeliveriesOf : Limits → SentStream → List Delivery → Type 0
 AreDeliveriesOf limits p [] = Unit {0}
-AreDeliveriesOf limits p (d ∷ before) = IsNearAfter limits p (start_of before) (reached_numbers limits p before) d.what × AreDeliveriesOf limits p before
+AreDeliveriesOf limits p (d ∷ before) =
+    IsNearAfter limits p (start_of before) (reached_numbers limits p before) d.what × AreDeliveriesOf limits p before
 
 -- a number at its place among others that rise, unless it is there
 abbrev pub insert_number : ℕ → List ℕ → List ℕ

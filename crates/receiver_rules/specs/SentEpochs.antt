@@ -1,7 +1,8 @@
 -- What senders sent one after another, each in an epoch of its own, which copies of it came, and which of them came in
 -- time, where the base of deadlines may move. Nothing here extends a sequence number, and nothing speaks of what a
 -- receiver keeps.
-use Rattle.std.specs.Prelude.{◌≡◌, ℕ, ℤ, pos, ◌+ℤ◌, ◌-ℤ◌, int_le, int_lt, ◌+◌, ◌*◌, List, [], ◌∷◌, ◌++◌, map, length, Bool, true, false, not, ◌&&◌, nat_le, nat_lt, ◌==◌, if◌then◌else◌, max}
+use Rattle.std.specs.Prelude.{◌≡◌, ℕ, ℤ, pos, ◌+ℤ◌, ◌-ℤ◌, int_le, int_lt, ◌+◌, ◌*◌, List, [], ◌∷◌, ◌++◌, map, length}
+use Rattle.std.specs.Prelude.{Bool, true, false, not, ◌&&◌, nat_le, nat_lt, ◌==◌, if◌then◌else◌, max}
 use Rattle.std.specs.List.{list_any}
 use Rattle.receiver_rules.specs.declared.limits.Limits.{Limits}
 use Rattle.receiver_rules.specs.Steps.{Arrival, Event, Media, TimeOnly, Step}
@@ -34,7 +35,8 @@ shipped_event streams NoPacket = TimeOnly
 -- the steps of a run as the receiver sees them
 abbrev pub shipped_steps : SentStreams → List Transfer → List Step
 shipped_steps streams [] = []
-shipped_steps streams (d ∷ before) = record { tick = d.tick; event = shipped_event streams d.what } ∷ shipped_steps streams before
+shipped_steps streams (d ∷ before) =
+    record { tick = d.tick; event = shipped_event streams d.what } ∷ shipped_steps streams before
 
 -- the effective time of a run
 abbrev pub transfer_time : List Transfer → ℕ
@@ -67,7 +69,8 @@ new_sent_epoch t n = record { start = record { number = n; time = t }; reached =
 -- first copy, and the playout delay more
 abbrev pub copy_deadline : Limits → SentStream → SentEpoch → ℕ → ℤ
 copy_deadline limits p epoch n =
-    clock_base limits epoch.start.time epoch.transits +ℤ (pos (p.timestamp n + limits.playout_delay) -ℤ pos (p.timestamp epoch.start.number))
+    clock_base limits epoch.start.time epoch.transits
+    +ℤ (pos (p.timestamp n + limits.playout_delay) -ℤ pos (p.timestamp epoch.start.number))
 
 -- how long a copy that comes at a tick was under way, as its timestamp has it
 abbrev pub copy_transit : SentStream → Start → ℕ → ℕ → ℤ
@@ -89,21 +92,27 @@ reaches limits p epoch t n =
     && (not (is_number_out epoch.reached t n)
     && (not (int_lt (pos (t + 2 * limits.playout_delay)) (copy_deadline limits p epoch n))
     && (not (is_reached epoch.reached n)
-    && not (list_any (λ j. not (is_number_out epoch.reached t j.number) && nat_le limits.capacity (distance j.number n)) epoch.reached))))
+    && not (list_any (λ j. not (is_number_out epoch.reached t j.number) && nat_le limits.capacity (distance j.number n))
+    epoch.reached))))
 
 -- an epoch after a copy of a number of its stream
 abbrev pub sent_epoch_with : Limits → SentStream → SentEpoch → ℕ → ℕ → Bool → SentEpoch
 sent_epoch_with limits p epoch t n again =
     record {
       start = epoch.start;
-      reached = if reaches limits p epoch t n then record { number = n; deadline = copy_deadline limits p epoch n } ∷ epoch.reached else epoch.reached;
+      reached =
+          if reaches limits p epoch t n then record { number = n; deadline = copy_deadline limits p epoch n }
+          ∷ epoch.reached else epoch.reached;
       last = if reaches limits p epoch t n then t else epoch.last;
-      transits = if reaches limits p epoch t n && not again then copy_transit p epoch.start t n ∷ epoch.transits else epoch.transits;
+      transits =
+          if reaches limits p epoch t n && not again then copy_transit p epoch.start t n ∷ epoch.transits
+          else epoch.transits;
     }
 
 -- the epochs after a copy: it comes in the newest one, where it names that, and else it opens the next
 abbrev pub sent_epochs_with : Limits → SentStreams → List SentEpoch → ℕ → ℕ → ℕ → Bool → List SentEpoch
-sent_epochs_with limits streams [] t epoch n again = sent_epoch_with limits (streams epoch) (new_sent_epoch t n) t n again ∷ []
+sent_epochs_with limits streams [] t epoch n again =
+    sent_epoch_with limits (streams epoch) (new_sent_epoch t n) t n again ∷ []
 sent_epochs_with limits streams (current ∷ earlier) t epoch n again =
     if epoch == length earlier
     then sent_epoch_with limits (streams epoch) current t n again ∷ earlier
@@ -111,14 +120,16 @@ sent_epochs_with limits streams (current ∷ earlier) t epoch n again =
 
 -- the epochs after one more step
 abbrev pub sent_epochs_after : Limits → SentStreams → List SentEpoch → ℕ → Shipment → List SentEpoch
-sent_epochs_after limits streams epochs t (CopyIn epoch n again) = sent_epochs_with limits streams epochs t epoch n again
+sent_epochs_after limits streams epochs t (CopyIn epoch n again) =
+    sent_epochs_with limits streams epochs t epoch n again
 sent_epochs_after limits streams epochs t (Foreign arrival) = epochs
 sent_epochs_after limits streams epochs t NoPacket = epochs
 
 -- the epochs of a run, in sent numbers, the newest first
 abbrev pub sent_epochs : Limits → SentStreams → List Transfer → List SentEpoch
 sent_epochs limits streams [] = []
-sent_epochs limits streams (d ∷ before) = sent_epochs_after limits streams (sent_epochs limits streams before) (transfer_time (d ∷ before)) d.what
+sent_epochs limits streams (d ∷ before) =
+    sent_epochs_after limits streams (sent_epochs limits streams before) (transfer_time (d ∷ before)) d.what
 
 -- an arrival of a flow opens an epoch after another one: it is of another flow, there is a restart time, each number
 -- that was reached is out, and the last one was reached the restart time ago or longer
@@ -131,10 +142,13 @@ follows_epoch limits p current t flow =
 
 -- a copy belongs to the newest epoch, where it names that, and is near enough to the greatest number reached for its
 -- words to tell it apart; else it opens the next, and names that
-pub record BelongsBehind (limits : Limits) (streams : SentStreams) (current : SentEpoch) (earlier : List SentEpoch) (t epoch n : ℕ) : Type 0 where
-  pub near : (epoch == length earlier) ≡ true → IsNear (streams epoch) current.start.number (greatest_of (numbers_in current.reached)) n
+pub record BelongsBehind (limits : Limits) (streams : SentStreams) (current : SentEpoch) (earlier : List SentEpoch)
+    (t epoch n : ℕ) : Type 0 where
+  pub near : (epoch == length earlier) ≡ true
+      → IsNear (streams epoch) current.start.number (greatest_of (numbers_in current.reached)) n
   pub names : (epoch == length earlier) ≡ false → epoch ≡ length (current ∷ earlier)
-  pub opens : (epoch == length earlier) ≡ false → follows_epoch limits (streams (length earlier)) current t (streams epoch).flow ≡ true
+  pub opens : (epoch == length earlier) ≡ false
+      → follows_epoch limits (streams (length earlier)) current t (streams epoch).flow ≡ true
 
 -- the first copy opens the first epoch
 abbrev pub BelongsTo : Limits → SentStreams → List SentEpoch → ℕ → ℕ → ℕ → Type 0
@@ -145,7 +159,8 @@ BelongsTo limits streams (current ∷ earlier) t epoch n = BelongsBehind limits 
 abbrev pub IsForeign : Limits → SentStreams → List SentEpoch → ℕ → ℕ → Type 0
 IsForeign limits streams [] t flow = ⊥
 IsForeign limits streams (current ∷ earlier) t flow =
-    ((flow == (streams (length earlier)).flow) ≡ false) × (follows_epoch limits (streams (length earlier)) current t flow ≡ false)
+    ((flow == (streams (length earlier)).flow) ≡ false)
+    × (follows_epoch limits (streams (length earlier)) current t flow ≡ false)
 
 -- each packet of its epoch's flow is a copy of what was sent in that epoch; any other is free
 abbrev pub BelongsAfter : Limits → SentStreams → List SentEpoch → ℕ → Shipment → Type 0
@@ -157,10 +172,12 @@ BelongsAfter limits streams epochs t NoPacket = Unit {0}
 abbrev pub AreTransfersOf : Limits → SentStreams → List Transfer → Type 0
 AreTransfersOf limits streams [] = Unit {0}
 AreTransfersOf limits streams (d ∷ before) =
-    BelongsAfter limits streams (sent_epochs limits streams before) (transfer_time (d ∷ before)) d.what × AreTransfersOf limits streams before
+    BelongsAfter limits streams (sent_epochs limits streams before) (transfer_time (d ∷ before)) d.what
+    × AreTransfersOf limits streams before
 
 -- the payloads of the numbers that were reached: epoch after epoch, each one's by rising number, each once
 abbrev pub reached_payloads : SentStreams → List SentEpoch → List (List ℕ)
 reached_payloads streams [] = []
 reached_payloads streams (current ∷ earlier) =
-    reached_payloads streams earlier ++ map (streams (length earlier)).payload (rising_numbers (numbers_in current.reached))
+    reached_payloads streams earlier
+    ++ map (streams (length earlier)).payload (rising_numbers (numbers_in current.reached))

@@ -14,19 +14,27 @@ StandsAfter old new step = (history : List Step) → IsStateAfter old history �
 
 -- the sink has gained what the history with the step releases and did not release before
 abbrev pub Releases : State → Step → Option (List ℕ) → Option (List ℕ) → Type 0
-Releases b step old new = (history : List Step) → IsStateAfter b history → Writes old new (released_bytes b.limits history) (released_bytes b.limits (step ∷ history))
+Releases b step old new =
+    (history : List Step) → IsStateAfter b history
+    → Writes old new (released_bytes b.limits history) (released_bytes b.limits (step ∷ history))
 
 -- it has gained a front part of that
 abbrev pub ReleasesPart : State → Step → Option (List ℕ) → Option (List ℕ) → Type 0
-ReleasesPart b step old new = (history : List Step) → IsStateAfter b history → WritesPart old new (released_bytes b.limits history) (released_bytes b.limits (step ∷ history))
+ReleasesPart b step old new =
+    (history : List Step) → IsStateAfter b history
+    → WritesPart old new (released_bytes b.limits history) (released_bytes b.limits (step ∷ history))
 
 -- a history that the state stands for releases no octet more with the step
 abbrev pub ReleasesNothing : State → Step → Type 0
-ReleasesNothing b step = (history : List Step) × IsStateAfter b history × (released_bytes b.limits (step ∷ history) ≡ released_bytes b.limits history)
+ReleasesNothing b step =
+    (history : List Step) × IsStateAfter b history
+    × (released_bytes b.limits (step ∷ history) ≡ released_bytes b.limits history)
 
 -- so many packets are played out that were not before
 abbrev pub Counts : State → Step → ℕ → Type 0
-Counts b step n = (history : List Step) → IsStateAfter b history → n + length (released_payloads b.limits history) ≡ length (released_payloads b.limits (step ∷ history))
+Counts b step n =
+    (history : List Step) → IsStateAfter b history
+    → n + length (released_payloads b.limits history) ≡ length (released_payloads b.limits (step ∷ history))
 
 -- the verdict on an arrival
 abbrev pub Judges : State → ℕ → Arrival → Verdict → Type 0
@@ -34,4 +42,6 @@ Judges b at arrival v = (history : List Step) → IsStateAfter b history → v �
 
 -- whether the packet with a number was kept
 abbrev pub IsKept : State → ℕ → Bool → Type 0
-IsKept b number answer = (history : List Step) → IsStateAfter b history → answer ≡ list_any (λ p. p.number == number) (accepted_packets b.limits history)
+IsKept b number answer =
+    (history : List Step) → IsStateAfter b history
+    → answer ≡ list_any (λ p. p.number == number) (accepted_packets b.limits history)

@@ -8,7 +8,8 @@ use Rattle.receiver_rules.specs.Packets.{Packet}
 use Rattle.reorder_buffer.specs.declared.phase.Phase.{Phase}
 use Rattle.reorder_buffer.specs.declared.phase.Phase.TheVariants.{Failed}
 
--- a buffer: its limits, whether it takes arrivals, and what it keeps of the current epoch: its anchor, and the packets that wait
+-- a buffer: its limits, whether it takes arrivals, and what it keeps of the current epoch: its anchor, and the packets
+-- that wait
 pub record State : Type 0 where
   pub limits : Limits
   pub phase : Phase
@@ -34,7 +35,19 @@ number_below floor = if floor == 0 then None else Some (floor - 1)
 
 -- after a failed write all is as it was, but that nothing waits
 abbrev pub failed : State → State
-failed b = record { limits = b.limits; phase = Failed; time = b.time; anchor = b.anchor; highest = b.highest; floor = b.floor; held = []; last = b.last; epoch = b.epoch; clock = b.clock }
+failed b =
+    record {
+      limits = b.limits;
+      phase = Failed;
+      time = b.time;
+      anchor = b.anchor;
+      highest = b.highest;
+      floor = b.floor;
+      held = [];
+      last = b.last;
+      epoch = b.epoch;
+      clock = b.clock;
+    }
 
 -- the highest number is no lower than it was
 abbrev pub IsNoLower : Option Highest → Option Highest → Type 0

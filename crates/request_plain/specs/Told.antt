@@ -5,7 +5,8 @@ use Rattle.receiver_rules.specs.Seen.{seen}
 use Rattle.request_rules.specs.declared.policy.Policy.{Policy}
 use Rattle.request_rules.specs.Steps.{Input, Media, Control, Keepalive, Tick, End, Step}
 use Rattle.request_plain.specs.declared.steps.Input.{Input as ToldInput}
-use Rattle.request_plain.specs.declared.steps.Input.TheVariants.{Media as ToldMedia, Control as ToldControl, Other as ToldOther, Tick as ToldTick, End as ToldEnd}
+use Rattle.request_plain.specs.declared.steps.Input.TheVariants.{Media as ToldMedia, Control as ToldControl}
+use Rattle.request_plain.specs.declared.steps.Input.TheVariants.{Other as ToldOther, Tick as ToldTick, End as ToldEnd}
 use Rattle.request_plain.specs.declared.steps.Step.{Step as ToldStep}
 
 -- what comes with a step, as the rules see it

@@ -1,5 +1,6 @@
 -- A request that is being made, number by number, from the lowest: what one more number makes of its words.
-use Rattle.std.specs.Prelude.{ℕ, zero, suc, ◌+◌, ◌-◌, ◌^◌, ◌<◌, ◌≤◌, ◌≡◌, List, [], ◌∷◌, ◌++◌, length, Bool, true, false, nat_lt, ◌==◌, if◌then◌else◌, Option, None, Some}
+use Rattle.std.specs.Prelude.{ℕ, zero, suc, ◌+◌, ◌-◌, ◌^◌, ◌<◌, ◌≤◌, ◌≡◌, List, [], ◌∷◌, ◌++◌, length, Bool, true}
+use Rattle.std.specs.Prelude.{false, nat_lt, ◌==◌, if◌then◌else◌, Option, None, Some}
 use Rattle.request_rules.specs.declared.policy.NackKind.{NackKind}
 use Rattle.request_rules.specs.declared.policy.NackKind.TheVariants.{Range, Mask}
 use Rattle.request_rules.specs.declared.word.AskWord.{AskWord}
@@ -15,7 +16,8 @@ abbrev pub extended : NackKind → AskWord → ℕ → Option AskWord
 extended Range word x =
     if x == word.first + word.second + 1 then Some (record { first = word.first; second = word.second + 1 }) else None
 extended Mask word x =
-    if is_masked word.first x then Some (record { first = word.first; second = word.second + 2 ^ (x - word.first - 1) }) else None
+    if is_masked word.first x then Some (record { first = word.first; second = word.second + 2 ^ (x - word.first - 1) })
+    else None
 
 -- a word of its own behind at most 64, where there is room for it
 abbrev pub with_last : List AskWord → ℕ → List AskWord

@@ -1,6 +1,7 @@
 -- Which packets are missing after a history, and since when (this profile). Histories are those of the buffer; only the
 -- current epoch's packets count.
-use Rattle.std.specs.Prelude.{ℕ, ◌+◌, ◌-◌, max, List, [], ◌∷◌, Bool, false, not, nat_lt, ◌==◌, if◌then◌else◌, Option, None, Some}
+use Rattle.std.specs.Prelude.{ℕ, ◌+◌, ◌-◌, max, List, [], ◌∷◌, Bool, false, not, nat_lt, ◌==◌, if◌then◌else◌, Option}
+use Rattle.std.specs.Prelude.{None, Some}
 use Rattle.std.specs.List.{filter, list_any, range_with_len}
 use Rattle.receiver_rules.specs.declared.limits.Limits.{Limits}
 use Rattle.receiver_rules.specs.declared.anchor.Anchor.{Anchor}
@@ -54,11 +55,13 @@ missing_numbers limits history t =
 -- the packets that were kept before a step, in the epoch that it comes in: none where it opens one
 abbrev pub accepted_before : Limits → Step → List Step → List Packet
 accepted_before limits step before =
-    if is_opening limits (epochs_of limits before) (effective_time (step ∷ before)) step.event then [] else accepted_packets limits before
+    if is_opening limits (epochs_of limits before) (effective_time (step ∷ before)) step.event then []
+    else accepted_packets limits before
 
 -- since when a missing packet is known to be missing: the time at which a packet of a higher number was first kept in
 -- the epoch. (Of a number that isn't missing this says nothing.)
 abbrev pub found_time : Limits → List Step → ℕ → ℕ
 found_time limits [] x = 0
 found_time limits (step ∷ before) x =
-    if is_passed (accepted_before limits step before) x then found_time limits before x else effective_time (step ∷ before)
+    if is_passed (accepted_before limits step before) x then found_time limits before x
+    else effective_time (step ∷ before)

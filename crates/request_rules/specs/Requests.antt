@@ -1,14 +1,16 @@
 -- Which missing packets are asked for at a time after a history, and all that was asked for before (this profile). A
 -- tick of the clock on any link asks, and what was asked for belongs to the receiver: it counts on each link. It
 -- belongs to the epoch: where a packet opens one nothing was asked for yet.
-use Rattle.std.specs.Prelude.{ℕ, ◌+◌, max, List, [], ◌∷◌, ◌++◌, map, length, Bool, true, nat_le, nat_lt, ◌&&◌, ◌==◌, if◌then◌else◌}
+use Rattle.std.specs.Prelude.{ℕ, ◌+◌, max, List, [], ◌∷◌, ◌++◌, map, length, Bool, true, nat_le, nat_lt, ◌&&◌, ◌==◌}
+use Rattle.std.specs.Prelude.{if◌then◌else◌}
 use Rattle.std.specs.List.{filter}
 use Rattle.receiver_rules.specs.declared.limits.Limits.{Limits}
 use Rattle.receiver_rules.specs.Steps.{tick_of}
 use Rattle.receiver_rules.specs.Epochs.{epochs_of, opens_epoch}
 use Rattle.request_rules.specs.declared.policy.Policy.{Policy}
 use Rattle.request_rules.specs.declared.word.AskWord.{AskWord}
-use Rattle.request_rules.specs.Steps.{Input, Media, Control, Keepalive, Refused, Tick, End, Step, buffer_history, effective_time, longest_rtt}
+use Rattle.request_rules.specs.Steps.{Input, Media, Control, Keepalive, Refused, Tick, End, Step, buffer_history}
+use Rattle.request_rules.specs.Steps.{effective_time, longest_rtt}
 use Rattle.request_rules.specs.Missing.{missing_numbers, found_time}
 use Rattle.request_rules.specs.Words.{words_for, asked_numbers}
 
@@ -46,7 +48,8 @@ is_due policy rtt t found times =
 -- the missing packets that are due at a time, where these were the requests so far
 abbrev pub due_numbers : Limits → Policy → List Step → List Request → ℕ → List ℕ
 due_numbers limits policy history requests t =
-    filter (λ x. is_due policy (longest_rtt 16 history) t (found_time limits (buffer_history history) x) (request_times requests x))
+    filter (λ x. is_due policy (longest_rtt 16 history) t (found_time limits (buffer_history history) x)
+    (request_times requests x))
     (missing_numbers limits (buffer_history history) t)
 
 -- the words that ask for them: from the lowest, at most 64

@@ -26,7 +26,8 @@ patient kind tries = record { reorder_tolerance = 2250; retry_interval = 4500; r
 -- a packet of a flow on link 0, with a width and no payload
 abbrev pub comes_of : ℕ → Width → ℕ → ℕ → ℕ → Step
 comes_of flow width tick word timestamp =
-    let arrival : Arrival = record { flow = flow; again = false; width = width; word = word; timestamp = timestamp; payload = [] } in
+    let arrival : Arrival =
+    record { flow = flow; again = false; width = width; word = word; timestamp = timestamp; payload = [] } in
     record { link = 0; tick = tick; input = Media arrival }
 
 -- the same of one flow

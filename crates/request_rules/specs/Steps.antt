@@ -1,7 +1,8 @@
 -- What a whole receiver is told, step by step, with what its control datagrams say (RFC 3550, section 6.1, for a
 -- compound; the RTT echo is this profile's). A history is a list of steps, the newest first: in `step ∷ before`,
 -- `before` is all that came before the step.
-use Rattle.std.specs.Prelude.{ℕ, zero, suc, ◌-◌, max, List, [], ◌∷◌, map, Bool, not, ◌&&◌, nat_le, ◌==◌, if◌then◌else◌, Option, None, Some}
+use Rattle.std.specs.Prelude.{ℕ, zero, suc, ◌-◌, max, List, [], ◌∷◌, map, Bool, not, ◌&&◌, nat_le, ◌==◌, if◌then◌else◌}
+use Rattle.std.specs.Prelude.{Option, None, Some}
 use Rattle.std.specs.List.{find}
 use Rattle.receiver_rules.specs.Steps as buffer
 use Rattle.receiver_rules.specs.Steps.{Arrival}
@@ -68,7 +69,8 @@ rtt_after rtt End = rtt
 -- the smoothed round-trip time of a link, in microseconds, where a sample was taken
 abbrev pub rtt_of : ℕ → List Step → Option ℕ
 rtt_of link [] = None
-rtt_of link (step ∷ before) = if step.link == link then rtt_after (rtt_of link before) step.input else rtt_of link before
+rtt_of link (step ∷ before) =
+    if step.link == link then rtt_after (rtt_of link before) step.input else rtt_of link before
 
 -- the greater of a round-trip time and one that may be known
 abbrev pub longer : Option ℕ → ℕ → ℕ

@@ -1,6 +1,7 @@
 -- The words of a request, which name missing numbers: range NACK (VSF TR-06-1) and generic NACK (RFC 4585, section
 -- 6.2.1). Numbers are the extended ones: how many bits of them a word sends is no matter here.
-use Rattle.std.specs.Prelude.{ℕ, ◌≤◌, zero, suc, ◌+◌, ◌-◌, ◌^◌, List, [], ◌∷◌, map, take, Bool, nat_le, not, ◌==◌, if◌then◌else◌}
+use Rattle.std.specs.Prelude.{ℕ, ◌≤◌, zero, suc, ◌+◌, ◌-◌, ◌^◌, List, [], ◌∷◌, map, take, Bool, nat_le, not, ◌==◌}
+use Rattle.std.specs.Prelude.{if◌then◌else◌}
 use Rattle.std.specs.List.{filter, sum_by, range_with_len, flat_map}
 use Rattle.rist_nack.specs.Requests.{set_places}
 use Rattle.request_rules.specs.declared.policy.NackKind.{NackKind}
@@ -13,7 +14,8 @@ use Rattle.request_rules.specs.declared.word.AskWord.{AskWord}
 abbrev pub run_with : ℕ → List AskWord → List AskWord
 run_with x [] = record { first = x; second = 0 } ∷ []
 run_with x (run ∷ runs) =
-    if run.first == x + 1 then record { first = x; second = run.second + 1 } ∷ runs else record { first = x; second = 0 } ∷ run ∷ runs
+    if run.first == x + 1 then record { first = x; second = run.second + 1 } ∷ runs
+    else record { first = x; second = 0 } ∷ run ∷ runs
 
 -- rising numbers as their longest runs
 abbrev pub runs_of : List ℕ → List AskWord

@@ -5,7 +5,8 @@ use Rattle.sender_rules.specs.Sendings.{Packet, Sending, last_sent_again}
 use Rattle.sender_rules.specs.Stored.{stored_packets}
 use Rattle.retransmit_store.specs.declared.store.Stored.{Stored}
 
--- how many packets there is room for, and the packets, the newest first, each with the tick at which it was last sent again
+-- how many packets there is room for, and the packets, the newest first, each with the tick at which it was last sent
+-- again
 pub record StoreState : Type 0 where
   pub size : ℕ
   pub packets : List Stored

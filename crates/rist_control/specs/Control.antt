@@ -1,6 +1,7 @@
 -- The control datagrams that each step of a receiver makes (RFC 3550, sections 6.1, 6.4.2 and 6.5, for reports and
 -- source descriptions; VSF TR-06-1; the round-trip time's echo, keepalives and all times are this profile's).
-use Rattle.std.specs.Prelude.{ℕ, List, [], ◌∷◌, ◌++◌, Bool, true, false, ◌&&◌, ◌||◌, if◌then◌else◌, Option, None, Some, option_map}
+use Rattle.std.specs.Prelude.{ℕ, List, [], ◌∷◌, ◌++◌, Bool, true, false, ◌&&◌, ◌||◌, if◌then◌else◌, Option, None, Some}
+use Rattle.std.specs.Prelude.{option_map}
 use Rattle.std.specs.Int.{w32, to_be_bytes}
 use Rattle.seq_unwrap.specs.declared.width.Width.{Width}
 use Rattle.receiver_rules.specs.declared.limits.Limits.{Limits}
@@ -11,7 +12,8 @@ use Rattle.rist_rtt.specs.Echo.{EchoOf, request, response}
 use Rattle.request_rules.specs.declared.policy.NackKind.{NackKind}
 use Rattle.request_rules.specs.declared.policy.Policy.{Policy}
 use Rattle.request_rules.specs.declared.word.AskWord.{AskWord}
-use Rattle.request_rules.specs.Steps.{Input, Media, Control, Keepalive, Refused, Tick, End, Step, buffer_history, effective_time}
+use Rattle.request_rules.specs.Steps.{Input, Media, Control, Keepalive, Refused, Tick, End, Step, buffer_history}
+use Rattle.request_rules.specs.Steps.{effective_time}
 use Rattle.request_rules.specs.Requests.{asked_words}
 use Rattle.rist_control.specs.When.{is_report_due, is_keepalive_due}
 use Rattle.rist_control.specs.Nacks.{width_of, flow_nacks}
@@ -97,7 +99,8 @@ input_datagrams settings before link t End = []
 -- the datagrams that a step after a history makes, for its link; a muted receiver makes none
 abbrev pub datagrams_of : ControlSettings → List Step → Step → List Datagram
 datagrams_of settings before step =
-    if settings.is_muted then [] else input_datagrams settings before step.link (effective_time (step ∷ before)) step.input
+    if settings.is_muted then []
+    else input_datagrams settings before step.link (effective_time (step ∷ before)) step.input
 
 -- ---- the words in them
 
@@ -112,4 +115,5 @@ input_words settings before t End = []
 
 -- the words by which a step after a history asks, in the datagrams that it makes
 abbrev pub words_made : ControlSettings → List Step → Step → List AskWord
-words_made settings before step = if settings.is_muted then [] else input_words settings before (effective_time (step ∷ before)) step.input
+words_made settings before step =
+    if settings.is_muted then [] else input_words settings before (effective_time (step ∷ before)) step.input

@@ -3,7 +3,8 @@ use Rattle.std.specs.Prelude.{ℕ, List, ◌++◌, codes}
 use Rattle.count_lines.specs.Lines.{line}
 use Rattle.capture_file.specs.Capture.{Record}
 use Rattle.receiver_rules.specs.declared.limits.Limits.{Limits}
-use Rattle.receiver_rules.specs.declared.verdict.Verdict.TheVariants.{Kept, Stranger, Exhausted, Late, Behind, Early, Twice, Span}
+use Rattle.receiver_rules.specs.declared.verdict.Verdict.TheVariants.{Kept, Stranger, Exhausted, Late, Behind, Early}
+use Rattle.receiver_rules.specs.declared.verdict.Verdict.TheVariants.{Twice, Span}
 use Rattle.request_rules.specs.Steps.{Step}
 use Rattle.rist_wire.specs.declared.session.Session.{Session}
 use Rattle.rist_ends.specs.declared.counts.Counts.{Counts}

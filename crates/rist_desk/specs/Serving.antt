@@ -23,14 +23,16 @@ pub record LinkTells (L : Type 0) : Type 0 where
   pub faults : L → ℕ
 
 -- this is what a worker is given, where its clock and its link tell
-pub record IsFeed (f : Feed) (session : Session) (place : ℕ) (limits : Limits) (moments : Option (ℕ → ℕ)) (answers : Option (ℕ → Answer)) : Type 0 where
+pub record IsFeed (f : Feed) (session : Session) (place : ℕ) (limits : Limits) (moments : Option (ℕ → ℕ))
+    (answers : Option (ℕ → Answer)) : Type 0 where
   pub task : IsTask f session place limits
   pub moments_are : moments ≡ Some f.moments
   pub answers_are : answers ≡ Some f.answers
 
 -- The worker at this place ended: its own list has gained the steps of its turns, and its link what they made. Of a
 -- named desk that tells its steps, that is what the rules make.
-pub record ServesBy {L C U : Type 0} (desk : Option Given) (moments : C → Option (ℕ → ℕ)) (tells : LinkTells L) (list : U → Option (List Step)) (limits : Limits) (place : ℕ) (old new : Worker L C U) : Type 0 where
+pub record ServesBy {L C U : Type 0} (desk : Option Given) (moments : C → Option (ℕ → ℕ)) (tells : LinkTells L)
+    (list : U → Option (List Step)) (limits : Limits) (place : ℕ) (old new : Worker L C U) : Type 0 where
   pub end : Ended
   pub ended : new.end ≡ Some end
   pub served : (f : Feed) → IsFeed f old.opener place limits (moments old.clock) (tells.reads old.link)
@@ -42,7 +44,8 @@ pub record ServesBy {L C U : Type 0} (desk : Option Given) (moments : C → Opti
   pub failed_cause : RoseWhere (is_link_failure (Some end)) (tells.faults old.link) (tells.faults new.link)
 
 -- so, whatever the desk
-abbrev pub Serves : {L C U : Type 0} → (C → Option (ℕ → ℕ)) → LinkTells L → (U → Option (List Step)) → Limits → ℕ → Worker L C U → Worker L C U → Type 0
+abbrev pub Serves : {L C U : Type 0} → (C → Option (ℕ → ℕ)) → LinkTells L → (U → Option (List Step)) → Limits → ℕ
+    → Worker L C U → Worker L C U → Type 0
 Serves moments tells list limits place old new = ServesBy None moments tells list limits place old new
 
 -- what a kind of traces tells, and how many steps one takes
@@ -51,18 +54,21 @@ pub record TraceTells (U : Type 0) : Type 0 where
   pub limit : U → Option ℕ
 
 -- so on this desk; and where it ended since a trace was full, that is its own, or the desk's was
-pub record ServesOn {L C U : Type 0} (given : Given) (moments : C → Option (ℕ → ℕ)) (tells : LinkTells L) (trace : TraceTells U) (limits : Limits) (place : ℕ) (old new : Worker L C U) : Type 0 where
+pub record ServesOn {L C U : Type 0} (given : Given) (moments : C → Option (ℕ → ℕ)) (tells : LinkTells L)
+    (trace : TraceTells U) (limits : Limits) (place : ℕ) (old new : Worker L C U) : Type 0 where
   pub made : ServesBy (Some given) moments tells trace.list limits place old new
   pub full : new.end ≡ Some ends.TraceFull → LacksRoom given (trace.limit new.trace) (trace.list new.trace)
 
 -- a worker at this place may make all its turns, of two steps at most, on what is shared
-pub record MayServe {S L C U : Type 0} (is_of : S → ℕ → U → Type 0) (left : U → ℕ) (shared : S) (limits : Limits) (place : ℕ) (w : Worker L C U) : Type 0 where
+pub record MayServe {S L C U : Type 0} (is_of : S → ℕ → U → Type 0) (left : U → ℕ) (shared : S) (limits : Limits)
+    (place : ℕ) (w : Worker L C U) : Type 0 where
   pub own : is_of shared place w.trace
   pub left_is : 2 * limits.turns ≤ left w.trace
 
--- A worker ended: what is its own is still of what is shared; and where a failed write of the sink ended it, that is known by
--- what it has seen.
-pub record Leaves {S L C U : Type 0} (is_of : S → ℕ → U → Type 0) (broken : U → Type 0) (shared : S) (place : ℕ) (w : Worker L C U) : Type 0 where
+-- A worker ended: what is its own is still of what is shared; and where a failed write of the sink ended it, that is
+-- known by what it has seen.
+pub record Leaves {S L C U : Type 0} (is_of : S → ℕ → U → Type 0) (broken : U → Type 0) (shared : S) (place : ℕ)
+    (w : Worker L C U) : Type 0 where
   pub own : is_of shared place w.trace
   pub stopped : w.end ≡ Some ends.Stopped → broken w.trace
   pub fault : w.end ≡ Some ends.WriteFault → broken w.trace

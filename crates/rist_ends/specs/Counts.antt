@@ -23,7 +23,8 @@ one_where_same _ _ = 0
 
 -- one where a step brings a media packet with this verdict
 abbrev pub counted_verdict : Verdict → Limits → List Step → ℕ → Input → ℕ
-counted_verdict v limits before tick (Media arrival) = one_where_same v (verdict limits (buffer_history before) tick arrival)
+counted_verdict v limits before tick (Media arrival) =
+    one_where_same v (verdict limits (buffer_history before) tick arrival)
 counted_verdict v limits before tick (Control sample request) = 0
 counted_verdict v limits before tick Keepalive = 0
 counted_verdict v limits before tick Refused = 0
@@ -74,7 +75,8 @@ pub record AreCountsOf (c : Counts) (limits : Limits) (history : List Step) : Ty
 
 -- nothing came yet
 abbrev pub no_counts : Counts
-no_counts = record { kept = 0; stranger = 0; exhausted = 0; late = 0; behind = 0; early = 0; twice = 0; span = 0; refused = 0 }
+no_counts =
+    record { kept = 0; stranger = 0; exhausted = 0; late = 0; behind = 0; early = 0; twice = 0; span = 0; refused = 0 }
 
 -- the counts after one more verdict
 abbrev pub one_more : Verdict → Counts → Counts

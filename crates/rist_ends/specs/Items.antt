@@ -9,7 +9,15 @@ use Rattle.request_rules.specs.Steps.{Input, Media, Keepalive, Refused, control_
 
 -- media with its null packets restored
 abbrev pub arrival_of : MediaValue → Arrival
-arrival_of media = record { flow = media.flow; again = media.again; width = media.width; word = media.word; timestamp = media.stamp; payload = content_of media }
+arrival_of media =
+    record {
+      flow = media.flow;
+      again = media.again;
+      width = media.width;
+      word = media.word;
+      timestamp = media.stamp;
+      payload = content_of media;
+    }
 
 -- what is told of a datagram that came at a moment in microseconds: the item that it is, or that it is refused
 abbrev pub input_read : ℕ → Result Item WireBad → Input

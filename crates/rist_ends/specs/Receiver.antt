@@ -68,13 +68,15 @@ GoesOn old new step = (history : List Step) → IsReceiverAfter old history → 
 abbrev pub Plays : ReceiverState → Step → Option (List ℕ) → Option (List ℕ) → Type 0
 Plays r step old new =
     (history : List Step) → IsReceiverAfter r history
-    → Writes old new (released_bytes r.buffer.limits (buffer_history history)) (released_bytes r.buffer.limits (buffer_history (step ∷ history)))
+    → Writes old new (released_bytes r.buffer.limits (buffer_history history))
+    (released_bytes r.buffer.limits (buffer_history (step ∷ history)))
 
 -- it has gained a front part of that
 abbrev pub PlaysPart : ReceiverState → Step → Option (List ℕ) → Option (List ℕ) → Type 0
 PlaysPart r step old new =
     (history : List Step) → IsReceiverAfter r history
-    → WritesPart old new (released_bytes r.buffer.limits (buffer_history history)) (released_bytes r.buffer.limits (buffer_history (step ∷ history)))
+    → WritesPart old new (released_bytes r.buffer.limits (buffer_history history))
+    (released_bytes r.buffer.limits (buffer_history (step ∷ history)))
 
 -- after a failed write nothing waits
 pub record HasFailed (b : State) : Type 0 where
@@ -82,7 +84,8 @@ pub record HasFailed (b : State) : Type 0 where
   pub dropped : b.held ≡ []
 
 -- what a step comes to: the receiver, and what its sink told that it holds, before the step and after it
-pub record Steps (old new : ReceiverState) (told : Told) (outcome : Outcome) (before after : Option (List ℕ)) : Type 0 where
+pub record Steps (old new : ReceiverState) (told : Told) (outcome : Outcome)
+    (before after : Option (List ℕ)) : Type 0 where
   -- Stopped exactly where it has ended
   pub stopped : outcome ≡ Stopped → old.buffer.phase ≢ Open
   pub ended : old.buffer.phase ≢ Open → outcome ≡ Stopped

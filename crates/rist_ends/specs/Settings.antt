@@ -24,11 +24,18 @@ pub record IsInRange (settings : Settings) : Type 0 where
 
 -- the limits of its buffer, in ticks and packets
 abbrev pub limits_of : Settings → Limits
-limits_of settings = record { playout_delay = 90 * settings.delay; capacity = settings.span; restart_time = 90 * settings.restart; drift = settings.drift }
+limits_of settings =
+    record {
+      playout_delay = 90 * settings.delay;
+      capacity = settings.span;
+      restart_time = 90 * settings.restart;
+      drift = settings.drift;
+    }
 
 -- when it asks
 abbrev pub timer_settings : Settings → TimerSettings
-timer_settings settings = record { reorder = settings.reorder; least = settings.least; tries = settings.tries; nack = settings.nack }
+timer_settings settings =
+    record { reorder = settings.reorder; least = settings.least; tries = settings.tries; nack = settings.nack }
 
 -- all that the rules of what it sends back know of it, in a session
 abbrev pub control_settings : Settings → Session → ControlSettings
@@ -44,4 +51,15 @@ control_settings settings session =
 -- a receiver that plays out and sends nothing back
 abbrev pub muted_settings : ℕ → ℕ → ℕ → Bool → Settings
 muted_settings delay span restart drift =
-    record { delay = delay; span = span; restart = restart; drift = drift; reorder = 25; least = 50; tries = 0; nack = Range; own = 7; muted = true }
+    record {
+      delay = delay;
+      span = span;
+      restart = restart;
+      drift = drift;
+      reorder = 25;
+      least = 50;
+      tries = 0;
+      nack = Range;
+      own = 7;
+      muted = true;
+    }

@@ -1,6 +1,8 @@
 -- An extension as librist 0.2 writes it where null packets were deleted: its size is 0, so how many packets there were
 -- follows from those that are left and from the bits.
-use Rattle.std.specs.Prelude.{ℕ, ◌∷◌, is_some, ◌+◌, ◌-◌, ◌*◌, ◌/◌, ◌%◌, ◌^◌, Bool, ◌&&◌, ◌||◌, not, List, length, take, drop, slice_index, count_ones, if◌then◌else◌, ◌==◌, nat_lt, Option, Some, None, option_map, Result, Ok, Err}
+use Rattle.std.specs.Prelude.{ℕ, ◌∷◌, is_some, ◌+◌, ◌-◌, ◌*◌, ◌/◌, ◌%◌, ◌^◌, Bool, ◌&&◌, ◌||◌, not, List, length, take}
+use Rattle.std.specs.Prelude.{drop, slice_index, count_ones, if◌then◌else◌, ◌==◌, nat_lt, Option, Some, None}
+use Rattle.std.specs.Prelude.{option_map, Result, Ok, Err}
 use Rattle.std.specs.Int.{w16, bit_at, from_bool, to_be_bytes}
 use Rattle.ts_nulls.specs.Packets.{packet_len}
 use Rattle.ts_nulls.specs.Shape.{Shape}
@@ -24,8 +26,8 @@ shape_by long units bits =
     if (units == 0) || nat_lt 7 units then None
     else option_map (λ nulls. record { units = units; long = long; nulls = nulls }) (nulls_by units bits)
 
--- what was deleted from a payload of which so many octets are left: these are whole packets, and each set bit stands for
--- one more
+-- what was deleted from a payload of which so many octets are left: these are whole packets, and each set bit stands
+-- for one more
 abbrev pub shape_left : Bool → ℕ → ℕ → Option Shape
 shape_left long bits left =
     if not (left % packet_len long == 0) then None
@@ -46,7 +48,8 @@ shape_in left octets = shape_left (bit_at (slice_index octets 1) 7 == 1) (slice_
 -- a shape without its count of packets: the flag N, and the bits from the first place on
 abbrev pub uncounted : Shape → Option ℕ → List ℕ
 uncounted shape upper =
-    (128 + 64 * from_bool (is_some upper)) ∷ (128 * from_bool shape.long + shape.nulls) ∷ to_be_bytes w16 (upper_of upper 0)
+    (128 + 64 * from_bool (is_some upper)) ∷ (128 * from_bool shape.long + shape.nulls)
+    ∷ to_be_bytes w16 (upper_of upper 0)
 
 -- the same with the bits in the last places
 abbrev pub uncounted_last : Shape → Option ℕ → List ℕ
@@ -61,5 +64,6 @@ unfoldable pub counted_reading_of : ℕ → ℕ → List ℕ → Result ExtWord 
 counted_reading_of left profile octets =
     if not (profile == RIST_PROFILE) then Err Profile
     else (if not (length octets == 4) then Err Length
-    else (if has_strip (slice_index octets 0) && (units_in (slice_index octets 0) == 0) then word_with octets (shape_in left octets)
+    else (if has_strip (slice_index octets 0) && (units_in (slice_index octets 0) == 0)
+    then word_with octets (shape_in left octets)
     else Ok (word_in octets)))

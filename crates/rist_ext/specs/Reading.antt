@@ -1,6 +1,7 @@
 -- What is read of an extension: the word, or the first test that fails. Bits are counted from the least
 -- significant of an octet.
-use Rattle.std.specs.Prelude.{ℕ, ◌-◌, ◌/◌, ◌%◌, ◌^◌, Bool, ◌&&◌, not, List, length, take, drop, slice_index, if◌then◌else◌, ◌==◌, Option, Some, None, Result, Ok, Err}
+use Rattle.std.specs.Prelude.{ℕ, ◌-◌, ◌/◌, ◌%◌, ◌^◌, Bool, ◌&&◌, not, List, length, take, drop, slice_index}
+use Rattle.std.specs.Prelude.{if◌then◌else◌, ◌==◌, Option, Some, None, Result, Ok, Err}
 use Rattle.std.specs.Int.{w16, from_be_bytes, bit_at}
 use Rattle.ts_nulls.specs.Shape.{Shape}
 use Rattle.rist_ext.specs.declared.ext_word.TheConstants.{RIST_PROFILE}

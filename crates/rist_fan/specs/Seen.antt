@@ -1,5 +1,6 @@
 -- What each receiver of a fan sees of the steps of all. Lists of steps stand with the newest first.
-use Rattle.std.specs.Prelude.{◌≡◌, ℕ, ◌+◌, ◌==◌, Bool, true, false, List, [], ◌∷◌, slice_get, unwrap_or, Option, None, Some}
+use Rattle.std.specs.Prelude.{◌≡◌, ℕ, ◌+◌, ◌==◌, Bool, true, false, List, [], ◌∷◌, slice_get, unwrap_or, Option, None}
+use Rattle.std.specs.Prelude.{Some}
 use Rattle.request_rules.specs.Steps.{Input, Keepalive, Refused, Step as ReceiverStep}
 use Rattle.rist_ends.specs.declared.told.Told.{Told}
 use Rattle.rist_ends.specs.declared.told.What.{What}
@@ -32,8 +33,8 @@ told_for own told = record { link = told.link; us = told.us; what = what_for own
 
 -- ---- steps of all
 
--- A step of several receivers: of each, in the order of their places, the step that it made of what it was told, or none
--- where it had ended. A history of them is a list of such steps.
+-- A step of several receivers: of each, in the order of their places, the step that it made of what it was told, or
+-- none where it had ended. A history of them is a list of such steps.
 pub record FanStep : Type 0 where
   pub steps : List (Option Step)
 

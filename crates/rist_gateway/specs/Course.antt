@@ -1,5 +1,6 @@
 -- What a gateway's sending end does: it sends pieces on, and looks at what comes back on its links (this profile).
-use Rattle.std.specs.Prelude.{◌≡◌, ◌<◌, ℕ, nat_lt, List, [], ◌∷◌, ◌++◌, length, take, drop, set, slice_index_or, Bool, true, false, Option, None, Some, Result, Ok, Err}
+use Rattle.std.specs.Prelude.{◌≡◌, ◌<◌, ℕ, nat_lt, List, [], ◌∷◌, ◌++◌, length, take, drop, set, slice_index_or, Bool}
+use Rattle.std.specs.Prelude.{true, false, Option, None, Some, Result, Ok, Err}
 use Rattle.std.specs.Option.{option_map}
 use Rattle.outside_net.specs.Streams.{later, IsFirst}
 use Rattle.outside_net.specs.Links.{Answer, Gave, Quiet, End, Failed}
@@ -50,7 +51,8 @@ pub record SendsPart (setup : Setup) (part : List ℕ) (result : Result Unit Sen
   pub is : to ≡ record from { work = to.work; passed = passed_after from.passed part result }
 
 -- what follows a part: nothing, where that was refused
-abbrev pub GoesOn : (Result Unit SendBad → Course → Course → Type 0) → Result Unit SendBad → Result Unit SendBad → Course → Course → Type 0
+abbrev pub GoesOn : (Result Unit SendBad → Course → Course → Type 0) → Result Unit SendBad → Result Unit SendBad
+    → Course → Course → Type 0
 GoesOn P (Ok done) result from to = P result from to
 GoesOn P (Err bad) result from to = (result ≡ Err bad) × (to ≡ from)
 
@@ -58,7 +60,8 @@ GoesOn P (Err bad) result from to = (result ≡ Err bad) × (to ≡ from)
 abbrev pub SendsParts : Setup → List (List ℕ) → Result Unit SendBad → Course → Course → Type 0
 SendsParts setup [] result from to = (result ≡ Ok tt) × (to ≡ from)
 SendsParts setup (part ∷ parts) result from to =
-    (first : Result Unit SendBad) × (between : Course) × SendsPart setup part first from between × GoesOn (SendsParts setup parts) first result between to
+    (first : Result Unit SendBad) × (between : Course) × SendsPart setup part first from between
+    × GoesOn (SendsParts setup parts) first result between to
 
 -- The octets in parts of 1,500, of which the last may have fewer: what a receiver plays out at once is one part.
 abbrev pub AreParts : List (List ℕ) → List ℕ → Type 0
@@ -75,7 +78,8 @@ pub record SendsOn (setup : Setup) (piece : List ℕ) (result : Result Unit Send
 
 -- a link gave the next of its answers
 abbrev pub with_read : ℕ → Course → Course
-with_read link course = record course { answers = set course.answers link (option_map later (slice_index_or course.answers link None)) }
+with_read link course =
+    record course { answers = set course.answers link (option_map later (slice_index_or course.answers link None)) }
 
 -- the sender's clock ticks
 pub record TicksOnce (setup : Setup) (micros : ℕ) (result : Result Unit SendBad) (from to : Course) : Type 0 where
@@ -83,7 +87,8 @@ pub record TicksOnce (setup : Setup) (micros : ℕ) (result : Result Unit SendBa
   pub is : to ≡ record from { work = to.work }
 
 -- a compound that came on a link is answered there
-pub record AnswersOnce (setup : Setup) (micros link : ℕ) (compound : List Content) (result : Result ℕ SendBad) (from to : Course) : Type 0 where
+pub record AnswersOnce (setup : Setup) (micros link : ℕ) (compound : List Content) (result : Result ℕ SendBad)
+    (from to : Course) : Type 0 where
   pub feeds : FeedsBack setup.rules setup.links micros link compound result from.work to.work
   pub is : to ≡ record from { work = to.work }
 
@@ -96,7 +101,8 @@ TicksAfter setup micros (Err bad) result from to = (result ≡ Err bad) × (to �
 abbrev pub AnswersAndTicks : Setup → ℕ → ℕ → Option (List Content) → Result Unit SendBad → Course → Course → Type 0
 AnswersAndTicks setup micros link None result from to = TicksOnce setup micros result from to
 AnswersAndTicks setup micros link (Some compound) result from to =
-    (answer : Result ℕ SendBad) × (between : Course) × AnswersOnce setup micros link compound answer from between × TicksAfter setup micros answer result between to
+    (answer : Result ℕ SendBad) × (between : Course) × AnswersOnce setup micros link compound answer from between
+    × TicksAfter setup micros answer result between to
 
 -- what a look came to, where a datagram came or none was there, after so many puts
 abbrev pub side_of : Bool → ℕ → Result Unit SendBad → Side
@@ -107,7 +113,9 @@ side_of came puts (Err bad) = sides.Bad bad
 -- what follows a read
 abbrev pub AfterRead : Setup → ℕ → ℕ → ℕ → Answer → Side → Course → Course → Type 0
 AfterRead setup micros link puts (Gave datagram) side from to =
-    (result : Result Unit SendBad) × AnswersAndTicks setup micros link (compound_in setup.session (Gave datagram)) result from to × (side ≡ side_of true puts result)
+    (result : Result Unit SendBad)
+    × AnswersAndTicks setup micros link (compound_in setup.session (Gave datagram)) result from to
+    × (side ≡ side_of true puts result)
 AfterRead setup micros link puts Quiet side from to =
     (result : Result Unit SendBad) × TicksOnce setup micros result from to × (side ≡ side_of false puts result)
 AfterRead setup micros link puts End side from to = (side ≡ sides.End) × (to ≡ from)
@@ -140,4 +148,5 @@ Does setup (Looked micros link puts side) from to = LooksAt setup micros link pu
 -- deeds one after another, the newest first
 abbrev pub DoesAll : Setup → List Deed → Course → Course → Type 0
 DoesAll setup [] from to = to ≡ from
-DoesAll setup (deed ∷ before) from to = (between : Course) × DoesAll setup before from between × Does setup deed between to
+DoesAll setup (deed ∷ before) from to =
+    (between : Course) × DoesAll setup before from between × Does setup deed between to

@@ -1,5 +1,6 @@
 -- What a contract sees of a gateway's sending end.
-use Rattle.std.specs.Prelude.{◌≡◌, ◌<◌, ◌≤◌, ℕ, List, [], length, map, slice_index_or, Bool, false, Option, None, Some, Result, Ok, Err}
+use Rattle.std.specs.Prelude.{◌≡◌, ◌<◌, ◌≤◌, ℕ, List, [], length, map, slice_index_or, Bool, false, Option, None, Some}
+use Rattle.std.specs.Prelude.{Result, Ok, Err}
 use Rattle.outside_io.specs.Causes.{Rose}
 use Rattle.outside_io.specs.declared.channel.Channel.{Channel}
 use Rattle.outside_net.specs.Links.{Answer, Datagram}
@@ -26,11 +27,25 @@ pub record LinkState : Type 0 where
 
 -- what a link of some kind shows
 abbrev pub shown : {L : Type 0} → Line L → L → LinkState
-shown line link = record { taken = line.taken link; knows = line.knows link; faults = line.faults link; reads = line.reads link; ends = line.ends link }
+shown line link =
+    record {
+      taken = line.taken link;
+      knows = line.knows link;
+      faults = line.faults link;
+      reads = line.reads link;
+      ends = line.ends link;
+    }
 
 -- the same of one that is shown
 abbrev pub plain : Line LinkState
-plain = record { taken = λ s. s.taken; knows = λ s. s.knows; faults = λ s. s.faults; reads = λ s. s.reads; ends = λ s. s.ends }
+plain =
+    record {
+      taken = λ s. s.taken;
+      knows = λ s. s.knows;
+      faults = λ s. s.faults;
+      reads = λ s. s.reads;
+      ends = λ s. s.ends;
+    }
 
 -- its sender; its opener's session; its links; the moments that its clock has still to give, and the octets of the
 -- payloads that its sender took; how often it was put to; how many puts failed; and why the last put and the last aside
@@ -46,7 +61,8 @@ pub record OnwardState : Type 0 where
   pub aside_bad : Option SendBad
 
 -- one of these parts
-abbrev pub onward_of : {L : Type 0} → Line L → SenderState → Session → List L → Passed → ℕ → ℕ → Option SendBad → Option SendBad → OnwardState
+abbrev pub onward_of : {L : Type 0} → Line L → SenderState → Session → List L → Passed → ℕ → ℕ → Option SendBad
+    → Option SendBad → OnwardState
 onward_of line sender opener links passed puts faults put_bad aside_bad =
     record {
       sender = sender;
@@ -77,7 +93,9 @@ passed_of moments sent = record { moments = moments; sent = sent }
 
 -- what these show
 abbrev pub shows : {L C : Type 0} → Line L → (C → Option (ℕ → ℕ)) → OnwardParts L C → OnwardState
-shows line moments p = onward_of line p.sender p.opener p.links (passed_of (moments p.clock) p.handed) p.puts p.faults p.put_bad p.aside_bad
+shows line moments p =
+    onward_of line p.sender p.opener p.links (passed_of (moments p.clock) p.handed) p.puts p.faults p.put_bad
+    p.aside_bad
 
 -- why a put was refused, or, where none was, an aside
 abbrev pub why_of : Option SendBad → Option SendBad → Option SendBad
@@ -115,7 +133,8 @@ start_of o = record { work = no_work o.sender; passed = o.passed; answers = map 
 -- since every link is down the count of each has risen
 abbrev pub HasRisen : Option SendBad → List LinkState → List LinkState → Type 0
 HasRisen why first now =
-    why ≡ Some LinksDown → (link : ℕ) (d : LinkState) → link < length first → Rose (slice_index_or first link d).faults (slice_index_or now link d).faults
+    why ≡ Some LinksDown → (link : ℕ) (d : LinkState) → link < length first
+    → Rose (slice_index_or first link d).faults (slice_index_or now link d).faults
 
 -- What holds of every one that was made as this: it is set as it was; it has come to where it is by deeds, one after
 -- another; each link was given just the datagrams of these; where a put failed it tells why; and where it tells that
@@ -150,18 +169,23 @@ AnswersPut (Err failed) (Ok done) was bad = ⊥
 AnswersPut (Err failed) (Err refusal) was bad = bad ≡ Some refusal
 
 -- a put hands its piece to the sender
-pub record PutsOn {E : Type 0} (setup : Setup) (piece : List ℕ) (result : Result Unit E) (was bad : Option SendBad) (from to : Course) : Type 0 where
+pub record PutsOn {E : Type 0} (setup : Setup) (piece : List ℕ) (result : Result Unit E) (was bad : Option SendBad)
+    (from to : Course) : Type 0 where
   pub answer : Result Unit SendBad
   pub sends : SendsOn setup piece answer from to
   pub told : AnswersPut result answer was bad
 
 -- what a put does, wherever it stands
 abbrev pub Puts : {E : Type 0} → OnwardState → OnwardState → List ℕ → Result Unit E → Type 0
-Puts old new piece result = (from : Course) → IsAt old from → Moves old new from (PutsOn (setup_of old) piece result old.put_bad new.put_bad from)
+Puts old new piece result =
+    (from : Course) → IsAt old from
+    → Moves old new from (PutsOn (setup_of old) piece result old.put_bad new.put_bad from)
 
 -- what an aside does, wherever it stands
 abbrev pub Looks : OnwardState → OnwardState → ℕ → ℕ → Side → Type 0
-Looks old new micros link side = (from : Course) → IsAt old from → Moves old new from (λ to. LooksAt (setup_of old) micros link old.puts side from to)
+Looks old new micros link side =
+    (from : Course) → IsAt old from
+    → Moves old new from (λ to. LooksAt (setup_of old) micros link old.puts side from to)
 
 -- what a name holds that was picked for nothing
 abbrev pub nothing_first : OnwardState

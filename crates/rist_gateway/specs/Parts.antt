@@ -35,7 +35,8 @@ abbrev pub sides_as : {S P : Type 0} → (S → ℕ → P → Type 0) → (P →
 sides_as is_of left = record { is_of = is_of; left = left }
 
 -- what is shared, as a trait has it, with what its side workers look at
-abbrev pub shared_as : {S U P : Type 0} → Given → (U → Option (List Step)) → (U → Option ℕ) → (S → ℕ → U → Type 0) → (U → ℕ) → (U → Type 0) → SidesTell S P → SharedTells S U P
+abbrev pub shared_as : {S U P : Type 0} → Given → (U → Option (List Step)) → (U → Option ℕ) → (S → ℕ → U → Type 0)
+    → (U → ℕ) → (U → Type 0) → SidesTell S P → SharedTells S U P
 shared_as given list limit is_of left broken sides =
     record {
       given = given;
@@ -47,7 +48,8 @@ shared_as given list limit is_of left broken sides =
     }
 
 -- a side worker may make all its turns, of one look each
-pub record MayLook {S D P : Type 0} (tells : SidesTell S P) (shared : S) (limits : Limits) (number : ℕ) (w : SideWorker D P) : Type 0 where
+pub record MayLook {S D P : Type 0} (tells : SidesTell S P) (shared : S) (limits : Limits) (number : ℕ)
+    (w : SideWorker D P) : Type 0 where
   pub own : tells.is_of shared number w.pass
   pub left_is : limits.turns ≤ tells.left w.pass
 
@@ -57,35 +59,42 @@ MayBegin tells shared limits place (parts.Receiving w) = MayServe tells.is_of te
 MayBegin tells shared limits place (parts.Sending w) = MayLook tells.sides shared limits place w
 
 -- a worker served its link on what is shared
-pub record ServesWith {S L C U P : Type 0} (tells : SharedTells S U P) (shared : S) (moments : C → Option (ℕ → ℕ)) (links : LinkTells L) (limits : Limits) (place : ℕ) (old new : Worker L C U) : Type 0 where
+pub record ServesWith {S L C U P : Type 0} (tells : SharedTells S U P) (shared : S) (moments : C → Option (ℕ → ℕ))
+    (links : LinkTells L) (limits : Limits) (place : ℕ) (old new : Worker L C U) : Type 0 where
   pub on : ServesOn tells.given moments links tells.trace limits place old new
   pub leaves : Leaves tells.is_of tells.broken shared place new
 
 -- a side worker looked at its link, and no step was made with its pass
-pub record LooksWith {S D P : Type 0} (tells : SidesTell S P) (shared : S) (moments : D → Option (ℕ → ℕ)) (limits : Limits) (number : ℕ) (old new : SideWorker D P) : Type 0 where
+pub record LooksWith {S D P : Type 0} (tells : SidesTell S P) (shared : S) (moments : D → Option (ℕ → ℕ))
+    (limits : Limits) (number : ℕ) (old new : SideWorker D P) : Type 0 where
   pub looks : ServesSide moments limits old new
   pub own : tells.is_of shared number new.pass
 
 -- a worker served its link, or a side worker looked at its own
-abbrev pub ServesPart : {S L C U D P : Type 0} → SharedTells S U P → S → (C → Option (ℕ → ℕ)) → (D → Option (ℕ → ℕ)) → LinkTells L → Limits → ℕ → Part L C U D P → Part L C U D P → Type 0
-ServesPart tells shared moments ticks links limits place (parts.Receiving old) (parts.Receiving new) = ServesWith tells shared moments links limits place old new
+abbrev pub ServesPart : {S L C U D P : Type 0} → SharedTells S U P → S → (C → Option (ℕ → ℕ)) → (D → Option (ℕ → ℕ))
+    → LinkTells L → Limits → ℕ → Part L C U D P → Part L C U D P → Type 0
+ServesPart tells shared moments ticks links limits place (parts.Receiving old) (parts.Receiving new) =
+    ServesWith tells shared moments links limits place old new
 ServesPart tells shared moments ticks links limits place (parts.Receiving old) (parts.Sending new) = ⊥
 ServesPart tells shared moments ticks links limits place (parts.Sending old) (parts.Receiving new) = ⊥
-ServesPart tells shared moments ticks links limits place (parts.Sending old) (parts.Sending new) = LooksWith tells.sides shared ticks limits place old new
+ServesPart tells shared moments ticks links limits place (parts.Sending old) (parts.Sending new) =
+    LooksWith tells.sides shared ticks limits place old new
 
 -- ---- side workers as far as they tell
 
 -- one for each of these clocks, at the places from this one on; none has looked at its link yet
 abbrev pub side_workers : {D : Type 0} → ℕ → List D → List (SideWorker D (Unit {0}))
 side_workers place [] = []
-side_workers place (clock ∷ clocks) = (record { link = place; clock = clock; pass = tt; end = None }) ∷ side_workers (place + 1) clocks
+side_workers place (clock ∷ clocks) =
+    (record { link = place; clock = clock; pass = tt; end = None }) ∷ side_workers (place + 1) clocks
 
 -- the clock of a side worker
 abbrev pub side_clock : {D P : Type 0} → SideWorker D P → D
 side_clock side = side.clock
 
 -- each of the side workers looked at its link
-pub record LookedAt {D P : Type 0} (moments : D → Option (ℕ → ℕ)) (limits : Limits) (were are : List (SideWorker D P)) : Type 0 where
+pub record LookedAt {D P : Type 0} (moments : D → Option (ℕ → ℕ)) (limits : Limits)
+    (were are : List (SideWorker D P)) : Type 0 where
   pub count : length are ≡ length were
   pub looked : (place : ℕ) (d : SideWorker D P) → place < length were
       → ServesSide moments limits (slice_index_or were place d) (slice_index_or are place d)

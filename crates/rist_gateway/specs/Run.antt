@@ -50,11 +50,13 @@ EndsGate endings.Done put looked ending = ending ≡ looked_ending looked gates.
 
 -- what links tell, as a receiver's threads ask it
 abbrev pub tells_of : {L : Type 0} → Line L → LinkTells L
-tells_of line = record { reads = line.reads; taken = line.taken; knows = line.knows; ends = line.ends; faults = line.faults }
+tells_of line =
+    record { reads = line.reads; taken = line.taken; knows = line.knows; ends = line.ends; faults = line.faults }
 
 -- the clocks of the links that are sent on were those of side workers, one for each link at its place, and each looked
 -- at its link
-pub record AreLookedAt {C : Type 0} (moments : C → Option (ℕ → ℕ)) (limits : Limits) (clocks_were clocks_are : List C) : Type 0 where
+pub record AreLookedAt {C : Type 0} (moments : C → Option (ℕ → ℕ)) (limits : Limits)
+    (clocks_were clocks_are : List C) : Type 0 where
   pub are : List (SideWorker C (Unit {0}))
   pub clocks_have : map side_clock are ≡ clocks_are
   pub looked : LookedAt moments limits (side_workers 0 clocks_were) are
@@ -62,8 +64,8 @@ pub record AreLookedAt {C : Type 0} (moments : C → Option (ℕ → ℕ)) (limi
 -- The links that are sent on were handed to a sender which had done nothing, and which did this with them: all that it
 -- did, deed by deed, was to send what was put to it, payload by payload, and to look at its links; the octets of the
 -- payloads that it took are these.
-pub record SendsOnward {L C : Type 0} (moments : C → Option (ℕ → ℕ)) (line : Line L) (s : GateSetup) (links_were links_are : List L)
-    (clock_was clock_is : C) (first last : OnwardState) : Type 0 where
+pub record SendsOnward {L C : Type 0} (moments : C → Option (ℕ → ℕ)) (line : Line L) (s : GateSetup)
+    (links_were links_are : List L) (clock_was clock_is : C) (first last : OnwardState) : Type 0 where
   pub rules : rules_of first.sender ≡ s.rules
   pub session : first.sender.session ≡ s.session
   pub sealer : first.sender.sealer ≡ s.sealer
@@ -76,9 +78,11 @@ pub record SendsOnward {L C : Type 0} (moments : C → Option (ℕ → ℕ)) (li
   pub onward : IsOnward first last
 
 -- A run over so many links that are received on, with the others sent on. What was received is played out to the
--- sender: the octets that it took are those that the steps of the receiver's history release. Counts are the receiver's.
-pub record Forwards {L C : Type 0} (moments : C → Option (ℕ → ℕ)) (line : Line L) (s : GateSetup) (limits : Limits) (inputs : ℕ)
-    (links_were links_are : List L) (clocks_were clocks_are : List C) (counts : Counts) (ending : GateEnding) : Type 0 where
+-- sender: the octets that it took are those that the steps of the receiver's history release. Counts are the
+-- receiver's.
+pub record Forwards {L C : Type 0} (moments : C → Option (ℕ → ℕ)) (line : Line L) (s : GateSetup) (limits : Limits)
+    (inputs : ℕ) (links_were links_are : List L) (clocks_were clocks_are : List C) (counts : Counts)
+    (ending : GateEnding) : Type 0 where
   pub first : OnwardState
   pub last : OnwardState
   pub ended : Ending
@@ -89,5 +93,6 @@ pub record Forwards {L C : Type 0} (moments : C → Option (ℕ → ℕ)) (line 
   pub clock_had : slice_get clocks_were (length links_were) ≡ Some clock_was
   pub clock_has : slice_get clocks_are (length links_were) ≡ Some clock_is
   pub sends : SendsOnward moments line s (drop inputs links_were) (drop inputs links_are) clock_was clock_is first last
-  pub looked : AreLookedAt moments limits (drop inputs (take (length links_were) clocks_were)) (drop inputs (take (length links_were) clocks_are))
+  pub looked : AreLookedAt moments limits (drop inputs (take (length links_were) clocks_were))
+      (drop inputs (take (length links_were) clocks_are))
   pub ends : EndsGate ended last.put_bad last.aside_bad ending

@@ -7,7 +7,8 @@ use Rattle.rist_sender.specs.Calls.{Rules}
 use Rattle.rist_sender.specs.Sender.{IsSenderAfter, has_keepalives, rules_of}
 use Rattle.rist_sender.specs.declared.settings.Settings.{Settings}
 use Rattle.rist_desk.specs.declared.step.Step.{Step}
-use Rattle.rist_recv.specs.Setup.{Setup as ReceivingSetup, IsMade as IsReceivingMade, IsMadeInTurns, setup_in_turns, setup_of as receiving_setup_of}
+use Rattle.rist_recv.specs.Setup.{Setup as ReceivingSetup, IsMade as IsReceivingMade, IsMadeInTurns, setup_in_turns}
+use Rattle.rist_recv.specs.Setup.{setup_of as receiving_setup_of}
 use Rattle.rist_gateway.specs.Onward.{no_work}
 use Rattle.rist_gateway.specs.declared.making.Made.{Made}
 use Rattle.rist_gateway.specs.declared.receiving_end.KeptEnd.{KeptEnd}
@@ -51,20 +52,23 @@ gate_setup_of limit made =
 
 -- a receiving end whose steps are kept is made for so many links, with room for the parts of both ends, and with what
 -- side workers have of their own
-pub record IsKeptEnd {T L C : Type 0} (list : T → Option (List Step)) (limit : T → Option ℕ) (inputs outputs : ℕ) (end : KeptEnd T L C) : Type 0 where
+pub record IsKeptEnd {T L C : Type 0} (list : T → Option (List Step)) (limit : T → Option ℕ) (inputs outputs : ℕ)
+    (end : KeptEnd T L C) : Type 0 where
   pub receiving : IsReceivingMade list limit inputs end.made
   pub part_room : inputs + outputs ≤ vec_capacity end.parts
   pub no_parts : end.parts.items ≡ []
   pub passes : length end.passes.items ≡ outputs
 
 -- a receiving end is made for so many links
-abbrev pub IsReceivingEnd : {T L C : Type 0} → (T → Option (List Step)) → (T → Option ℕ) → ℕ → ℕ → ReceivingEnd T L C → Type 0
+abbrev pub IsReceivingEnd : {T L C : Type 0} → (T → Option (List Step)) → (T → Option ℕ) → ℕ → ℕ → ReceivingEnd T L C
+    → Type 0
 IsReceivingEnd list limit inputs outputs (ends.Kept end) = IsKeptEnd list limit inputs outputs end
 IsReceivingEnd list limit inputs outputs (ends.InTurns made) = IsMadeInTurns inputs made
 
 -- all is made for so many links of each end: the receiving end; a sender that did nothing, over so many links, and an
 -- opener of its session; and room for its links and for their clocks
-pub record IsGateMade {T L C : Type 0} (list : T → Option (List Step)) (limit : T → Option ℕ) (inputs outputs : ℕ) (made : Made T L C) : Type 0 where
+pub record IsGateMade {T L C : Type 0} (list : T → Option (List Step)) (limit : T → Option ℕ) (inputs outputs : ℕ)
+    (made : Made T L C) : Type 0 where
   pub receiving : IsReceivingEnd list limit inputs outputs made.receiving
   pub sender : IsSenderAfter made.sender (no_work made.sender)
   pub opener : made.opener ≡ made.sender.session

@@ -1,5 +1,6 @@
 -- The turns of a side worker: one moment of its clock, and one aside.
-use Rattle.std.specs.Prelude.{◌≡◌, ◌<◌, ℕ, ◌+◌, nat_le, nat_lt, List, [], ◌∷◌, length, Bool, false, if◌then◌else◌, Option, None, Some}
+use Rattle.std.specs.Prelude.{◌≡◌, ◌<◌, ℕ, ◌+◌, nat_le, nat_lt, List, [], ◌∷◌, length, Bool, false, if◌then◌else◌}
+use Rattle.std.specs.Prelude.{Option, None, Some}
 use Rattle.std.specs.Option.{option_map}
 use Rattle.outside_net.specs.Streams.{later, IsFirst}
 use Rattle.rist_desk.specs.declared.beside.Side.{Side}
@@ -14,7 +15,8 @@ use Rattle.rist_gateway.specs.declared.side_worker.SideWorker.{SideWorker}
 -- so many puts were found, at a moment: the first ones, or more than before
 abbrev pub found_with : Option Found → ℕ → ℕ → Option Found
 found_with None moment puts = Some (record { puts = puts; since = moment })
-found_with (Some found) moment puts = if nat_lt found.puts puts then Some (record { puts = puts; since = moment }) else Some found
+found_with (Some found) moment puts =
+    if nat_lt found.puts puts then Some (record { puts = puts; since = moment }) else Some found
 
 -- after one more turn
 abbrev pub found_after : Option Found → ℕ → Side → Option Found
@@ -47,7 +49,8 @@ found_by moments (side ∷ before) = found_after (found_by moments before) (mome
 -- why the last of them is the last, if it is
 abbrev pub end_at : Limits → (ℕ → ℕ) → Side → List Side → Option SideEnded
 end_at limits moments side before =
-    end_by side (nat_le limits.turns (length before + 1)) (is_quiet limits.idle (found_by moments (side ∷ before)) (moments (length before)))
+    end_by side (nat_le limits.turns (length before + 1))
+    (is_quiet limits.idle (found_by moments (side ∷ before)) (moments (length before)))
 
 -- none of them is the last
 abbrev pub AllGoOn : Limits → (ℕ → ℕ) → List Side → Type 0
@@ -64,7 +67,8 @@ pub record IsSideServed (limits : Limits) (moments : ℕ → ℕ) (end : SideEnd
   pub took : left ≡ Some (from (length before + 1) moments)
 
 -- a side worker ended
-pub record ServesSide {C P : Type 0} (moments : C → Option (ℕ → ℕ)) (limits : Limits) (old new : SideWorker C P) : Type 0 where
+pub record ServesSide {C P : Type 0} (moments : C → Option (ℕ → ℕ)) (limits : Limits)
+    (old new : SideWorker C P) : Type 0 where
   pub end : SideEnded
   pub ended : new.end ≡ Some end
   pub link : new.link ≡ old.link
@@ -73,7 +77,8 @@ pub record ServesSide {C P : Type 0} (moments : C → Option (ℕ → ℕ)) (lim
 -- ---- one turn
 
 -- a turn, of whatever its aside came to
-pub record SideTurn (m n : Option (ℕ → ℕ)) (idle : ℕ) (last : Bool) (found now : Option Found) (result : Option SideEnded) : Type 0 where
+pub record SideTurn (m n : Option (ℕ → ℕ)) (idle : ℕ) (last : Bool) (found now : Option Found)
+    (result : Option SideEnded) : Type 0 where
   pub side : Side
   pub moment : ℕ
   pub first : IsFirst m moment
@@ -82,7 +87,8 @@ pub record SideTurn (m n : Option (ℕ → ℕ)) (idle : ℕ) (last : Bool) (fou
   pub result_is : result ≡ end_by side last (is_quiet idle now moment)
 
 -- after so many turns, none of which was the last
-pub record IsSideGoing (limits : Limits) (moments : ℕ → ℕ) (made : ℕ) (left : Option (ℕ → ℕ)) (found : Option Found) : Type 0 where
+pub record IsSideGoing (limits : Limits) (moments : ℕ → ℕ) (made : ℕ) (left : Option (ℕ → ℕ))
+    (found : Option Found) : Type 0 where
   pub sides : List Side
   pub count : length sides ≡ made
   pub going : AllGoOn limits moments sides

@@ -34,7 +34,9 @@ name_of_topic Drill = codes "drill"
 
 -- what one word asks for
 abbrev pub asked_by_word : Text → Option Ask
-asked_by_word word = if bytes_eq word (codes "--help") then Some Help else (if bytes_eq word (codes "--version") then Some Version else None)
+asked_by_word word =
+    if bytes_eq word (codes "--help") then Some Help
+    else (if bytes_eq word (codes "--version") then Some Version else None)
 
 -- what two words ask for, of which the first names a command
 abbrev pub asked_of_command : Text → Text → Option Ask

@@ -1,5 +1,6 @@
 -- The tests that a command's values have to pass, in their order, and the first that fails (this profile).
-use Rattle.std.specs.Prelude.{Bool, true, not, nat_lt, ◌&&◌, List, [], ◌∷◌, ◌++◌, length, Option, Some, None, is_none, is_some, if◌then◌else◌, codes}
+use Rattle.std.specs.Prelude.{Bool, true, not, nat_lt, ◌&&◌, List, [], ◌∷◌, ◌++◌, length, Option, Some, None, is_none}
+use Rattle.std.specs.Prelude.{is_some, if◌then◌else◌, codes}
 use Rattle.std.specs.List.{find}
 use Rattle.std.specs.Str.{bytes_eq}
 use Rattle.clap.specs.Words.{Row, Text, all_of, first_of}
@@ -10,17 +11,22 @@ use Rattle.rist_words.specs.declared.values.Numbers.{Numbers}
 use Rattle.rist_words.specs.Commands.{SessionNames, incoming_names, session_names}
 use Rattle.rist_help.specs.declared.checks.Test.{Test}
 use Rattle.rist_help.specs.declared.checks.Test.TheVariants as tests
-use Rattle.rist_words.specs.CommandLine.{are_unset, firsts, pcap_of, key_bits, delays, spans, restarts, flows, gaps, leads, stores, holds, lingers, turn_counts, reorders, retry_times, retry_counts, own_ssrcs, idle_times, kept_counts, drill_numbers, drill_counts, drill_links, drill_losses}
-use Rattle.rist_words.specs.Values.{flag_of, is_set, nack_of, name_of, number_at, number_of, phrase_of, profile_of, tunnel_of, ◌>>=◌}
+use Rattle.rist_words.specs.CommandLine.{are_unset, firsts, pcap_of, key_bits, delays, spans, restarts, flows, gaps}
+use Rattle.rist_words.specs.CommandLine.{leads, stores, holds, lingers, turn_counts, reorders, retry_times}
+use Rattle.rist_words.specs.CommandLine.{retry_counts, own_ssrcs, idle_times, kept_counts, drill_numbers, drill_counts}
+use Rattle.rist_words.specs.CommandLine.{drill_links, drill_losses}
+use Rattle.rist_words.specs.Values.{flag_of, is_set, nack_of, name_of, number_at, number_of, phrase_of, profile_of}
+use Rattle.rist_words.specs.Values.{tunnel_of, ◌>>=◌}
 use Rattle.rist_words.specs.Links.{gate_links_of, inputs_of, link_texts, links_of, shares_of}
 use Rattle.rist_words.specs.Outs.{outs_of, ports}
 
--- What is tested: that the name at a position isn't empty; that the number at a position, or of an option, is one that it
--- takes; that a profile reads; that a passphrase, a flag of the Main Profile and the tunnel read in the profile of an option; that
--- the session of a gateway's inputs has its profile; that the first sequence number, the two options of a pcap file and the kind of
--- requests read; that there are one to sixteen links, and each is one; that some of a gateway's receive and not all, and each is
--- one in the profile of its end; that each link that sends has a weight where they share; that the outputs of a split read; and that
--- the passphrase, the tunnel and the two options of a pcap file read in the Main Profile, for a command that is always in it
+-- What is tested: that the name at a position isn't empty; that the number at a position, or of an option, is one that
+-- it takes; that a profile reads; that a passphrase, a flag of the Main Profile and the tunnel read in the profile of
+-- an option; that the session of a gateway's inputs has its profile; that the first sequence number, the two options of
+-- a pcap file and the kind of requests read; that there are one to sixteen links, and each is one; that some of a
+-- gateway's receive and not all, and each is one in the profile of its end; that each link that sends has a weight
+-- where they share; that the outputs of a split read; and that the passphrase, the tunnel and the two options of a pcap
+-- file read in the Main Profile, for a command that is always in it
 pub data Check : Type 0 where
   Name : Text → Check
   NumberAt : Text → Numbers → Check
@@ -87,11 +93,13 @@ profile_in rows = profile_by (codes "profile") rows
 
 -- that of the links that a gateway receives on: their own where it is given
 abbrev pub incoming_in : List Row → Profile
-incoming_in rows = if is_some (first_of (codes "in-profile") rows) then profile_by (codes "in-profile") rows else profile_in rows
+incoming_in rows =
+    if is_some (first_of (codes "in-profile") rows) then profile_by (codes "in-profile") rows else profile_in rows
 
 -- the links of a gateway, each in the profile of its end
 abbrev pub gate_links_in : List Row → Option (List LinkSpec × List LinkSpec)
-gate_links_in rows = gate_links_of (incoming_in rows) (profile_in rows) (all_of (codes "link") rows) (first_of (codes "in") rows)
+gate_links_in rows =
+    gate_links_of (incoming_in rows) (profile_in rows) (all_of (codes "link") rows) (first_of (codes "in") rows)
 
 -- a value isn't as it has to be: its form, its range, or what it goes with
 abbrev pub does_fail : List Row → Check → Bool
@@ -103,7 +111,8 @@ does_fail rows (Pass profile option) = is_none (phrase_of (profile_by profile ro
 does_fail rows (MainFlag profile flag) = is_none (flag_of (profile_by profile rows) (first_of flag rows))
 does_fail rows (TunnelWord profile option) = is_none (tunnel_of (profile_by profile rows) (first_of option rows))
 does_fail rows Incoming = is_none (first_of (codes "in-profile") rows) && not (are_unset incoming_names rows)
-does_fail rows First = is_none (number_of (firsts (is_set (first_of (codes "wide") rows))) (first_of (codes "first") rows))
+does_fail rows First =
+    is_none (number_of (firsts (is_set (first_of (codes "wide") rows))) (first_of (codes "first") rows))
 does_fail rows Pcap = is_none (pcap_of (profile_in rows) rows)
 does_fail rows Nack = is_none (nack_of (first_of (codes "nack") rows))
 does_fail rows Links = is_none (links_of (profile_in rows) (all_of (codes "link") rows))
@@ -129,7 +138,8 @@ first_failing rows checks = find (does_fail rows) checks
 -- the tests of a session's options behind its profile
 abbrev pub checks_named : SessionNames → List Check
 checks_named names =
-    Number names.port ports ∷ Pass names.profile names.pass ∷ Number names.bits key_bits ∷ MainFlag names.profile names.full
+    Number names.port ports ∷ Pass names.profile names.pass ∷ Number names.bits key_bits
+    ∷ MainFlag names.profile names.full
     ∷ TunnelWord names.profile names.tunnel ∷ []
 
 -- those of a session
@@ -146,13 +156,16 @@ buffer_checks = Number (codes "delay") delays ∷ Number (codes "span") spans �
 
 -- those of a stream
 abbrev pub stream_checks : List Check
-stream_checks = MainFlag (codes "profile") (codes "nulls") ∷ MainFlag (codes "profile") (codes "wide") ∷ Number (codes "flow") flows ∷ First ∷ []
+stream_checks =
+    MainFlag (codes "profile") (codes "nulls") ∷ MainFlag (codes "profile") (codes "wide") ∷ Number (codes "flow") flows
+    ∷ First ∷ []
 
 -- those of a receiver's requests, and of its run
 abbrev pub receiver_checks : List Check
 receiver_checks =
     Number (codes "reorder") reorders ∷ Number (codes "least") retry_times ∷ Number (codes "tries") retry_counts ∷ Nack
-    ∷ Number (codes "own") own_ssrcs ∷ Number (codes "turns") turn_counts ∷ Number (codes "idle") idle_times ∷ Number (codes "keep") kept_counts ∷ []
+    ∷ Number (codes "own") own_ssrcs ∷ Number (codes "turns") turn_counts ∷ Number (codes "idle") idle_times
+    ∷ Number (codes "keep") kept_counts ∷ []
 
 -- those of a store
 abbrev pub store_checks : List Check
@@ -165,15 +178,24 @@ tunnel_checks = MainPass session_names.pass ∷ Number session_names.bits key_bi
 -- the tests of each command's values, in the order in which they are made
 abbrev pub checks_of : Text → List Check
 checks_of command =
-    if bytes_eq command (codes "replay") then Name (codes "capture") ∷ Name (codes "out") ∷ session_checks ++ buffer_checks ++ (Pcap ∷ [])
+    if bytes_eq command (codes "replay") then Name (codes "capture") ∷ Name (codes "out") ∷ session_checks
+    ++ buffer_checks ++ (Pcap ∷ [])
     else (if bytes_eq command (codes "show") then Name (codes "capture") ∷ session_checks ++ (Pcap ∷ [])
-    else (if bytes_eq command (codes "count") then Name (codes "capture") ∷ session_checks ++ buffer_checks ++ (Pcap ∷ [])
-    else (if bytes_eq command (codes "pack") then Name (codes "source") ∷ Name (codes "capture") ∷ session_checks ++ stream_checks ++ (Number (codes "gap") gaps ∷ [])
-    else (if bytes_eq command (codes "split") then Name (codes "capture") ∷ Outs ∷ tunnel_checks ++ buffer_checks ++ (MainPcap ∷ [])
-    else (if bytes_eq command (codes "send") then Name (codes "source") ∷ session_checks ++ (Links ∷ []) ++ stream_checks ++ (Number (codes "gap") gaps ∷ Number (codes "lead") leads ∷ [])
+    else (if bytes_eq command (codes "count") then Name (codes "capture") ∷ session_checks ++ buffer_checks
+    ++ (Pcap ∷ [])
+    else (if bytes_eq command (codes "pack") then Name (codes "source") ∷ Name (codes "capture") ∷ session_checks
+    ++ stream_checks ++ (Number (codes "gap") gaps ∷ [])
+    else (if bytes_eq command (codes "split") then Name (codes "capture") ∷ Outs ∷ tunnel_checks ++ buffer_checks
+    ++ (MainPcap ∷ [])
+    else (if bytes_eq command (codes "send")
+    then Name (codes "source") ∷ session_checks ++ (Links ∷ []) ++ stream_checks
+    ++ (Number (codes "gap") gaps ∷ Number (codes "lead") leads ∷ [])
     ++ store_checks ++ (SendShare ∷ Number (codes "linger") lingers ∷ Number (codes "turns") turn_counts ∷ [])
-    else (if bytes_eq command (codes "recv") then Name (codes "out") ∷ session_checks ++ (Links ∷ []) ++ buffer_checks ++ receiver_checks
-    else (if bytes_eq command (codes "gate") then session_checks ++ incoming_checks ++ (Inputs ∷ GateLinks ∷ []) ++ buffer_checks ++ receiver_checks ++ stream_checks
+    else (if bytes_eq command (codes "recv") then Name (codes "out") ∷ session_checks ++ (Links ∷ []) ++ buffer_checks
+    ++ receiver_checks
+    else (if bytes_eq command (codes "gate") then session_checks ++ incoming_checks ++ (Inputs ∷ GateLinks ∷ [])
+    ++ buffer_checks ++ receiver_checks ++ stream_checks
     ++ store_checks ++ (GateShare ∷ [])
-    else NumberAt (codes "number") drill_numbers ∷ NumberAt (codes "count") drill_counts ∷ NumberAt (codes "links") drill_links
+    else NumberAt (codes "number") drill_numbers ∷ NumberAt (codes "count") drill_counts
+    ∷ NumberAt (codes "links") drill_links
     ∷ NumberAt (codes "loss") drill_losses ∷ [])))))))

@@ -5,7 +5,9 @@ use Rattle.clap.specs.Words.{Text}
 use Rattle.rist_help.specs.declared.asking.Ask.{Ask}
 use Rattle.rist_help.specs.declared.asking.Ask.TheVariants.{Help, HelpOf, Version}
 use Rattle.rist_help.specs.declared.asking.Topic.TheVariants.{Replay, Show, Count, Pack, Split, Send, Recv, Gate, Drill}
-use Rattle.rist_help.specs.declared.help.TheConstants.{VERSION_PIECES, PROGRAM_PIECES, REPLAY_PIECES, SHOW_PIECES, COUNT_PIECES, PACK_PIECES, SPLIT_PIECES, SEND_PIECES, RECV_PIECES, GATE_PIECES, DRILL_PIECES}
+use Rattle.rist_help.specs.declared.help.TheConstants.{VERSION_PIECES, PROGRAM_PIECES, REPLAY_PIECES, SHOW_PIECES}
+use Rattle.rist_help.specs.declared.help.TheConstants.{COUNT_PIECES, PACK_PIECES, SPLIT_PIECES, SEND_PIECES}
+use Rattle.rist_help.specs.declared.help.TheConstants.{RECV_PIECES, GATE_PIECES, DRILL_PIECES}
 
 -- the pieces of each text: the version; how the program is called; and of a command its arguments and its options, with
 -- their ranges and defaults

@@ -1,5 +1,6 @@
 -- What the requests of a compound ask for, packet by packet.
-use Rattle.std.specs.Prelude.{ℕ, zero, suc, ◌+◌, ◌%◌, List, [], ◌∷◌, ◌++◌, Option, Some, None, Bool, true, if◌then◌else◌, ◌==◌}
+use Rattle.std.specs.Prelude.{ℕ, zero, suc, ◌+◌, ◌%◌, List, [], ◌∷◌, ◌++◌, Option, Some, None, Bool, true}
+use Rattle.std.specs.Prelude.{if◌then◌else◌, ◌==◌}
 use Rattle.std.specs.List.{flat_map}
 use Rattle.seq_unwrap.specs.Nearest.{cycle_of}
 use Rattle.rtcp_compound.specs.Compound.{Content}
@@ -24,12 +25,14 @@ is_wanted (Some one) flow = flow_of one == flow
 -- what a request asks for behind the packets that stand before it
 abbrev pub request_asks : Option ℕ → List Content → Option Request → List Ask
 request_asks wanted before None = []
-request_asks wanted before (Some r) = if is_wanted wanted r.flow then words_asks r.mask (upper_after r.flow None before) r.flow r.words else []
+request_asks wanted before (Some r) =
+    if is_wanted wanted r.flow then words_asks r.mask (upper_after r.flow None before) r.flow r.words else []
 
 -- what the packets behind others ask for
 abbrev pub asks_behind : Option ℕ → List Content → List Content → List Ask
 asks_behind wanted before [] = []
-asks_behind wanted before (p ∷ ps) = request_asks wanted before (request_in p) ++ asks_behind wanted (before ++ p ∷ []) ps
+asks_behind wanted before (p ∷ ps) =
+    request_asks wanted before (request_in p) ++ asks_behind wanted (before ++ p ∷ []) ps
 
 -- what a compound asks for, of one flow or of all: packet by packet, word by word
 abbrev pub asks_in : Option ℕ → List Content → List Ask

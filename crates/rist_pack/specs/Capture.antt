@@ -1,5 +1,6 @@
 -- The capture that pieces are packed into: one media datagram each, in order, of one flow in a session (this profile).
-use Rattle.std.specs.Prelude.{◌≡◌, ℕ, ◌+◌, ◌*◌, ◌%◌, ◌^◌, Bool, false, List, ◌++◌, map, flat_map, if◌then◌else◌, Option, Some, None, IfSome}
+use Rattle.std.specs.Prelude.{◌≡◌, ℕ, ◌+◌, ◌*◌, ◌%◌, ◌^◌, Bool, false, List, ◌++◌, map, flat_map, if◌then◌else◌, Option}
+use Rattle.std.specs.Prelude.{Some, None, IfSome}
 use Rattle.std.specs.List.{enumerate_from}
 use Rattle.capture_file.specs.Capture.{Record, magic, spelling}
 use Rattle.receiver_rules.specs.Steps.{tick_of}
@@ -41,7 +42,8 @@ stamp_of settings k = tick_of (time_of settings k) % 2 ^ 32
 
 -- the media that brings what is sent of piece k, which isn't a retransmission
 abbrev pub media_with : PackSettings → ℕ → SentPiece → MediaOut
-media_with settings k sent = media_out settings.flow false (settings.first + k) (stamp_of settings k) sent.strip sent.payload
+media_with settings k sent =
+    media_out settings.flow false (settings.first + k) (stamp_of settings k) sent.strip sent.payload
 
 -- the media of piece k
 abbrev pub media_of : Bool → PackSettings → ℕ → List ℕ → MediaOut
@@ -84,7 +86,12 @@ piece_octets session pair settings k piece = media_datagram session pair (media_
 -- the record of piece k, on the first link, under a pair where it is enciphered
 abbrev pub record_with : Session → Option Pair → PackSettings → ℕ → List ℕ → Record
 record_with session pair settings k piece =
-    record { link = 0; channel = media_channel session; us = time_of settings k; octets = piece_octets session pair settings k piece }
+    record {
+      link = 0;
+      channel = media_channel session;
+      us = time_of settings k;
+      octets = piece_octets session pair settings k piece;
+    }
 
 -- the record of piece k, enciphered under pair k where there are nonces
 abbrev pub packed_record : Session → Option (List ℕ) → PackSettings → ℕ → List ℕ → Record

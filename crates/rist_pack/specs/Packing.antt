@@ -25,7 +25,8 @@ FailsAtWrite record_of p b =
 -- was read, where a read failed or the source is too long; and a front part of them, where a write failed.
 abbrev pub Packs : (ℕ → List ℕ → Record) → Passage → Result Unit PackBad → Type 0
 Packs record_of p (Ok done) =
-    Reads p.had p.left (λ b. IsEmpty p.left × (length b ≤ 2 ^ 40) × Appends p.held p.holds (capture_of record_of (pieces_of b)))
+    Reads p.had p.left (λ b. IsEmpty p.left × (length b ≤ 2 ^ 40)
+    × Appends p.held p.holds (capture_of record_of (pieces_of b)))
 Packs record_of p (Err ReadFault) =
     Reads p.had p.left (λ b. (length b ≤ 2 ^ 40) × Appends p.held p.holds (capture_of record_of (whole_pieces_of b)))
 Packs record_of p (Err TooLong) =

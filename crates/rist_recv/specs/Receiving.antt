@@ -1,5 +1,6 @@
 -- What the kept list and the sink hold after a run of receiving. A kept list stands with its oldest step first.
-use Rattle.std.specs.Prelude.{◌≡◌, ℕ, List, [], ◌∷◌, ◌++◌, map, reverse, false, Option, Some, is_some, unwrap_or, option_map}
+use Rattle.std.specs.Prelude.{◌≡◌, ℕ, List, [], ◌∷◌, ◌++◌, map, reverse, false, Option, Some, is_some, unwrap_or}
+use Rattle.std.specs.Prelude.{option_map}
 use Rattle.outside_net.specs.Traces.{is_full}
 use Rattle.reorder_buffer.specs.declared.phase.Phase.TheVariants.{Open}
 use Rattle.rist_ends.specs.Receiver.{IsReceiverAfter, settings_of}
@@ -60,8 +61,8 @@ pub record HasReceived (given : Given) (kept : Option (List Step)) (contents : O
   pub agree : Agree (unwrap_or before []) own
 
 -- or they differ from the own lists, first at this tear
-pub record IsTorn (given : Given) (kept : Option (List Step)) (contents : Option (List ℕ))
-    (own : List (List Step)) (tear : Tear) : Type 0 where
+pub record IsTorn (given : Given) (kept : Option (List Step)) (contents : Option (List ℕ)) (own : List (List Step))
+    (tear : Tear) : Type 0 where
   pub before : Option (List Step)
   pub whole : IsWhole given before kept contents
   pub first : IsFirstTear (unwrap_or before []) own tear

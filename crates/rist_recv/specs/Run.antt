@@ -1,5 +1,6 @@
 -- What a run of receiving leaves, by what its objects tell.
-use Rattle.std.specs.Prelude.{◌≡◌, ◌≢◌, ◌⊎◌, ℕ, List, map, reverse, length, slice_get, true, false, Option, Some, None, is_some}
+use Rattle.std.specs.Prelude.{◌≡◌, ◌≢◌, ◌⊎◌, ℕ, List, map, reverse, length, slice_get, true, false, Option, Some, None}
+use Rattle.std.specs.Prelude.{is_some}
 use Rattle.std.specs.List.{All, concat}
 use Rattle.outside_io.specs.Causes.{Rose, RoseWhere}
 use Rattle.receiver_rules.specs.Sent.{SentStream, Delivery, HasSteadyTimestamps, AreDeliveriesOf}
@@ -15,8 +16,10 @@ use Rattle.rist_desk.specs.Serving.{LinkTells, ServesOn}
 use Rattle.rist_desk.specs.Steps.{history_of}
 use Rattle.rist_recv.specs.declared.ending.Ending.{Ending}
 use Rattle.rist_recv.specs.declared.ending.Ending.TheVariants as endings
-use Rattle.rist_recv.specs.Endings.{is_spent, is_link_failed, any_worker, all_workers, is_write_fault, IsSound, IsWithoutRoom}
-use Rattle.receiver_rules.specs.SentEpochs.{SentStreams, Transfer, AreTransfersOf, sent_epochs, reached_payloads as payloads_of_epochs}
+use Rattle.rist_recv.specs.Endings.{is_spent, is_link_failed, any_worker, all_workers, is_write_fault, IsSound}
+use Rattle.rist_recv.specs.Endings.{IsWithoutRoom}
+use Rattle.receiver_rules.specs.SentEpochs.{SentStreams, Transfer, AreTransfersOf, sent_epochs}
+use Rattle.receiver_rules.specs.SentEpochs.{reached_payloads as payloads_of_epochs}
 use Rattle.rist_recv.specs.Exact.{IsRunOf, IsRunOfAll, reached_payloads}
 use Rattle.rist_recv.specs.Receiving.{own_lists, HasReceived, IsTorn}
 use Rattle.rist_recv.specs.Setup.{Setup, given_to, no_steps}
@@ -63,9 +66,10 @@ pub record IsNewWorker {L C : Type 0} (s : Setup) (w : Worker L C ToldTrace) : T
   pub limit : w.trace.limit ≡ s.limit
   pub unended : w.end ≡ None
 
--- Where the steps are told without a limit, they are one history: no list was full or torn, and a worker ended as Stopped
--- or WriteFault only where a write of the sink failed.
-pub record IsSure {L C : Type 0} (workers : List (Worker L C ToldTrace)) (faults_were faults_are : ℕ) (ending : Ending) : Type 0 where
+-- Where the steps are told without a limit, they are one history: no list was full or torn, and a worker ended as
+-- Stopped or WriteFault only where a write of the sink failed.
+pub record IsSure {L C : Type 0} (workers : List (Worker L C ToldTrace)) (faults_were faults_are : ℕ)
+    (ending : Ending) : Type 0 where
   pub room : ending ≢ endings.TraceFull
   pub whole : (tear : Tear) → ending ≢ endings.Torn tear
   pub broken : (link : ℕ) (w : Worker L C ToldTrace) → slice_get workers link ≡ Some w
@@ -88,7 +92,8 @@ pub record Receives {L C : Type 0} (moments : C → Option (ℕ → ℕ)) (tells
   -- each worker's own list holds its turns' steps, and its link what these made, by the rules where the desk tells its
   -- steps
   pub served : (link : ℕ) (was is : Worker L C ToldTrace) → slice_get were link ≡ Some was
-      → slice_get are link ≡ Some is → ServesOn (given_to s contents_were faults_were) moments tells told_trace limits link was is
+      → slice_get are link ≡ Some is
+      → ServesOn (given_to s contents_were faults_were) moments tells told_trace limits link was is
   pub tells_steps : is_some desk.kept ≡ s.tells
   pub contents : desk.contents ≡ contents_are
   pub faults : desk.faults ≡ faults_are

@@ -1,5 +1,6 @@
 -- What a run of receiving is set to, and what is made for it.
-use Rattle.std.specs.Prelude.{◌≡◌, ◌≤◌, ℕ, List, [], length, Bool, true, false, Option, Some, None, is_some, vec_capacity}
+use Rattle.std.specs.Prelude.{◌≡◌, ◌≤◌, ℕ, List, [], length, Bool, true, false, Option, Some, None, is_some}
+use Rattle.std.specs.Prelude.{vec_capacity}
 use Rattle.std.specs.List.{All}
 use Rattle.psk_seal.specs.Sealer.{SealerState}
 use Rattle.reorder_buffer.specs.declared.phase.Phase.TheVariants.{Open}
@@ -14,8 +15,8 @@ use Rattle.rist_recv.specs.declared.seats.Seat.{Seat}
 use Rattle.rist_recv.specs.declared.seats.Made.{Made}
 use Rattle.rist_recv.specs.declared.turn_seats.MadeInTurns.{MadeInTurns}
 
--- the rules of its receiver; the session of its links, and what seals in it; how many steps its lists take at most, where
--- there is such a limit; and whether they tell their steps
+-- the rules of its receiver; the session of its links, and what seals in it; how many steps its lists take at most,
+-- where there is such a limit; and whether they tell their steps
 pub record Setup : Type 0 where
   pub settings : ControlSettings
   pub session : Session
@@ -26,7 +27,13 @@ pub record Setup : Type 0 where
 -- that of a receiver with these settings
 abbrev pub setup_made : Settings → Session → Option SealerState → Option ℕ → Bool → Setup
 setup_made settings session sealer limit tells =
-    record { settings = control_settings settings session; session = session; sealer = sealer; limit = limit; tells = tells }
+    record {
+      settings = control_settings settings session;
+      session = session;
+      sealer = sealer;
+      limit = limit;
+      tells = tells;
+    }
 
 -- likewise where traces keep so many steps, which they tell, if they keep any
 abbrev pub setup_kept : Settings → Session → Option SealerState → Option ℕ → Setup
@@ -38,7 +45,8 @@ no_steps true = Some []
 no_steps false = None
 
 -- a seat of the session, with an empty trace
-pub record IsSeat {U : Type 0} (list : U → Option (List Step)) (limit : U → Option ℕ) (session : Session) (keep : Option ℕ) (seat : Seat U) : Type 0 where
+pub record IsSeat {U : Type 0} (list : U → Option (List Step)) (limit : U → Option ℕ) (session : Session)
+    (keep : Option ℕ) (seat : Seat U) : Type 0 where
   pub session_is : seat.opener ≡ session
   pub list_is : list seat.trace ≡ no_steps (is_some keep)
   pub limit_is : limit seat.trace ≡ keep
@@ -56,7 +64,8 @@ setup_of limit made =
 
 -- all is made for so many links: a receiver that was told nothing, an empty trace, a seat for each link, and room for
 -- the workers
-pub record IsMade {T L C : Type 0} (list : T → Option (List Step)) (limit : T → Option ℕ) (count : ℕ) (made : Made T L C) : Type 0 where
+pub record IsMade {T L C : Type 0} (list : T → Option (List Step)) (limit : T → Option ℕ) (count : ℕ)
+    (made : Made T L C) : Type 0 where
   pub running : made.receiver.buffer.phase ≡ Open
   pub told : IsReceiverAfter made.receiver []
   pub delay : 1 ≤ (settings_of made.receiver).limits.playout_delay

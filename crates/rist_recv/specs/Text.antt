@@ -44,7 +44,8 @@ mark_number marks.WriteFault = 0
 abbrev pub there_text : Option Step → List ℕ
 there_text None = codes "none"
 there_text (Some s) =
-    kind_text s.what ++ (codes " " ++ (decimal s.at ++ (codes " " ++ (decimal (word_in s.what) ++ (codes " " ++ decimal (mark_number s.mark))))))
+    kind_text s.what ++ (codes " "
+    ++ (decimal s.at ++ (codes " " ++ (decimal (word_in s.what) ++ (codes " " ++ decimal (mark_number s.mark))))))
 
 -- where the lists differ first, and what stands there in each
 abbrev pub tear_text : Tear → List ℕ

@@ -1,5 +1,6 @@
 -- A run in turns.
-use Rattle.std.specs.Prelude.{◌≡◌, ◌≢◌, ◌≤◌, ℕ, List, [], length, reverse, slice_get, Bool, true, false, Option, Some, is_some}
+use Rattle.std.specs.Prelude.{◌≡◌, ◌≢◌, ◌≤◌, ℕ, List, [], length, reverse, slice_get, Bool, true, false, Option, Some}
+use Rattle.std.specs.Prelude.{is_some}
 use Rattle.outside_io.specs.Causes.{RoseWhere}
 use Rattle.rist_ends.specs.Receiver.{ReceiverState, settings_of}
 use Rattle.rist_compare.specs.declared.tear.Tear.{Tear}
@@ -11,7 +12,8 @@ use Rattle.turn_lock.specs.Passes.{entries_with}
 use Rattle.turn_desk.specs.Own.{HasSeenFault}
 use Rattle.rist_recv.specs.declared.ending.Ending.{Ending}
 use Rattle.rist_recv.specs.declared.ending.Ending.TheVariants as endings
-use Rattle.rist_recv.specs.Endings.{is_spent, is_without_room, is_link_failed, any_worker, all_workers, is_write_fault, IsSound}
+use Rattle.rist_recv.specs.Endings.{is_spent, is_without_room, is_link_failed, any_worker, all_workers, is_write_fault}
+use Rattle.rist_recv.specs.Endings.{IsSound}
 use Rattle.rist_recv.specs.Receiving.{HasReceived}
 
 -- these lists are what the first passes own, each its own, and the passes behind them own nothing
@@ -20,10 +22,10 @@ pub record AreOwned {X : Type 0} (own : List (List Step)) (passes : List (Pass S
       → (p : Pass Step X) × (slice_get passes k ≡ Some p) × (steps ≡ reverse (entries_with p))
   pub behind : (k : ℕ) (p : Pass Step X) → length own ≤ k → slice_get passes k ≡ Some p → entries_with p ≡ []
 
--- The end was told to a desk in turns. What is left stands as a desk that kept each step: its list is a legal history, and
--- where no write failed, the steps before the end are those of the own lists, each list's once and in its order, and the
--- sink holds what they release. A write failed exactly where the sink's count rose, and before the end wherever a pass has
--- seen one.
+-- The end was told to a desk in turns. What is left stands as a desk that kept each step: its list is a legal history,
+-- and where no write failed, the steps before the end are those of the own lists, each list's once and in its order,
+-- and the sink holds what they release. A write failed exactly where the sink's count rose, and before the end wherever
+-- a pass has seen one.
 pub record HasConcluded {X : Type 0} (given : Given) (own : List (List Step)) (passes : List (Pass Step X)) (cut : Bool)
     (receiver : ReceiverState) (contents : Option (List ℕ)) (faults : ℕ) : Type 0 where
   pub desk : DeskState

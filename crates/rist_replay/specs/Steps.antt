@@ -9,7 +9,8 @@ use Rattle.rist_ends.specs.Items.{input_read}
 
 -- a record as a step of the receiver, at the record's own time
 abbrev pub step_of : Session → Record → ReceiverStep
-step_of session r = record { link = r.link; tick = tick_of r.us; input = input_read r.us (item_of session r.channel r.octets) }
+step_of session r =
+    record { link = r.link; tick = tick_of r.us; input = input_read r.us (item_of session r.channel r.octets) }
 
 -- the records of a capture, oldest first, as a history of the receiver, newest first
 abbrev pub receiver_history : Session → List Record → List ReceiverStep

@@ -29,7 +29,8 @@ pub record AreLinksAfter (l : LinksState) (history : List Step) : Type 0 where
   pub sixteen : HasEntries l
   pub rtts : (link : ℕ) → link < 16 → entry_at l.rtts link ≡ rtt_of link history
   pub reports : (link : ℕ) → link < 16 → entry_at l.reports link ≡ newest (times_each report_interval link history)
-  pub keepalives : (link : ℕ) → link < 16 → entry_at l.keepalives link ≡ newest (times_each keepalive_interval link history)
+  pub keepalives : (link : ℕ) → link < 16
+      → entry_at l.keepalives link ≡ newest (times_each keepalive_interval link history)
 
 -- the greatest round-trip time of so many links from 0 on
 abbrev pub longest_of : ℕ → List (Option ℕ) → ℕ

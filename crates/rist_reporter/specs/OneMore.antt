@@ -1,5 +1,6 @@
 -- What one more step makes of a reporter, for each history that it stands for.
-use Rattle.std.specs.Prelude.{◌≡◌, ◌≤◌, ◌<◌, ◌^◌, ℕ, zero, suc, Bool, true, false, List, [], ◌∷◌, length, nat_lt, Option, None, Some, Result, Ok, Err, is_err, IfOk}
+use Rattle.std.specs.Prelude.{◌≡◌, ◌≤◌, ◌<◌, ◌^◌, ℕ, zero, suc, Bool, true, false, List, [], ◌∷◌, length, nat_lt}
+use Rattle.std.specs.Prelude.{Option, None, Some, Result, Ok, Err, is_err, IfOk}
 use Rattle.seq_unwrap.specs.declared.width.Width.{Width}
 use Rattle.receiver_rules.specs.declared.limits.Limits.{Limits}
 use Rattle.receiver_rules.specs.Steps.{Arrival}
@@ -74,7 +75,8 @@ TakesPairs count old new = new ≡ record old { sealer = after_pairs count old.s
 -- ---- the answer to a step
 
 -- what a step after a history makes was made, or fewer pairs are left than that takes
-pub record AnswersAfter (settings : ControlSettings) (shutter : ShutterState) (before : List Step) (step : Step) (result : Result (Option Outs) Spent) : Type 0 where
+pub record AnswersAfter (settings : ControlSettings) (shutter : ShutterState) (before : List Step) (step : Step)
+    (result : Result (Option Outs) Spent) : Type 0 where
   pub spent : is_err result ≡ is_short (pairs_left shutter.sealer) (length (datagrams_of settings before step))
   pub made : IfOk result (IsMade shutter.session (datagrams_of settings before step) (words_made settings before step))
 
@@ -110,14 +112,16 @@ AnswersControl r link us packets result =
     → AnswersAfter (settings_with limits r) r.shutter before (control_step link tick us packets) result
 
 -- after every history that the old reporter stands for, the new one stands for it with this compound and its answer
-abbrev pub StandsAfterControl : ReporterState → ReporterState → ℕ → ℕ → List Content → Result (Option Outs) Spent → Type 0
+abbrev pub StandsAfterControl : ReporterState → ReporterState → ℕ → ℕ → List Content → Result (Option Outs) Spent
+    → Type 0
 StandsAfterControl old new link us packets result =
     (limits : Limits) (before : List Step) (tick : ℕ) → IsReporterAfter old limits before
     → IsReporterAfter new limits (step_answered (control_step link tick us packets) result ∷ before)
 
 -- a media packet that comes at a time, is kept or not, and opens the next epoch or not; after it this is the highest
 -- number
-pub record IsReceived (limits : Limits) (before : List Step) (link tick : ℕ) (arrival : Arrival) (at : ℕ) (bits : Width) (is_accepted opened : Bool) (highest : Option ℕ) : Type 0 where
+pub record IsReceived (limits : Limits) (before : List Step) (link tick : ℕ) (arrival : Arrival) (at : ℕ) (bits : Width)
+    (is_accepted opened : Bool) (highest : Option ℕ) : Type 0 where
   pub delay : 1 ≤ limits.playout_delay
   pub word : arrival.word < 2 ^ 32
   pub time : effective_time (media_step link tick arrival ∷ before) ≡ at

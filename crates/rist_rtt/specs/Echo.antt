@@ -1,9 +1,11 @@
 -- The RTT echo: an application's packet (RFC 3550, section 6.7) of the name `RIST`, subtype 2 for a
 -- request and 3 for a response, with a stamp, a processing delay and further words (this profile).
-use Rattle.std.specs.Prelude.{ℕ, ◌*◌, ◌/◌, ◌++◌, List, [], length, take, drop, min, Option, Some, None, Bool, not, ◌&&◌, ◌||◌, if◌then◌else◌, ◌==◌, nat_lt}
+use Rattle.std.specs.Prelude.{ℕ, ◌*◌, ◌/◌, ◌++◌, List, [], length, take, drop, min, Option, Some, None, Bool, not, ◌&&◌}
+use Rattle.std.specs.Prelude.{◌||◌, if◌then◌else◌, ◌==◌, nat_lt}
 use Rattle.std.specs.List.{filter_map}
 use Rattle.std.specs.Int.{w32, w64, from_be_bytes, to_be_bytes}
-use Rattle.rtcp_compound.specs.Compound.{Content, sender_report, receiver_report, description, goodbye, application, feedback, other}
+use Rattle.rtcp_compound.specs.Compound.{Content, sender_report, receiver_report, description, goodbye, application}
+use Rattle.rtcp_compound.specs.Compound.{feedback, other}
 use Rattle.rtcp_compound.specs.Name.{is_rist, rist_name}
 use Rattle.rtcp_compound.specs.Writing.{app_octets}
 use Rattle.rist_rtt.specs.declared.echo.Echo.{Echo}
@@ -35,7 +37,14 @@ is_echo subtype name words = (subtype == 2 || subtype == 3) && (is_rist name && 
 -- the echo of a packet, if it is one
 abbrev pub echo_in : Content → Option EchoOf
 echo_in (application subtype ssrc name words) =
-    if is_echo subtype name words then Some (record { answer = subtype == 3; flow = ssrc; stamp = stamp_in words; delay = delay_in words; more = drop 12 words }) else None
+    if is_echo subtype name words
+    then Some (record {
+      answer = subtype == 3;
+      flow = ssrc;
+      stamp = stamp_in words;
+      delay = delay_in words;
+      more = drop 12 words;
+    }) else None
 echo_in (sender_report ssrc seconds fraction rtp_time packets octets blocks) = None
 echo_in (receiver_report ssrc blocks) = None
 echo_in (description count chunks) = None

@@ -1,5 +1,6 @@
 -- What a run gave its sender of the octets that its source had: the first of their pieces, in order, each once.
-use Rattle.std.specs.Prelude.{◌≡◌, ◌⊎◌, ◌+◌, ◌^◌, ◌<◌, ◌≤◌, ℕ, List, [], ◌∷◌, ◌++◌, length, flat_map, Option, Some, Result, Ok, Err}
+use Rattle.std.specs.Prelude.{◌≡◌, ◌⊎◌, ◌+◌, ◌^◌, ◌<◌, ◌≤◌, ℕ, List, [], ◌∷◌, ◌++◌, length, flat_map, Option, Some}
+use Rattle.std.specs.Prelude.{Result, Ok, Err}
 use Rattle.stream_pieces.specs.Pieces.{pieces_of}
 use Rattle.rist_send.specs.declared.fault.SendFault.{SendFault}
 use Rattle.rist_send.specs.declared.fault.SendFault.TheVariants.{ReadFault, LinksDown, Spent, TooLong, TurnsSpent}
@@ -19,7 +20,8 @@ Drops TurnsSpent given dropped rest = dropped ≡ []
 
 -- A run that failed gave the first pieces: behind them are the octets that it dropped, and the rest, which the source
 -- has left.
-pub record GivesFirst (fault : SendFault) (octets : List ℕ) (left : Option (List ℕ)) (given : List (List ℕ)) : Type 0 where
+pub record GivesFirst (fault : SendFault) (octets : List ℕ) (left : Option (List ℕ))
+    (given : List (List ℕ)) : Type 0 where
   pub dropped : List ℕ
   pub rest : List ℕ
   pub told : left ≡ Some rest

@@ -10,4 +10,5 @@ AreSentAs nulls first [] [] = Unit {0}
 AreSentAs nulls first [] (packet ∷ packets) = ⊥
 AreSentAs nulls first (payload ∷ payloads) [] = ⊥
 AreSentAs nulls first (payload ∷ payloads) (packet ∷ packets) =
-    ((tick : ℕ) × (packet ≡ packet_for nulls (first + length packets) tick payload)) × AreSentAs nulls first payloads packets
+    ((tick : ℕ) × (packet ≡ packet_for nulls (first + length packets) tick payload))
+    × AreSentAs nulls first payloads packets

@@ -1,5 +1,6 @@
 -- What a run has come to.
-use Rattle.std.specs.Prelude.{ℕ, ◌+◌, ◌*◌, nat_le, List, replicate, Bool, true, false, Option, None, Some, Result, Ok, Err}
+use Rattle.std.specs.Prelude.{ℕ, ◌+◌, ◌*◌, nat_le, List, replicate, Bool, true, false, Option, None, Some, Result, Ok}
+use Rattle.std.specs.Prelude.{Err}
 use Rattle.outside_net.specs.Links.{Answer}
 use Rattle.stream_pieces.specs.declared.fault.PieceFault.{PieceFault}
 use Rattle.stream_pieces.specs.declared.fault.PieceFault.TheVariants as pieces
@@ -47,7 +48,13 @@ start_with moment (Some start) = start
 
 -- a turn begins
 abbrev pub begun_at : ℕ → Progress → Progress
-begun_at moment progress = record { start = Some (start_with moment progress.start); moment = moment; stage = progress.stage; closed = progress.closed }
+begun_at moment progress =
+    record {
+      start = Some (start_with moment progress.start);
+      moment = moment;
+      stage = progress.stage;
+      closed = progress.closed;
+    }
 
 -- piece k is due from the lead and k gaps after the start on
 abbrev pub is_due_from : SendSettings → Option ℕ → ℕ → ℕ → Bool

@@ -11,7 +11,8 @@ use Rattle.rist_send.specs.Given.{Gives}
 abbrev pub TurnsOn : Setup → ℕ → Run → Run → Type 0
 TurnsOn setup zero from to = to ≡ from
 TurnsOn setup (suc count) from to =
-    (between : Run) × TurnsOn setup count from between × Turn setup (Ok tt) between to × (is_over setup.settings.linger to.progress ≡ false)
+    (between : Run) × TurnsOn setup count from between × Turn setup (Ok tt) between to
+    × (is_over setup.settings.linger to.progress ≡ false)
 
 -- the turn after which a run stops: it was refused, or the run is over
 abbrev pub StopsWith : Setup → Result Unit SendFault → Run → Type 0

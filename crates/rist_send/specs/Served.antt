@@ -13,8 +13,10 @@ use Rattle.rist_sender.specs.Sender.{SenderState, IsSenderAfter}
 use Rattle.rist_send.specs.Run.{Run, no_progress}
 
 -- what links tell, and their counts
-abbrev pub line_of : {L : Type 0} → (L → Option (List Datagram)) → (L → Channel → Bool) → (L → ℕ) → (L → Option (ℕ → Answer)) → (L → ℕ) → Line L
-line_of taken knows faults reads ends = record { taken = taken; knows = knows; faults = faults; reads = reads; ends = ends }
+abbrev pub line_of : {L : Type 0} → (L → Option (List Datagram)) → (L → Channel → Bool) → (L → ℕ)
+    → (L → Option (ℕ → Answer)) → (L → ℕ) → Line L
+line_of taken knows faults reads ends =
+    record { taken = taken; knows = knows; faults = faults; reads = reads; ends = ends }
 
 -- the count of faults of a link rose where a write on it failed; else it may have risen by a read that failed
 abbrev pub RisesWith : Bool → ℕ → ℕ → Type 0
@@ -33,7 +35,8 @@ pub record IsServed {L : Type 0} (line : Line L) (had has : List Tried) (was is 
 abbrev pub AreServed : {L : Type 0} → Line L → ℕ → Session → List Event → List Event → List L → List L → Type 0
 AreServed {L} line flow session old new was is =
     (link : ℕ) (d : L) → link < length was
-    → IsServed line (tried_on (tried_as flow session) link old) (tried_on (tried_as flow session) link new) (slice_index_or was link d) (slice_index_or is link d)
+    → IsServed line (tried_on (tried_as flow session) link old) (tried_on (tried_as flow session) link new)
+    (slice_index_or was link d) (slice_index_or is link d)
 
 -- what a clock, a source and the reads of links have still to give, where they tell it
 pub record Outside : Type 0 where
@@ -54,7 +57,8 @@ new_run work outside = record {
 
 -- A run: it came to something of which this holds. The sender stands for its work; clock, source and links have given
 -- just what it took; and each link was given just the datagrams of its work.
-pub record Runs {L : Type 0} (line : Line L) (old new : SenderState) (outside : Outside) (was is : List L) (from : Work) (P : Run → Type 0) : Type 0 where
+pub record Runs {L : Type 0} (line : Line L) (old new : SenderState) (outside : Outside) (was is : List L) (from : Work)
+    (P : Run → Type 0) : Type 0 where
   pub to : Run
   pub fact : P to
   pub stands : IsSenderAfter new to.work

@@ -1,6 +1,7 @@
 -- A turn of a run: one moment of the clock, the next piece where it is due, one read of each link, and one tick, in
 -- this order (this profile).
-use Rattle.std.specs.Prelude.{◌≡◌, ℕ, ◌+◌, nat_le, List, [], ◌∷◌, ◌++◌, length, set, slice_index_or, Bool, true, false, not, ◌&&◌, if◌then◌else◌, Option, None, Some, Result, Ok, Err}
+use Rattle.std.specs.Prelude.{◌≡◌, ℕ, ◌+◌, nat_le, List, [], ◌∷◌, ◌++◌, length, set, slice_index_or, Bool, true, false}
+use Rattle.std.specs.Prelude.{not, ◌&&◌, if◌then◌else◌, Option, None, Some, Result, Ok, Err}
 use Rattle.std.specs.List.{range_with_len}
 use Rattle.std.specs.Option.{option_map}
 use Rattle.outside_net.specs.Streams.{later, IsFirst}
@@ -29,12 +30,14 @@ abbrev pub Stays : Result Unit SendFault → Run → Run → Type 0
 Stays result from to = (result ≡ Ok tt) × (to ≡ from)
 
 -- what follows a part of a turn: nothing, where that was refused
-abbrev pub GoesOn : (Result Unit SendFault → Run → Run → Type 0) → Result Unit SendFault → Result Unit SendFault → Run → Run → Type 0
+abbrev pub GoesOn : (Result Unit SendFault → Run → Run → Type 0) → Result Unit SendFault → Result Unit SendFault → Run
+    → Run → Type 0
 GoesOn P (Ok done) result from to = P result from to
 GoesOn P (Err fault) result from to = (result ≡ Err fault) × (to ≡ from)
 
 -- a part of a turn, and then another
-pub record Follows (P Q : Result Unit SendFault → Run → Run → Type 0) (result : Result Unit SendFault) (from to : Run) : Type 0 where
+pub record Follows (P Q : Result Unit SendFault → Run → Run → Type 0) (result : Result Unit SendFault)
+    (from to : Run) : Type 0 where
   pub first : Result Unit SendFault
   pub between : Run
   pub before : P first from between
@@ -61,7 +64,8 @@ stage_after moment k count = if nat_le 1316 count then Reading (k + 1) else Ende
 
 -- piece k was read, of so many octets
 abbrev pub with_piece : ℕ → ℕ → Run → Run
-with_piece k count run = record run { progress = record run.progress { stage = stage_after run.progress.moment k count } }
+with_piece k count run =
+    record run { progress = record run.progress { stage = stage_after run.progress.moment k count } }
 
 -- piece k was read, or why not
 abbrev pub SendsRead : Setup → ℕ → Result (List ℕ) PieceFault → Result Unit SendFault → Run → Run → Type 0
@@ -79,7 +83,8 @@ pub record BringsPiece (setup : Setup) (k : ℕ) (result : Result Unit SendFault
 
 -- the next piece, where it is due
 abbrev pub BringsNext : Setup → Stage → Result Unit SendFault → Run → Run → Type 0
-BringsNext setup (Reading k) result from to = IfElse (is_due setup.settings from.progress k) (BringsPiece setup k result from to) (Stays result from to)
+BringsNext setup (Reading k) result from to =
+    IfElse (is_due setup.settings from.progress k) (BringsPiece setup k result from to) (Stays result from to)
 BringsNext setup (Ended moment) result from to = Stays result from to
 
 -- ---- the links
@@ -98,7 +103,11 @@ is_closing Failed = true
 -- a link gave this answer
 abbrev pub with_answer : ℕ → Answer → Run → Run
 with_answer link answer run = record run {
-  progress = record run.progress { closed = if is_closing answer then set run.progress.closed link true else run.progress.closed };
+  progress =
+      record run.progress {
+        closed = if is_closing answer then set run.progress.closed link true
+            else run.progress.closed;
+      };
   answers = set run.answers link (option_map later (slice_index_or run.answers link None));
 }
 
@@ -117,7 +126,8 @@ compound_in session End = None
 compound_in session Failed = None
 
 -- a compound is answered
-pub record AnswersTo (setup : Setup) (link : ℕ) (compound : List Content) (result : Result Unit SendFault) (from to : Run) : Type 0 where
+pub record AnswersTo (setup : Setup) (link : ℕ) (compound : List Content) (result : Result Unit SendFault)
+    (from to : Run) : Type 0 where
   pub answer : Result ℕ SendBad
   pub feeds : FeedsBack setup.rules setup.links from.progress.moment link compound answer from.work to.work
   pub answers : result ≡ outcome answer
@@ -136,12 +146,14 @@ pub record ReadsOn (setup : Setup) (link : ℕ) (result : Result Unit SendFault)
 
 -- a link, where it is read
 abbrev pub ReadsLink : Setup → ℕ → Result Unit SendFault → Run → Run → Type 0
-ReadsLink setup link result from to = IfElse (is_read link from) (ReadsOn setup link result from to) (Stays result from to)
+ReadsLink setup link result from to =
+    IfElse (is_read link from) (ReadsOn setup link result from to) (Stays result from to)
 
 -- one link after another
 abbrev pub ReadsInTurn : Setup → List ℕ → Result Unit SendFault → Run → Run → Type 0
 ReadsInTurn setup [] result from to = Stays result from to
-ReadsInTurn setup (link ∷ links) result from to = Follows (ReadsLink setup link) (ReadsInTurn setup links) result from to
+ReadsInTurn setup (link ∷ links) result from to =
+    Follows (ReadsLink setup link) (ReadsInTurn setup links) result from to
 
 -- ---- the tick
 
@@ -156,7 +168,8 @@ pub record TicksOnce (setup : Setup) (result : Result Unit SendFault) (from to :
 
 -- links, and then the tick
 abbrev pub ReadsAndTicks : Setup → Result Unit SendFault → Run → Run → Type 0
-ReadsAndTicks setup result from to = Follows (ReadsInTurn setup (range_with_len 0 setup.links)) (TicksOnce setup) result from to
+ReadsAndTicks setup result from to =
+    Follows (ReadsInTurn setup (range_with_len 0 setup.links)) (TicksOnce setup) result from to
 
 -- the moment was given
 abbrev pub with_moment : ℕ → Run → Run

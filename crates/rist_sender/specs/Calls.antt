@@ -1,5 +1,7 @@
--- What a sender's calls write (VSF TR-06-1 for reports, retransmissions and bonding; times and bounds are this profile's).
-use Rattle.std.specs.Prelude.{◌≡◌, ◌<◌, ℕ, ◌+◌, ◌%◌, ◌^◌, List, [], ◌∷◌, length, map, Bool, true, false, not, ◌&&◌, ◌||◌, nat_le, if◌then◌else◌, Option, None, Some, Result, Ok, Err}
+-- What a sender's calls write (VSF TR-06-1 for reports, retransmissions and bonding; times and bounds are this
+-- profile's).
+use Rattle.std.specs.Prelude.{◌≡◌, ◌<◌, ℕ, ◌+◌, ◌%◌, ◌^◌, List, [], ◌∷◌, length, map, Bool, true, false, not, ◌&&◌}
+use Rattle.std.specs.Prelude.{◌||◌, nat_le, if◌then◌else◌, Option, None, Some, Result, Ok, Err}
 use Rattle.std.specs.List.{flat_map, range_with_len}
 use Rattle.ts_nulls.specs.Shape.{Shape}
 use Rattle.ts_nulls.specs.Nulls.{stripping_of}
@@ -18,11 +20,13 @@ use Rattle.rist_sender.specs.declared.answer.Answer.{Answer}
 use Rattle.rist_sender.specs.declared.send_bad.SendBad.{SendBad}
 use Rattle.rist_sender.specs.declared.send_bad.SendBad.TheVariants.{Spent, LinksDown}
 use Rattle.rist_sender.specs.Links.{is_failed}
-use Rattle.rist_sender.specs.Messages.{Message, Original, Retransmission, Report, RttAnswer, Alive, Status, first_request}
-use Rattle.rist_sender.specs.History.{Write, Event, Called, Sent, Wrote, Renewed, effective_time, sendings_of, packet_count, octet_count, again_count, is_down, is_report, is_alive, last_time}
+use Rattle.rist_sender.specs.Messages.{Message, Original, Retransmission, Report, RttAnswer, Alive, Status}
+use Rattle.rist_sender.specs.Messages.{first_request}
+use Rattle.rist_sender.specs.History.{Write, Event, Called, Sent, Wrote, Renewed, effective_time, sendings_of}
+use Rattle.rist_sender.specs.History.{packet_count, octet_count, again_count, is_down, is_report, is_alive, last_time}
 
--- what a sender did, the sealer that gives its pairs if it has one, and whether its last call came to a datagram for which there
--- was no pair
+-- what a sender did, the sealer that gives its pairs if it has one, and whether its last call came to a datagram for
+-- which there was no pair
 pub record Work : Type 0 where
   pub history : List Event
   pub sealer : Option SealerState
@@ -62,7 +66,8 @@ pub record Due : Type 0 where
 
 -- a datagram as it was written
 abbrev pub written_as : ℕ → Option Pair → Due → Answer → Write
-written_as tick pair due answer = record { link = due.link; message = due.message; pair = pair; tick = tick; answer = answer }
+written_as tick pair due answer =
+    record { link = due.link; message = due.message; pair = pair; tick = tick; answer = answer }
 
 -- a datagram that is due was enciphered under the next pair and written, with this answer
 abbrev pub after_write : ℕ → Due → Answer → Work → Work
@@ -75,7 +80,8 @@ after_write tick due answer work = record {
 -- nothing is made for a link that is down, nor where no pair is left
 abbrev pub after_due : ℕ → Due → Answer → Work → Work
 after_due tick due answer work =
-    if is_down work.history due.link then work else (if is_spent work.sealer then without_pair work else after_write tick due answer work)
+    if is_down work.history due.link then work
+    else (if is_spent work.sealer then without_pair work else after_write tick due answer work)
 
 -- one datagram after another, each with whatever its link answers
 abbrev pub WritesInTurn : ℕ → List Due → Work → Work → Type 0
@@ -86,13 +92,16 @@ WritesInTurn tick (due ∷ dues) from to = (answer : Answer) × WritesInTurn tic
 
 -- a payload whole, or without its null packets
 abbrev pub packet_with : ℕ → ℕ → List ℕ → Option (Shape × List ℕ) → Packet
-packet_with number timestamp payload None = record { number = number; timestamp = timestamp; strip = None; payload = payload }
-packet_with number timestamp payload (Some told) = record { number = number; timestamp = timestamp; strip = Some told.0; payload = told.1 }
+packet_with number timestamp payload None =
+    record { number = number; timestamp = timestamp; strip = None; payload = payload }
+packet_with number timestamp payload (Some told) =
+    record { number = number; timestamp = timestamp; strip = Some told.0; payload = told.1 }
 
--- The packet that a payload is sent as: its timestamp is the effective time of its call, and where null packets are deleted, a
--- payload from which none can be deleted is sent whole.
+-- The packet that a payload is sent as: its timestamp is the effective time of its call, and where null packets are
+-- deleted, a payload from which none can be deleted is sent whole.
 abbrev pub packet_for : Bool → ℕ → ℕ → List ℕ → Packet
-packet_for nulls number tick payload = packet_with number (tick % 2 ^ 32) payload (if nulls then stripping_of payload else None)
+packet_for nulls number tick payload =
+    packet_with number (tick % 2 ^ 32) payload (if nulls then stripping_of payload else None)
 
 -- the links that payload k is tried on, in order: by duplication each, by sharing from its own link on, cyclically
 abbrev pub links_tried : Bonding → ℕ → List ℕ
@@ -107,7 +116,8 @@ is_sharing (Share weights) = true
 -- the one datagram of a payload, enciphered once, is written on a link unless that is down
 abbrev pub after_copy : ℕ → Option Pair → Message → ℕ → Answer → Work → Work
 after_copy tick pair message link answer work =
-    if is_down work.history link then work else with_event (Wrote (written_as tick pair (record { link = link; message = message }) answer)) work
+    if is_down work.history link then work
+    else with_event (Wrote (written_as tick pair (record { link = link; message = message }) answer)) work
 
 -- it went on a link, where one is enough: the link was up, and the write didn't fail
 abbrev pub is_settled : Bool → ℕ → Answer → Work → Bool
@@ -124,14 +134,15 @@ Spreads one tick pair message (link ∷ links) from to =
 
 -- the work after a payload took its number, and its datagram its pair
 abbrev pub after_sent : Packet → Work → Work
-after_sent packet work = record { history = Sent packet ∷ work.history; sealer = after_pair work.sealer; is_short = work.is_short }
+after_sent packet work =
+    record { history = Sent packet ∷ work.history; sealer = after_pair work.sealer; is_short = work.is_short }
 
 -- a payload can't be sent: its number would be 2^62, or no pair is left
 abbrev pub is_ended : ℕ → Work → Bool
 is_ended number work = nat_le (2 ^ 62) number || is_spent work.sealer
 
--- what a sender is set to: its flow, its first number, for how many ticks a packet isn't sent again, how many packets are stored,
--- its links, whether null packets are deleted, and whether it writes keepalives
+-- what a sender is set to: its flow, its first number, for how many ticks a packet isn't sent again, how many packets
+-- are stored, its links, whether null packets are deleted, and whether it writes keepalives
 pub record Rules : Type 0 where
   pub flow : ℕ
   pub first : ℕ
@@ -144,7 +155,8 @@ pub record Rules : Type 0 where
 -- a packet is sent, payload k
 abbrev pub SendsPacket : Rules → ℕ → ℕ → Packet → Work → Work → Type 0
 SendsPacket rules k tick packet from to =
-    Spreads (is_sharing rules.bonding) tick (next_pair from.sealer) (Original packet) (links_tried rules.bonding k) (after_sent packet from) to
+    Spreads (is_sharing rules.bonding) tick (next_pair from.sealer) (Original packet) (links_tried rules.bonding k)
+    (after_sent packet from) to
 
 -- a payload is sent: nothing is written where it can't be
 abbrev pub SendsNext : Rules → List ℕ → Work → Work → Type 0
@@ -158,7 +170,8 @@ SendsNext rules payload from to =
 
 -- the numbers of an ask, one after another
 abbrev pub numbers_of : Ask → List AskedNumber
-numbers_of ask = map (λ word. record { width = ask.width; word = word }) (following (cycle_of ask.width) (ask.more + 1) ask.first)
+numbers_of ask =
+    map (λ word. record { width = ask.width; word = word }) (following (cycle_of ask.width) (ask.more + 1) ask.first)
 
 -- the numbers of a flow that a compound asks for
 abbrev pub asked_numbers : ℕ → List Content → List AskedNumber
@@ -180,13 +193,16 @@ on_link link messages = map (λ message. record { link = link; message = message
 -- the packets that are to be sent again
 abbrev pub packets_again : Rules → List Event → List Content → List Packet
 packets_again rules history compound =
-    packets_to_send_again rules.size rules.hold (sendings_of history) (effective_time history) (asked_numbers rules.flow compound)
+    packets_to_send_again rules.size rules.hold (sendings_of history) (effective_time history)
+    (asked_numbers rules.flow compound)
 
 -- A compound that came on a link is answered there: first its first RTT request, and then the retransmissions follow.
 pub record AnswersOn (rules : Rules) (micros link : ℕ) (compound : List Content) (from to : Work) : Type 0 where
   pub between : Work
-  pub request : WritesInTurn (effective_time from.history) (on_link link (rtt_answer (status_at micros from.history) (first_request compound))) from between
-  pub again : WritesInTurn (effective_time between.history) (on_link link (map Retransmission (packets_again rules between.history compound))) between to
+  pub request : WritesInTurn (effective_time from.history)
+      (on_link link (rtt_answer (status_at micros from.history) (first_request compound))) from between
+  pub again : WritesInTurn (effective_time between.history)
+      (on_link link (map Retransmission (packets_again rules between.history compound))) between to
 
 -- ---- ticks
 
@@ -201,18 +217,22 @@ keepalive_interval = 90000
 -- the report of a link, where it is due
 abbrev pub report_due : ℕ → List Event → ℕ → List Message
 report_due micros history link =
-    if has_passed report_interval (effective_time history) (last_time is_report history link) then Report (status_at micros history) ∷ [] else []
+    if has_passed report_interval (effective_time history) (last_time is_report history link)
+    then Report (status_at micros history) ∷ [] else []
 
 -- its keepalive, where it is due
 abbrev pub keepalive_due : Bool → List Event → ℕ → List Message
 keepalive_due keepalives history link =
-    if keepalives && has_passed keepalive_interval (effective_time history) (last_time is_alive history link) then Alive ∷ [] else []
+    if keepalives && has_passed keepalive_interval (effective_time history) (last_time is_alive history link)
+    then Alive ∷ [] else []
 
 -- a tick on one link: its report, and then its keepalive
 pub record TicksOn (keepalives : Bool) (micros link : ℕ) (from to : Work) : Type 0 where
   pub between : Work
-  pub report : WritesInTurn (effective_time from.history) (on_link link (report_due micros from.history link)) from between
-  pub keepalive : WritesInTurn (effective_time between.history) (on_link link (keepalive_due keepalives between.history link)) between to
+  pub report : WritesInTurn (effective_time from.history) (on_link link (report_due micros from.history link)) from
+      between
+  pub keepalive : WritesInTurn (effective_time between.history)
+      (on_link link (keepalive_due keepalives between.history link)) between to
 
 -- link after link
 abbrev pub TicksInTurn : Bool → ℕ → List ℕ → Work → Work → Type 0
@@ -241,12 +261,14 @@ IsAnswer links P (Err LinksDown) to = (to.is_short ≡ false) × AreDown links t
 -- ---- the calls
 
 -- a payload is sent
-pub record Sends (rules : Rules) (links micros : ℕ) (payload : List ℕ) (result : Result Unit SendBad) (from to : Work) : Type 0 where
+pub record Sends (rules : Rules) (links micros : ℕ) (payload : List ℕ) (result : Result Unit SendBad)
+    (from to : Work) : Type 0 where
   pub writes : SendsNext rules payload (called_at micros from) to
   pub answer : IsAnswer links (λ done. Unit {0}) result to
 
 -- a compound that came on a link is answered; the answer is how many packets were sent again
-pub record FeedsBack (rules : Rules) (links micros link : ℕ) (compound : List Content) (result : Result ℕ SendBad) (from to : Work) : Type 0 where
+pub record FeedsBack (rules : Rules) (links micros link : ℕ) (compound : List Content) (result : Result ℕ SendBad)
+    (from to : Work) : Type 0 where
   pub writes : AnswersOn rules micros link compound (called_at micros from) to
   pub answer : IsAnswer links (λ count. again_count to.history ≡ again_count from.history + count) result to
 

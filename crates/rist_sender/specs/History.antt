@@ -1,16 +1,18 @@
--- What a sender did, event by event. A history is a list of events, the newest first: in `event ∷ before`, `before` is all that
--- came before.
-use Rattle.std.specs.Prelude.{ℕ, ◌+◌, max, List, [], ◌∷◌, ◌++◌, length, Bool, true, false, ◌&&◌, ◌||◌, ◌==◌, if◌then◌else◌, Option, None, Some}
+-- What a sender did, event by event. A history is a list of events, the newest first: in `event ∷ before`, `before` is
+-- all that came before.
+use Rattle.std.specs.Prelude.{ℕ, ◌+◌, max, List, [], ◌∷◌, ◌++◌, length, Bool, true, false, ◌&&◌, ◌||◌, ◌==◌}
+use Rattle.std.specs.Prelude.{if◌then◌else◌, Option, None, Some}
 use Rattle.receiver_rules.specs.Steps.{tick_of}
 use Rattle.sender_rules.specs.Sendings.{Packet, Sending, First, Again, sent_packets}
 use Rattle.psk_seal.specs.declared.sealer.Pair.{Pair}
 use Rattle.rist_wire.specs.declared.session.Session.{Session}
 use Rattle.rist_sender.specs.declared.answer.Answer.{Answer}
 use Rattle.rist_sender.specs.Links.{Tried, is_failed}
-use Rattle.rist_sender.specs.Messages.{Message, Original, Retransmission, Report, RttAnswer, Alive, message_channel, message_datagram}
+use Rattle.rist_sender.specs.Messages.{Message, Original, Retransmission, Report, RttAnswer, Alive, message_channel}
+use Rattle.rist_sender.specs.Messages.{message_datagram}
 
--- a datagram that was written: its link, what it says, the pair under which it is enciphered if it is, the effective time of its
--- call in ticks, and what became of it
+-- a datagram that was written: its link, what it says, the pair under which it is enciphered if it is, the effective
+-- time of its call in ticks, and what became of it
 pub record Write : Type 0 where
   pub link : ℕ
   pub message : Message
@@ -131,5 +133,6 @@ abbrev pub tried_on : (Write → Tried) → ℕ → List Event → List Tried
 tried_on seen link [] = []
 tried_on seen link (Called micros ∷ before) = tried_on seen link before
 tried_on seen link (Sent packet ∷ before) = tried_on seen link before
-tried_on seen link (Wrote write ∷ before) = tried_on seen link before ++ (if write.link == link then seen write ∷ [] else [])
+tried_on seen link (Wrote write ∷ before) =
+    tried_on seen link before ++ (if write.link == link then seen write ∷ [] else [])
 tried_on seen link (Renewed flow first ∷ before) = tried_on seen link before

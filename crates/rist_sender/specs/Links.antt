@@ -8,8 +8,8 @@ use Rattle.outside_net.specs.Links.{Datagram, Answer as ReadAnswer}
 use Rattle.rist_sender.specs.declared.answer.Answer.{Answer}
 use Rattle.rist_sender.specs.declared.answer.Answer.TheVariants.{Took, NoPeer, Failed}
 
--- what a link tells, and its counts: the datagrams that it took, which channels' peers it knows, how many calls failed, the
--- answers that its reads have still to give, and how many reads came to an end
+-- what a link tells, and its counts: the datagrams that it took, which channels' peers it knows, how many calls failed,
+-- the answers that its reads have still to give, and how many reads came to an end
 pub record Line (L : Type 0) : Type 0 where
   pub taken : L → Option (List Datagram)
   pub knows : L → Channel → Bool
@@ -46,8 +46,8 @@ IsBy knows channel Took = knows channel ≡ true
 IsBy knows channel NoPeer = knows channel ≡ false
 IsBy knows channel Failed = Unit {0}
 
--- These datagrams were written on a link, in order, and nothing else: it took those that it took behind what it had taken,
--- where it tells that, and its count of faults rose exactly where a write failed.
+-- These datagrams were written on a link, in order, and nothing else: it took those that it took behind what it had
+-- taken, where it tells that, and its count of faults rose exactly where a write failed.
 pub record Delivers {L : Type 0} (line : Line L) (tried : List Tried) (was is : L) : Type 0 where
   pub taken : line.taken is ≡ option_map (λ had. had ++ datagrams_taken tried) (line.taken was)
   pub answers : AllByRecursion (λ t. IsBy (line.knows was) t.channel t.answer) tried

@@ -1,5 +1,5 @@
--- What a sender's datagrams say (RFC 3550, sections 5.1 and 6.4.1; VSF TR-06-1 for retransmissions; the answer to an RTT
--- request and the keepalive are this profile's).
+-- What a sender's datagrams say (RFC 3550, sections 5.1 and 6.4.1; VSF TR-06-1 for retransmissions; the answer to an
+-- RTT request and the keepalive are this profile's).
 use Rattle.std.specs.Prelude.{ℕ, ◌*◌, ◌/◌, ◌%◌, ◌^◌, Bool, true, false, not, List, [], ◌∷◌, ◌++◌, Option}
 use Rattle.std.specs.List.{find}
 use Rattle.std.specs.Int.{w32, to_be_bytes}
@@ -20,15 +20,15 @@ use Rattle.rist_wire.specs.Writing.{MediaOut, media_out}
 use Rattle.rist_wire.specs.Packets.{media_octets}
 use Rattle.rist_wire.specs.Datagrams.{channel_of, datagram_of}
 
--- what a sender's report says: the moment of its call in microseconds, and how many packets and octets of payload were sent so
--- far, retransmissions left out
+-- what a sender's report says: the moment of its call in microseconds, and how many packets and octets of payload were
+-- sent so far, retransmissions left out
 pub record Status : Type 0 where
   pub micros : ℕ
   pub packets : ℕ
   pub octets : ℕ
 
--- a datagram says a media packet, as an original or as a retransmission; a report; the answer to an RTT request, behind a
--- report; or that the sender is there
+-- a datagram says a media packet, as an original or as a retransmission; a report; the answer to an RTT request, behind
+-- a report; or that the sender is there
 pub data Message : Type 0 where
   Original : Packet → Message
   Retransmission : Packet → Message
@@ -53,16 +53,19 @@ rtp_time_of micros = tick_of micros % 2 ^ 32
 -- each compound begins with a report without blocks and a source description with CNAME `rist`, of the flow
 abbrev pub report_packets : ℕ → Status → List Content
 report_packets flow status =
-    sender_report flow (seconds_of status.micros) (fraction_of status.micros) (rtp_time_of status.micros) (status.packets % 2 ^ 32) (status.octets % 2 ^ 32) []
+    sender_report flow (seconds_of status.micros) (fraction_of status.micros) (rtp_time_of status.micros)
+    (status.packets % 2 ^ 32) (status.octets % 2 ^ 32) []
     ∷ description 1 (to_be_bytes w32 flow ++ name_item) ∷ []
 
 -- their octets
 abbrev pub report_octets : ℕ → Status → List ℕ
 report_octets flow status =
-    sr_octets flow (seconds_of status.micros) (fraction_of status.micros) (rtp_time_of status.micros) (status.packets % 2 ^ 32) (status.octets % 2 ^ 32)
+    sr_octets flow (seconds_of status.micros) (fraction_of status.micros) (rtp_time_of status.micros)
+    (status.packets % 2 ^ 32) (status.octets % 2 ^ 32)
     ++ sdes_octets flow
 
--- a report that asks for the round-trip time has an RTT request behind it: of the flow, its stamp the moment of the call
+-- a report that asks for the round-trip time has an RTT request behind it: of the flow, its stamp the moment of the
+-- call
 abbrev pub told_packets : Bool → ℕ → Status → List Content
 told_packets false flow status = report_packets flow status
 told_packets true flow status = report_packets flow status ++ request flow status.micros ∷ []

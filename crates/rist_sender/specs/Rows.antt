@@ -1,4 +1,5 @@
--- Worked runs of a sender of flow 10203040 that stores 32 packets and holds each for 20 ms. Histories have the newest first.
+-- Worked runs of a sender of flow 10203040 that stores 32 packets and holds each for 20 ms. Histories have the newest
+-- first.
 use Rattle.std.specs.Prelude.{ℕ, ◌+◌, zero, suc, List, [], ◌∷◌, map, None, false}
 use Rattle.sender_rules.specs.Bonding.{Duplicate}
 use Rattle.sender_rules.specs.Sendings.{Packet}
@@ -10,7 +11,16 @@ use Rattle.rist_sender.specs.Calls.{Rules, packets_again}
 
 -- what it is set to
 abbrev pub rules : Rules
-rules = record { flow = 270544960; first = 100; hold = 1800; size = 32; bonding = Duplicate 1; nulls = false; keepalives = false }
+rules =
+    record {
+      flow = 270544960;
+      first = 100;
+      hold = 1800;
+      size = 32;
+      bonding = Duplicate 1;
+      nulls = false;
+      keepalives = false;
+    }
 
 -- a packet without a payload
 abbrev pub packet : ℕ → Packet
@@ -23,7 +33,8 @@ sent first (suc count) = Sent (packet (first + count)) ∷ Called 0 ∷ sent fir
 
 -- one was sent again at 0, and the link took it
 abbrev pub again : ℕ → List Event → List Event
-again number before = Wrote (record { link = 0; message = Retransmission (packet number); pair = None; tick = 0; answer = Took }) ∷ before
+again number before =
+    Wrote (record { link = 0; message = Retransmission (packet number); pair = None; tick = 0; answer = Took }) ∷ before
 
 -- a generic NACK of 100, 101 and 116
 abbrev pub asks_for_three : List Content

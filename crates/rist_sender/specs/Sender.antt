@@ -1,5 +1,6 @@
 -- What a contract sees of a sender.
-use Rattle.std.specs.Prelude.{◌≡◌, ◌<◌, ℕ, ◌%◌, ◌^◌, List, ◌++◌, slice_index_or, length, Option, None, Bool, true, false}
+use Rattle.std.specs.Prelude.{◌≡◌, ◌<◌, ℕ, ◌%◌, ◌^◌, List, ◌++◌, slice_index_or, length, Option, None, Bool, true}
+use Rattle.std.specs.Prelude.{false}
 use Rattle.outside_io.specs.declared.profile.Profile.{Profile}
 use Rattle.outside_io.specs.declared.profile.Profile.TheVariants as profiles
 use Rattle.sender_rules.specs.Bonding.{Bonding}
@@ -7,12 +8,13 @@ use Rattle.retransmit_store.specs.State.{StoreState, IsStoreAfter}
 use Rattle.psk_seal.specs.Sealer.{SealerState}
 use Rattle.rist_wire.specs.declared.session.Session.{Session}
 use Rattle.rist_sender.specs.Links.{Line, Tried, Delivers}
-use Rattle.rist_sender.specs.History.{Event, effective_time, sendings_of, packet_count, octet_count, is_down, is_report, is_alive, last_time, tried_as, tried_on}
+use Rattle.rist_sender.specs.History.{Event, effective_time, sendings_of, packet_count, octet_count, is_down, is_report}
+use Rattle.rist_sender.specs.History.{is_alive, last_time, tried_as, tried_on}
 use Rattle.rist_sender.specs.Calls.{Work, Rules}
 
 -- what it is set to, its session and its sealer; and what it keeps of its calls: the packets that it stores, the
--- effective time, how many packets and, modulo 2^32, how many octets of its flow it sent, and of each link whether it is
--- down and when it last had a report and a keepalive
+-- effective time, how many packets and, modulo 2^32, how many octets of its flow it sent, and of each link whether it
+-- is down and when it last had a report and a keepalive
 pub record SenderState : Type 0 where
   pub flow : ℕ
   pub first : ℕ
@@ -74,10 +76,13 @@ pub record IsGiven {L : Type 0} (line : Line L) (had has : List Tried) (was is :
 abbrev pub AreGiven : {L : Type 0} → Line L → ℕ → Session → List Event → List Event → List L → List L → Type 0
 AreGiven {L} line flow session old new was is =
     (link : ℕ) (d : L) → link < length was
-    → IsGiven line (tried_on (tried_as flow session) link old) (tried_on (tried_as flow session) link new) (slice_index_or was link d) (slice_index_or is link d)
+    → IsGiven line (tried_on (tried_as flow session) link old) (tried_on (tried_as flow session) link new)
+    (slice_index_or was link d) (slice_index_or is link d)
 
--- A call: there is work after it of which this holds. The sender stands for that work, and each link was given just its datagrams.
-pub record Does {L : Type 0} (line : Line L) (old new : SenderState) (was is : List L) (from : Work) (P : Work → Type 0) : Type 0 where
+-- A call: there is work after it of which this holds. The sender stands for that work, and each link was given just its
+-- datagrams.
+pub record Does {L : Type 0} (line : Line L) (old new : SenderState) (was is : List L) (from : Work)
+    (P : Work → Type 0) : Type 0 where
   pub to : Work
   pub fact : P to
   pub stands : IsSenderAfter new to

@@ -71,9 +71,8 @@ module _ {K : Type 0} (contents : K → Option (List ℕ)) (faults : K → ℕ) 
 -- Of a file of this form, with octets read ahead of need and counts of failed reads before and after, records were
 -- split into these sinks, in the session but for its port, and it was answered so.
 pub record SplitsInto {K : Type 0} (form : Form) (had left : Option (List ℕ)) (ahead : List ℕ)
-    (reads_were reads_are : ℕ) (contents : K → Option (List ℕ)) (faults : K → ℕ)
-    (ports : List ℕ) (session : Session) (limits : Limits) (old new : List K)
-    (result : Result Unit WalkBad) : Type 0 where
+    (reads_were reads_are : ℕ) (contents : K → Option (List ℕ)) (faults : K → ℕ) (ports : List ℕ) (session : Session)
+    (limits : Limits) (old new : List K) (result : Result Unit WalkBad) : Type 0 where
   -- how the records ended: no write failed, and no memory was refused
   pub end : Result Unit WalkBad
   pub unfailed : end ≡ Err walks.WriteFault → ⊥

@@ -34,15 +34,17 @@ abbrev pub IsWritten : Bool → Option (List ℕ) → Option (List ℕ) → List
 IsWritten false held holds whole = Appends held holds whole
 IsWritten true held holds whole = AppendsPart held holds whole
 
--- One output: it gained the whole; or, where a write of its own failed, a front part of that, and its count of faults rose
--- exactly then.
+-- One output: it gained the whole; or, where a write of its own failed, a front part of that, and its count of faults
+-- rose exactly then.
 pub record IsSplitOff (whole : List ℕ) (held holds : Option (List ℕ)) (before now : ℕ) (failed : Bool) : Type 0 where
   pub written : IsWritten failed held holds whole
   pub cause : RoseWhere failed before now
 
 -- each output has what a replay of these records writes in the session at its place, by what came of the end there
-abbrev pub AllSplit : {K : Type 0} → (K → Option (List ℕ)) → (K → ℕ) → List ℕ → Session → Limits → List (Flow K) → List (Flow K) → List Came → List Record → Type 0
+abbrev pub AllSplit : {K : Type 0} → (K → Option (List ℕ)) → (K → ℕ) → List ℕ → Session → Limits → List (Flow K)
+    → List (Flow K) → List Came → List Record → Type 0
 AllSplit {K} contents faults ports session limits old new is rs =
     (v : ℕ) (flow next : Flow K) (came : Came)
     → slice_get old v ≡ Some flow → slice_get new v ≡ Some next → slice_get is v ≡ Some came
-    → IsSplitOff (replayed (session_at ports v session) limits rs) (contents flow.sink) (contents next.sink) (faults flow.sink) (faults next.sink) (is_cut_off came.answer)
+    → IsSplitOff (replayed (session_at ports v session) limits rs) (contents flow.sink) (contents next.sink)
+    (faults flow.sink) (faults next.sink) (is_cut_off came.answer)

@@ -7,7 +7,8 @@ use Rattle.outside_host.specs.declared.host.Place.TheVariants.{Here, Back}
 use Rattle.capture_file.specs.Capture.{Record}
 use Rattle.capture_walk.specs.Form.{Form, IsFile}
 use Rattle.rist_sender.specs.Links.{Line}
-use Rattle.rist_words.specs.CommandLine.{CommandLine, Replay, Show, Count, Pack, Split, Send, Recv, Gate, Drill, SendCommand, RecvCommand, GateCommand}
+use Rattle.rist_words.specs.CommandLine.{CommandLine, Replay, Show, Count, Pack, Split, Send, Recv, Gate, Drill}
+use Rattle.rist_words.specs.CommandLine.{SendCommand, RecvCommand, GateCommand}
 use Rattle.rist_compare.specs.declared.tear.Tear.{Tear}
 use Rattle.rist_top.specs.Ran.{source_name, sink_name}
 use Rattle.rist_top.specs.Sealing.{FailedAt}
@@ -34,7 +35,8 @@ IsWholeInput (Gate c) b = ⊥
 IsWholeInput (Drill c) b = ⊥
 
 -- no read, no write and no drawing of random words failed
-pub record NoneFailed {I O E L C : Type 0} (tells : Tells I O E) (old new : Shelf I O E L C) (c : CommandLine) : Type 0 where
+pub record NoneFailed {I O E L C : Type 0} (tells : Tells I O E) (old new : Shelf I O E L C)
+    (c : CommandLine) : Type 0 where
   pub reads : (source spent : I) → old.sources (source_name c) ≡ Here source → new.sources (source_name c) ≡ Back spent
       → Rose (tells.read_faults source) (tells.read_faults spent) → ⊥
   pub writes : (sink filled : O) → old.sinks (sink_name c) ≡ Here sink → new.sinks (sink_name c) ≡ Back filled
@@ -42,9 +44,11 @@ pub record NoneFailed {I O E L C : Type 0} (tells : Tells I O E) (old new : Shel
   pub words : FailedAt tells old new → ⊥
 
 -- a command over such a source in which nothing failed is done, or memory was refused
-abbrev pub Completes : {I O E L C : Type 0} → Tells I O E → Shelf I O E L C → Shelf I O E L C → CommandLine → Status → Type 0
+abbrev pub Completes : {I O E L C : Type 0} → Tells I O E → Shelf I O E L C → Shelf I O E L C → CommandLine → Status
+    → Type 0
 Completes {I} tells old new c status =
-    (source : I) (b : List ℕ) → old.sources (source_name c) ≡ Here source → tells.remaining source ≡ Some b → IsWholeInput c b
+    (source : I) (b : List ℕ) → old.sources (source_name c) ≡ Here source → tells.remaining source ≡ Some b
+    → IsWholeInput c b
     → NoneFailed tells old new c → (status ≡ statuses.Done) ⊎ (status ≡ statuses.Memory)
 
 -- one of so many links stays up: the count of its failed calls didn't rise
@@ -58,16 +62,19 @@ pub record StaysUp {L : Type 0} (line : Line L) (old new : ℕ → Place L) (cou
 abbrev pub IsWhole : SendCommand → Status → Type 0
 IsWhole c status =
     (status ≡ statuses.Done)
-    ⊎ ((status ≡ statuses.TurnsSpent) ⊎ (((status ≡ statuses.Spent) × (is_some c.session.pass ≡ true)) ⊎ (status ≡ statuses.Memory)))
+    ⊎ ((status ≡ statuses.TurnsSpent)
+    ⊎ (((status ≡ statuses.Spent) × (is_some c.session.pass ≡ true)) ⊎ (status ≡ statuses.Memory)))
 
 -- a sending of such a source in which nothing failed but links, of which one stays up, ends so
-abbrev pub CompletesSending : {I O E L C : Type 0} → Tells I O E → Line L → Shelf I O E L C → Shelf I O E L C → SendCommand → Status → Type 0
+abbrev pub CompletesSending : {I O E L C : Type 0} → Tells I O E → Line L → Shelf I O E L C → Shelf I O E L C
+    → SendCommand → Status → Type 0
 CompletesSending {I} tells line old new c status =
     (source : I) (b : List ℕ) → old.sources c.source ≡ Here source → tells.remaining source ≡ Some b → length b ≤ 2 ^ 40
     → NoneFailed tells old new (Send c) → StaysUp line old.links new.links (length c.links) → IsWhole c status
 
 -- no write to the sink of a receiving and no drawing of random words failed
-pub record NoWriteFailed {I O E L C : Type 0} (tells : Tells I O E) (old new : Shelf I O E L C) (c : RecvCommand) : Type 0 where
+pub record NoWriteFailed {I O E L C : Type 0} (tells : Tells I O E) (old new : Shelf I O E L C)
+    (c : RecvCommand) : Type 0 where
   pub writes : (sink filled : O) → old.sinks c.out ≡ Here sink → new.sinks c.out ≡ Back filled
       → Rose (tells.write_faults sink) (tells.write_faults filled) → ⊥
   pub words : FailedAt tells old new → ⊥
@@ -76,15 +83,16 @@ pub record NoWriteFailed {I O E L C : Type 0} (tells : Tells I O E) (old new : S
 abbrev pub IsKeptBadly : Status → Type 0
 IsKeptBadly status = (status ≡ statuses.TraceFull) ⊎ ((tear : Tear) × (status ≡ statuses.Torn tear))
 
--- a receiving came to its end, or too few pairs were left, or memory was refused; or its steps were to be kept, and had no
--- room or differ
+-- a receiving came to its end, or too few pairs were left, or memory was refused; or its steps were to be kept, and had
+-- no room or differ
 abbrev pub IsHeard : RecvCommand → Status → Type 0
 IsHeard c status =
     (status ≡ statuses.Done)
     ⊎ ((status ≡ statuses.Spent) ⊎ ((status ≡ statuses.Memory) ⊎ ((c.serving.keep ≢ 0) × IsKeptBadly status)))
 
 -- a receiving in which nothing failed but links, of which one stays up, ends so
-abbrev pub CompletesReceiving : {I O E L C : Type 0} → Tells I O E → Line L → Shelf I O E L C → Shelf I O E L C → RecvCommand → Status → Type 0
+abbrev pub CompletesReceiving : {I O E L C : Type 0} → Tells I O E → Line L → Shelf I O E L C → Shelf I O E L C
+    → RecvCommand → Status → Type 0
 CompletesReceiving tells line old new c status =
     NoWriteFailed tells old new c → StaysUp line old.links new.links (length c.links) → IsHeard c status
 
@@ -92,7 +100,8 @@ CompletesReceiving tells line old new c status =
 pub record StaysUpBehind {L : Type 0} (line : Line L) (old new : ℕ → Place L) (first count : ℕ) : Type 0 where
   pub place : ℕ
   pub among : place < count
-  pub up : (was is : L) → old (first + place) ≡ Here was → new (first + place) ≡ Back is → Rose (line.faults was) (line.faults is) → ⊥
+  pub up : (was is : L) → old (first + place) ≡ Here was → new (first + place) ≡ Back is
+      → Rose (line.faults was) (line.faults is) → ⊥
 
 -- a gateway came to its end, or too few pairs were left at either end, or memory was refused; or its steps were to be
 -- kept, and had no room or differ
@@ -103,7 +112,8 @@ IsGateWhole c status =
 
 -- a gateway in which nothing failed but links, of which one that is received on and one that is sent on stay up, ends
 -- so
-abbrev pub CompletesGating : {I O E L C : Type 0} → Tells I O E → Line L → Shelf I O E L C → Shelf I O E L C → GateCommand → Status → Type 0
+abbrev pub CompletesGating : {I O E L C : Type 0} → Tells I O E → Line L → Shelf I O E L C → Shelf I O E L C
+    → GateCommand → Status → Type 0
 CompletesGating tells line old new c status =
     (FailedAt tells old new → ⊥) → StaysUp line old.links new.links (length c.inputs)
     → StaysUpBehind line old.links new.links (length c.inputs) (length c.outputs) → IsGateWhole c status

@@ -19,8 +19,8 @@ use Rattle.rist_top.specs.declared.status.Status.{Status}
 use Rattle.rist_top.specs.declared.status.Status.TheVariants as statuses
 
 -- these words did this to a host that tells, whose count of failed calls stood so before and after
-pub record Does {A I O E L C : Type 0} (told : Bool) (tells : Tells I O E) (live : TellsLive L C) (words : List (String A))
-    (faults_were faults_are : ℕ) (old new : Shelf I O E L C) (status : Status) : Type 0 where
+pub record Does {A I O E L C : Type 0} (told : Bool) (tells : Tells I O E) (live : TellsLive L C)
+    (words : List (String A)) (faults_were faults_are : ℕ) (old new : Shelf I O E L C) (status : Status) : Type 0 where
   -- a line touches only what it speaks of
   pub others : IsFresh told old → IfFiles words (λ c. KeepsOthers old new c)
   -- a sink is opened only after its source
@@ -54,7 +54,8 @@ pub record Does {A I O E L C : Type 0} (told : Bool) (tells : Tells I O E) (live
   -- random words fail a sending only where the first of them failed
   pub random : IsUnused told old → status ≡ statuses.EntropyFault → IfSending words (λ c. FailedAt tells old new)
   -- where no call fails, a capture is taken to its end, and so is a source
-  pub complete : IsFresh told old → (Rose faults_were faults_are → ⊥) → IfFiles words (λ c. Completes tells old new c status)
+  pub complete : IsFresh told old → (Rose faults_were faults_are → ⊥)
+      → IfFiles words (λ c. Completes tells old new c status)
   -- so is the source of a sending where one link stays up, unless turns or pairs are spent before
   pub whole : IsUnused told old → (Rose faults_were faults_are → ⊥)
       → IfSending words (λ c. CompletesSending tells live.line old new c status)

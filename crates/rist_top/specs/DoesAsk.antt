@@ -11,6 +11,9 @@ use Rattle.rist_top.specs.declared.status.Status.{Status}
 abbrev pub IsAnswer : Ask → List ℕ → Type 0
 IsAnswer ask text = text ≡ answer_of ask
 
--- the text that is asked for went to the standard output of a host, whose count of failed calls stood so before and after
-abbrev pub DoesAsk : {I O E L C : Type 0} → Bool → Tells I O E → Ask → ℕ → ℕ → Shelf I O E L C → Shelf I O E L C → Status → Type 0
-DoesAsk told tells ask faults_were faults_are old new status = DoesPrint told tells (IsAnswer ask) faults_were faults_are old new status
+-- the text that is asked for went to the standard output of a host, whose count of failed calls stood so before and
+-- after
+abbrev pub DoesAsk : {I O E L C : Type 0} → Bool → Tells I O E → Ask → ℕ → ℕ → Shelf I O E L C → Shelf I O E L C
+    → Status → Type 0
+DoesAsk told tells ask faults_were faults_are old new status =
+    DoesPrint told tells (IsAnswer ask) faults_were faults_are old new status

@@ -20,6 +20,9 @@ pub record IsSummary (script : Script) (octets : List ℕ) : Type 0 where
   pub run : IsMadeRun script report
   pub text : octets ≡ summary_of report
 
--- this simulated run's summary went to the standard output of a host, whose count of failed calls stood so before and after
-abbrev pub DoesDrill : {I O E L C : Type 0} → Bool → Tells I O E → DrillCommand → ℕ → ℕ → Shelf I O E L C → Shelf I O E L C → Status → Type 0
-DoesDrill told tells c faults_were faults_are old new status = DoesPrint told tells (IsSummary (script_of c)) faults_were faults_are old new status
+-- this simulated run's summary went to the standard output of a host, whose count of failed calls stood so before and
+-- after
+abbrev pub DoesDrill : {I O E L C : Type 0} → Bool → Tells I O E → DrillCommand → ℕ → ℕ → Shelf I O E L C
+    → Shelf I O E L C → Status → Type 0
+DoesDrill told tells c faults_were faults_are old new status =
+    DoesPrint told tells (IsSummary (script_of c)) faults_were faults_are old new status

@@ -17,14 +17,16 @@ use Rattle.rist_top.specs.declared.status.Status.TheVariants as statuses
 
 -- these words, where they are a gateway, did this to an unused host that tells, whose count of failed calls stood so
 -- before and after
-pub record DoesGate {A I O E L C : Type 0} (told : Bool) (tells : Tells I O E) (live : TellsLive L C) (words : List (String A))
-    (faults_were faults_are : ℕ) (old new : Shelf I O E L C) (status : Status) : Type 0 where
+pub record DoesGate {A I O E L C : Type 0} (told : Bool) (tells : Tells I O E) (live : TellsLive L C)
+    (words : List (String A)) (faults_were faults_are : ℕ) (old new : Shelf I O E L C) (status : Status) : Type 0 where
   -- what comes on its first links goes on over the others, links and clocks come back, and the receiver's counts reach
   -- the host; or no link was read or written
   pub gated : IsUnused told old → (CanRefuse status → ⊥) → IfGate words (λ c. Gated tells live old new c status)
   pub ungated : IsUnused told old → CanRefuse status → IfGate words (λ c. Ungated old new)
-  -- what its first links brought is one history, and where that is a run of copies of what was sent, what went on is what was reached
-  pub reached : IsUnused told old → status ≡ statuses.Done → IfGate words (λ c. GatesReached tells live old new c status)
+  -- what its first links brought is one history, and where that is a run of copies of what was sent, what went on is
+  -- what was reached
+  pub reached : IsUnused told old → status ≡ statuses.Done
+      → IfGate words (λ c. GatesReached tells live old new c status)
   -- the run touches only what its line speaks of
   pub around : IsUnused told old → IfGate words (λ c. KeepsAroundGate old new c)
   -- just the links of the line are opened, in its order

@@ -8,7 +8,8 @@ use Rattle.capture_file.specs.Capture.{Record}
 use Rattle.capture_walk.specs.Form.{IsFile}
 use Rattle.receiver_rules.specs.Sent.{SentStream, Delivery, HasSteadyTimestamps, AreDeliveriesOf}
 use Rattle.rist_words.specs.CommandLine.{ReplayCommand}
-use Rattle.receiver_rules.specs.SentEpochs.{SentStreams, Transfer, AreTransfersOf, sent_epochs, reached_payloads as payloads_of_epochs}
+use Rattle.receiver_rules.specs.SentEpochs.{SentStreams, Transfer, AreTransfersOf, sent_epochs}
+use Rattle.receiver_rules.specs.SentEpochs.{reached_payloads as payloads_of_epochs}
 use Rattle.rist_replay.specs.Exact.{IsCaptureOf, IsCaptureOfAll, reached_payloads}
 use Rattle.rist_top.specs.Objects.{Tells}
 use Rattle.rist_top.specs.Sessions.{session_read, replay_limits}
@@ -16,21 +17,26 @@ use Rattle.rist_top.specs.Works.{form_of}
 
 -- where the base of deadlines stays, what the sink gained are the payloads of the numbers that were reached, for every
 -- sender and every run of copies of its packets that the octets of the source, told, are a capture or a pcap file of
-abbrev pub WritesReached : {I O E L C : Type 0} → Tells I O E → Shelf I O E L C → Shelf I O E L C → ReplayCommand → Type 0
+abbrev pub WritesReached : {I O E L C : Type 0} → Tells I O E → Shelf I O E L C → Shelf I O E L C → ReplayCommand
+    → Type 0
 WritesReached {I} {O} tells old new c =
     (source : I) (sink filled : O) (b : List ℕ) (rs : List Record) (p : SentStream) (run : List Delivery)
     → old.sources c.capture ≡ Here source → old.sinks c.out ≡ Here sink → new.sinks c.out ≡ Back filled
-    → tells.remaining source ≡ Some b → IsFile (form_of c.session c.pcap) rs b → IsCaptureOf (session_read c.session) p run rs
+    → tells.remaining source ≡ Some b → IsFile (form_of c.session c.pcap) rs b
+    → IsCaptureOf (session_read c.session) p run rs
     → HasSteadyTimestamps p → c.drift ≡ false → AreDeliveriesOf (replay_limits c) p run
     → Appends (tells.contents sink) (tells.contents filled) (concat (reached_payloads (replay_limits c) p run))
 
 -- where flows restart they are, epoch after epoch, the payloads of the numbers that were reached in it, for all streams
 -- that were sent one after another and every run of copies of their packets, and of other packets that open no epoch,
 -- of which the octets of the source, told, are a capture or a pcap file
-abbrev pub WritesEpochs : {I O E L C : Type 0} → Tells I O E → Shelf I O E L C → Shelf I O E L C → ReplayCommand → Type 0
+abbrev pub WritesEpochs : {I O E L C : Type 0} → Tells I O E → Shelf I O E L C → Shelf I O E L C → ReplayCommand
+    → Type 0
 WritesEpochs {I} {O} tells old new c =
     (source : I) (sink filled : O) (b : List ℕ) (rs : List Record) (streams : SentStreams) (run : List Transfer)
     → old.sources c.capture ≡ Here source → old.sinks c.out ≡ Here sink → new.sinks c.out ≡ Back filled
-    → tells.remaining source ≡ Some b → IsFile (form_of c.session c.pcap) rs b → IsCaptureOfAll (session_read c.session) streams run rs
+    → tells.remaining source ≡ Some b → IsFile (form_of c.session c.pcap) rs b
+    → IsCaptureOfAll (session_read c.session) streams run rs
     → ((epoch : ℕ) → HasSteadyTimestamps (streams epoch)) → AreTransfersOf (replay_limits c) streams run
-    → Appends (tells.contents sink) (tells.contents filled) (concat (payloads_of_epochs streams (sent_epochs (replay_limits c) streams run)))
+    → Appends (tells.contents sink) (tells.contents filled)
+    (concat (payloads_of_epochs streams (sent_epochs (replay_limits c) streams run)))

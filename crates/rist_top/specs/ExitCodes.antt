@@ -1,7 +1,9 @@
 -- The exit status of the program, by how a command ended.
 use Rattle.std.specs.Prelude.{ℕ}
 use Rattle.rist_top.specs.declared.status.Status.{Status}
-use Rattle.rist_top.specs.declared.status.Status.TheVariants.{Done, Memory, Usage, OpenFault, ReadFault, WriteFault, BadCapture, EntropyFault, TooLong, LinksDown, TraceFull, Torn, Spent, TurnsSpent, BadPcap}
+use Rattle.rist_top.specs.declared.status.Status.TheVariants.{Done, Memory, Usage, OpenFault, ReadFault, WriteFault}
+use Rattle.rist_top.specs.declared.status.Status.TheVariants.{BadCapture, EntropyFault, TooLong, LinksDown, TraceFull}
+use Rattle.rist_top.specs.declared.status.Status.TheVariants.{Torn, Spent, TurnsSpent, BadPcap}
 
 -- 0 where the work was done, and a number of its own for each other status
 abbrev pub exit_code_of : Status → ℕ

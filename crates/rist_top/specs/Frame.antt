@@ -4,7 +4,8 @@ use Rattle.outside_net.specs.declared.link_spec.Role.TheVariants.{Receives, Send
 use Rattle.outside_host.specs.Shelf.{Shelf, ChangesSources, ChangesSinks}
 use Rattle.outside_host.specs.declared.host.Opened.{Opened}
 use Rattle.outside_host.specs.declared.host.Place.{Place}
-use Rattle.rist_words.specs.CommandLine.{CommandLine, Replay, Show, Count, Pack, Split, Send, Recv, Gate, Drill, SendCommand, RecvCommand, GateCommand}
+use Rattle.rist_words.specs.CommandLine.{CommandLine, Replay, Show, Count, Pack, Split, Send, Recv, Gate, Drill}
+use Rattle.rist_words.specs.CommandLine.{SendCommand, RecvCommand, GateCommand}
 use Rattle.rist_top.specs.Places.{CameBack, IsAsItWas, KeepsLive}
 use Rattle.rist_top.specs.Ran.{source_name, sink_name}
 

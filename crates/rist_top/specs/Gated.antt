@@ -28,17 +28,18 @@ gate_status gates.Done = statuses.Done
 -- A gateway of a line ran under the sealers of its receiver and of its sender, where there are any, and it ended so: of
 -- these links the first ones were received on and the others sent on, and what was received went on over them, payload
 -- by payload.
-pub record GatesAs {L C : Type 0} (live : TellsLive L C) (c : GateCommand) (receiving sending : Option SealerState) (links_were links_are : List L)
-    (clocks_were clocks_are : List C) (counts : Counts) (status : Status) : Type 0 where
+pub record GatesAs {L C : Type 0} (live : TellsLive L C) (c : GateCommand) (receiving sending : Option SealerState)
+    (links_were links_are : List L) (clocks_were clocks_are : List C) (counts : Counts) (status : Status) : Type 0 where
   pub ending : GateEnding
   pub answer : status ≡ gate_status ending
-  pub run : Forwards live.moments live.line (setup_gated c receiving sending) (limits_served c.serving) (length c.inputs) links_were links_are
+  pub run : Forwards live.moments live.line (setup_gated c receiving sending) (limits_served c.serving)
+      (length c.inputs) links_were links_are
       clocks_were clocks_are counts ending
 
 -- clocks and, under a passphrase, random words were handed out, the links of a line were received on and sent on, and
 -- all came back
-pub record GatedByClocks {I O E L C : Type 0} (tells : Tells I O E) (live : TellsLive L C) (old new : Shelf I O E L C) (c : GateCommand)
-    (links_were links_are : List L) (status : Status) : Type 0 where
+pub record GatedByClocks {I O E L C : Type 0} (tells : Tells I O E) (live : TellsLive L C) (old new : Shelf I O E L C)
+    (c : GateCommand) (links_were links_are : List L) (status : Status) : Type 0 where
   pub clocks_were : List C
   pub clocks_are : List C
   pub clocks : FromTheFirst old.clocks new.clocks clocks_were clocks_are
@@ -54,7 +55,8 @@ pub record GatedByClocks {I O E L C : Type 0} (tells : Tells I O E) (live : Tell
   pub gates : GatesAs live c receiving sending links_were links_are clocks_were clocks_are counts status
 
 -- the links of a line were handed out, what came on the first ones went on over the others, and all came back
-pub record Gated {I O E L C : Type 0} (tells : Tells I O E) (live : TellsLive L C) (old new : Shelf I O E L C) (c : GateCommand) (status : Status) : Type 0 where
+pub record Gated {I O E L C : Type 0} (tells : Tells I O E) (live : TellsLive L C) (old new : Shelf I O E L C)
+    (c : GateCommand) (status : Status) : Type 0 where
   pub links_were : List L
   pub links_are : List L
   pub count : length links_were ≡ length c.inputs + length c.outputs

@@ -4,7 +4,8 @@ use Rattle.std.specs.declared.string.String.{String}
 use Rattle.outside_host.specs.Shelf.{Shelf}
 use Rattle.rist_help.specs.Asks.{ask_of}
 use Rattle.rist_help.specs.declared.Ask.{Ask}
-use Rattle.rist_words.specs.CommandLine.{CommandLine, Replay, Show, Count, Pack, Split, Send, Recv, Gate, Drill, SplitCommand, SendCommand, RecvCommand, GateCommand, DrillCommand, line_of}
+use Rattle.rist_words.specs.CommandLine.{CommandLine, Replay, Show, Count, Pack, Split, Send, Recv, Gate, Drill}
+use Rattle.rist_words.specs.CommandLine.{SplitCommand, SendCommand, RecvCommand, GateCommand, DrillCommand, line_of}
 
 -- they are this line
 abbrev pub IsLine : {A : Type 0} → List (String A) → CommandLine → Type 0
@@ -51,8 +52,8 @@ AsksNothing words = ask_of (map string_bytes words) ≡ None
 abbrev pub IfAsk : {A : Type 0} → List (String A) → (Ask → Type 0) → Type 0
 IfAsk words P = (ask : Ask) → ask_of (map string_bytes words) ≡ Some ask → P ask
 
--- a command over a source and a sink: any but a split, which has a sink for each output, those over links, and a simulated run,
--- which reads nothing
+-- a command over a source and a sink: any but a split, which has a sink for each output, those over links, and a
+-- simulated run, which reads nothing
 abbrev pub IsOverFiles : CommandLine → Type 0
 IsOverFiles (Replay c) = Unit {0}
 IsOverFiles (Show c) = Unit {0}

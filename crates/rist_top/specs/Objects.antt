@@ -15,4 +15,9 @@ pub record Tells (I O E : Type 0) : Type 0 where
 -- what a source and a sink tell before their work and after it
 abbrev pub passage : {I O E : Type 0} → Tells I O E → I → I → O → O → Passage
 passage tells source spent sink filled =
-    record { had = tells.remaining source; left = tells.remaining spent; held = tells.contents sink; holds = tells.contents filled }
+    record {
+      had = tells.remaining source;
+      left = tells.remaining spent;
+      held = tells.contents sink;
+      holds = tells.contents filled;
+    }

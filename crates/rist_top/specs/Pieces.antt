@@ -17,10 +17,12 @@ use Rattle.rist_top.specs.declared.status.Status.{Status}
 -- Payloads were sent of a source that had these octets and has these left: with Done all of its pieces, in order, each
 -- once, and with any other status the first ones.
 abbrev pub SendsPieces : List ℕ → Option (List ℕ) → List (List ℕ) → Status → Type 0
-SendsPieces octets left sent status = (end : Result Unit SendFault) × (status ≡ send_status end) × Gives end octets left sent
+SendsPieces octets left sent status =
+    (end : Result Unit SendFault) × (status ≡ send_status end) × Gives end octets left sent
 
 -- a sender was given such payloads of a line's source, and the links of the line just the datagrams that it made
-pub record SentInPieces {I O E L C : Type 0} (tells : Tells I O E) (live : TellsLive L C) (old new : Shelf I O E L C) (c : SendCommand) (status : Status) : Type 0 where
+pub record SentInPieces {I O E L C : Type 0} (tells : Tells I O E) (live : TellsLive L C) (old new : Shelf I O E L C)
+    (c : SendCommand) (status : Status) : Type 0 where
   pub source : I
   pub spent : I
   pub took_source : old.sources c.source ≡ Here source
@@ -34,4 +36,5 @@ pub record SentInPieces {I O E L C : Type 0} (tells : Tells I O E) (live : Tells
   pub given : AreServed live.line c.stream.flow (session_sent c) [] history was is
   pub sent : List (List ℕ)
   pub packets : AreSentAs c.stream.nulls c.stream.first (reverse sent) (sent_packets (sendings_of history))
-  pub pieces : (octets : List ℕ) → tells.remaining source ≡ Some octets → SendsPieces octets (tells.remaining spent) sent status
+  pub pieces : (octets : List ℕ) → tells.remaining source ≡ Some octets
+      → SendsPieces octets (tells.remaining spent) sent status

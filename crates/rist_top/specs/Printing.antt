@@ -12,11 +12,13 @@ use Rattle.rist_top.specs.declared.status.Status.TheVariants as statuses
 -- the text was written, or memory was refused, or the standard output could not be opened or written to
 abbrev pub IsPrintEnd : Status → Type 0
 IsPrintEnd status =
-    (status ≡ statuses.Done) ⊎ ((status ≡ statuses.Memory) ⊎ ((status ≡ statuses.OpenFault) ⊎ (status ≡ statuses.WriteFault)))
+    (status ≡ statuses.Done)
+    ⊎ ((status ≡ statuses.Memory) ⊎ ((status ≡ statuses.OpenFault) ⊎ (status ≡ statuses.WriteFault)))
 
--- The standard output was handed out, empty, and came back with a text of which this holds: with Done the whole of it, and where
--- a write failed a front part.
-pub record Prints {I O E L C : Type 0} (tells : Tells I O E) (Holds : List ℕ → Type 0) (old new : Shelf I O E L C) (status : Status) : Type 0 where
+-- The standard output was handed out, empty, and came back with a text of which this holds: with Done the whole of it,
+-- and where a write failed a front part.
+pub record Prints {I O E L C : Type 0} (tells : Tells I O E) (Holds : List ℕ → Type 0) (old new : Shelf I O E L C)
+    (status : Status) : Type 0 where
   pub sink : O
   pub filled : O
   pub took : old.sinks (codes "-") ≡ Here sink
@@ -34,7 +36,8 @@ NoOutputFailed {I} {O} tells old new =
     (sink filled : O) → old.sinks (codes "-") ≡ Here sink → new.sinks (codes "-") ≡ Back filled
     → Rose (tells.write_faults sink) (tells.write_faults filled) → ⊥
 
--- a text of which this holds went to the standard output of a host, whose count of failed calls stood so before and after
+-- a text of which this holds went to the standard output of a host, whose count of failed calls stood so before and
+-- after
 pub record DoesPrint {I O E L C : Type 0} (told : Bool) (tells : Tells I O E) (Holds : List ℕ → Type 0)
     (faults_were faults_are : ℕ) (old new : Shelf I O E L C) (status : Status) : Type 0 where
   pub ends : IsPrintEnd status

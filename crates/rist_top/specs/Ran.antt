@@ -38,7 +38,8 @@ sink_name (Gate c) = []
 sink_name (Drill c) = codes "-"
 
 -- the source and the sink of a line were handed out and came back, and the status says what they tell
-pub record Ran {I O E L C : Type 0} (tells : Tells I O E) (old new : Shelf I O E L C) (c : CommandLine) (status : Status) : Type 0 where
+pub record Ran {I O E L C : Type 0} (tells : Tells I O E) (old new : Shelf I O E L C) (c : CommandLine)
+    (status : Status) : Type 0 where
   pub source : I
   pub spent : I
   pub sink : O

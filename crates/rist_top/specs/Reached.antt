@@ -71,8 +71,8 @@ pub record IsBrought {I O E L C : Type 0} (live : TellsLive L C) (old : Shelf I 
 -- Whenever the history of a receiving is a run of copies of what one sender sent, the octets that came back under
 -- OUT are the payloads of the numbers that were reached, by rising number, each once; and where flows restart those
 -- of one epoch after another.
-pub record ReceivesReached {I O E L C : Type 0} (tells : Tells I O E) (live : TellsLive L C)
-    (old new : Shelf I O E L C) (c : RecvCommand) : Type 0 where
+pub record ReceivesReached {I O E L C : Type 0} (tells : Tells I O E) (live : TellsLive L C) (old new : Shelf I O E L C)
+    (c : RecvCommand) : Type 0 where
   pub brought : IsBrought live old (session_read c.session) (limits_received c) (length c.links)
   pub reached : (filled : O) (octets : List ℕ) (p : SentStream) (run : List Delivery) → new.sinks c.out ≡ Back filled
       → tells.contents filled ≡ Some octets

@@ -34,7 +34,8 @@ receive_status endings.Done = statuses.Done
 
 -- what a host's links tell, as a receiver's threads ask it
 abbrev pub link_tells : {L : Type 0} → Line L → LinkTells L
-link_tells line = record { reads = line.reads; taken = line.taken; knows = line.knows; ends = line.ends; faults = line.faults }
+link_tells line =
+    record { reads = line.reads; taken = line.taken; knows = line.knows; ends = line.ends; faults = line.faults }
 
 -- what a receiver counted, as a host takes it
 abbrev pub reception_of : Counts → Reception
@@ -53,11 +54,13 @@ reception_of c = record {
 -- A receiving of a line ran under a sealer, where there is one, and it ended so: these links and clocks, the first of
 -- each is that of the first link, have given and taken just what its workers' turns say, and the sink holds what its
 -- receiver released.
-pub record ReceivesAs {L C : Type 0} (live : TellsLive L C) (c : RecvCommand) (sealer : Option SealerState) (links_were links_are : List L)
-    (clocks_were clocks_are : List C) (contents_were contents_are : Option (List ℕ)) (faults_were faults_are : ℕ) (counts : Counts) (status : Status) : Type 0 where
+pub record ReceivesAs {L C : Type 0} (live : TellsLive L C) (c : RecvCommand) (sealer : Option SealerState)
+    (links_were links_are : List L) (clocks_were clocks_are : List C) (contents_were contents_are : Option (List ℕ))
+    (faults_were faults_are : ℕ) (counts : Counts) (status : Status) : Type 0 where
   pub ending : Ending
   pub answer : status ≡ receive_status ending
-  pub run : Receives live.moments (link_tells live.line) (setup_received c sealer) (limits_received c) links_were links_are clocks_were clocks_are
+  pub run : Receives live.moments (link_tells live.line) (setup_received c sealer) (limits_received c) links_were
+      links_are clocks_were clocks_are
       contents_were contents_are faults_were faults_are counts ending
 
 -- objects were handed out from the first places, one for each link of a line, and came back there
@@ -66,8 +69,9 @@ pub record FromTheFirst {X : Type 0} (old new : ℕ → Place X) (were are : Lis
   pub gave : (place : ℕ) (d : X) → place < length were → new place ≡ Back (slice_index_or are place d)
 
 -- clocks and, under a passphrase, random words were handed out, the links of a line were received on, and all came back
-pub record ReceivedByClocks {I O E L C : Type 0} (tells : Tells I O E) (live : TellsLive L C) (old new : Shelf I O E L C) (c : RecvCommand)
-    (links_were links_are : List L) (sink filled : O) (status : Status) : Type 0 where
+pub record ReceivedByClocks {I O E L C : Type 0} (tells : Tells I O E) (live : TellsLive L C)
+    (old new : Shelf I O E L C) (c : RecvCommand) (links_were links_are : List L) (sink filled : O)
+    (status : Status) : Type 0 where
   pub clocks_were : List C
   pub clocks_are : List C
   pub clocks : FromTheFirst old.clocks new.clocks clocks_were clocks_are
@@ -77,12 +81,13 @@ pub record ReceivedByClocks {I O E L C : Type 0} (tells : Tells I O E) (live : T
   pub counts : Counts
   -- the counts of the receiver reach the host
   pub reported : new.report ≡ Some (reception_of counts)
-  pub receives : ReceivesAs live c sealer links_were links_are clocks_were clocks_are (tells.contents sink) (tells.contents filled)
+  pub receives : ReceivesAs live c sealer links_were links_are clocks_were clocks_are (tells.contents sink)
+      (tells.contents filled)
       (tells.write_faults sink) (tells.write_faults filled) counts status
 
 -- the links of a line were handed out, received on, and came back
-pub record ReceivedOnLinks {I O E L C : Type 0} (tells : Tells I O E) (live : TellsLive L C) (old new : Shelf I O E L C) (c : RecvCommand)
-    (sink filled : O) (status : Status) : Type 0 where
+pub record ReceivedOnLinks {I O E L C : Type 0} (tells : Tells I O E) (live : TellsLive L C) (old new : Shelf I O E L C)
+    (c : RecvCommand) (sink filled : O) (status : Status) : Type 0 where
   pub links_were : List L
   pub links_are : List L
   pub count : length links_were ≡ length c.links
@@ -90,7 +95,8 @@ pub record ReceivedOnLinks {I O E L C : Type 0} (tells : Tells I O E) (live : Te
   pub received : ReceivedByClocks tells live old new c links_were links_are sink filled status
 
 -- what was received on the links of a line went to its sink, which was empty
-pub record Received {I O E L C : Type 0} (tells : Tells I O E) (live : TellsLive L C) (old new : Shelf I O E L C) (c : RecvCommand) (status : Status) : Type 0 where
+pub record Received {I O E L C : Type 0} (tells : Tells I O E) (live : TellsLive L C) (old new : Shelf I O E L C)
+    (c : RecvCommand) (status : Status) : Type 0 where
   pub sink : O
   pub filled : O
   pub took : old.sinks c.out ≡ Here sink

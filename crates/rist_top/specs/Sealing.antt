@@ -21,7 +21,8 @@ pub record KeepsObjects {I O E L C : Type 0} (old new : Shelf I O E L C) (draws 
 
 -- the nonces of a sealer are drawn from the first source of random words, which was handed out, did not fail, and came
 -- back
-pub record DrawnFirst {I O E : Type 0} (tells : Tells I O E) (old new : ℕ → Place E) (sealer : SealerState) : Type 0 where
+pub record DrawnFirst {I O E : Type 0} (tells : Tells I O E) (old new : ℕ → Place E)
+    (sealer : SealerState) : Type 0 where
   pub words : E
   pub drawn : E
   pub took : old 0 ≡ Here words
@@ -39,7 +40,8 @@ pub record FailedAt {I O E L C : Type 0} (tells : Tells I O E) (old new : Shelf 
 
 -- The nonces of two sealers are drawn from the first source of random words, those of the second behind those of the
 -- first; it was handed out, did not fail, and came back.
-pub record DrawnBoth {I O E : Type 0} (tells : Tells I O E) (old new : ℕ → Place E) (first second : SealerState) : Type 0 where
+pub record DrawnBoth {I O E : Type 0} (tells : Tells I O E) (old new : ℕ → Place E)
+    (first second : SealerState) : Type 0 where
   pub words : E
   pub drawn : E
   pub between : Option (List ℕ)
@@ -50,7 +52,8 @@ pub record DrawnBoth {I O E : Type 0} (tells : Tells I O E) (old new : ℕ → P
   pub none : tells.word_faults drawn ≡ tells.word_faults words
 
 -- they are, where there are two; and where there is one its own are, as those of a sealer alone
-abbrev pub AreDrawn : {I O E : Type 0} → Tells I O E → (ℕ → Place E) → (ℕ → Place E) → Option SealerState → Option SealerState → Type 0
+abbrev pub AreDrawn : {I O E : Type 0} → Tells I O E → (ℕ → Place E) → (ℕ → Place E) → Option SealerState
+    → Option SealerState → Type 0
 AreDrawn tells old new None second = IfSome second (DrawnFirst tells old new)
 AreDrawn tells old new (Some first) None = DrawnFirst tells old new first
 AreDrawn tells old new (Some first) (Some second) = DrawnBoth tells old new first second

@@ -1,5 +1,6 @@
 -- What a sending leaves of the objects of its host.
-use Rattle.std.specs.Prelude.{◌≡◌, ◌<◌, ℕ, List, [], length, map, slice_index_or, false, Option, IfSome, Bool, IsTrue, Result, Ok, Err}
+use Rattle.std.specs.Prelude.{◌≡◌, ◌<◌, ℕ, List, [], length, map, slice_index_or, false, Option, IfSome, Bool, IsTrue}
+use Rattle.std.specs.Prelude.{Result, Ok, Err}
 use Rattle.outside_io.specs.Causes.{HasReadCause}
 use Rattle.outside_host.specs.Shelf.{Shelf}
 use Rattle.outside_host.specs.declared.host.Place.TheVariants.{Here, Back}
@@ -53,7 +54,8 @@ no_work sealer = record { history = []; sealer = sealer; is_short = false }
 
 -- a source was sent onto links under a sealer, where there is one, and it ended so: clock, source and links have given
 -- just what the run took, and each link was given just the datagrams that the sender made for it
-pub record SendsAs {L : Type 0} (line : Line L) (c : SendCommand) (sealer : Option SealerState) (had has : Outside) (was is : List L) (status : Status) : Type 0 where
+pub record SendsAs {L : Type 0} (line : Line L) (c : SendCommand) (sealer : Option SealerState) (had has : Outside)
+    (was is : List L) (status : Status) : Type 0 where
   pub end : Result Unit SendFault
   pub answer : status ≡ send_status end
   pub to : Run
@@ -64,7 +66,8 @@ pub record SendsAs {L : Type 0} (line : Line L) (c : SendCommand) (sealer : Opti
   pub given : AreServed line c.stream.flow (session_sent c) [] to.work.history was is
 
 -- the next clock and, under a passphrase, random words were handed out, a source was sent so, and both came back
-pub record SentByClock {I O E L C : Type 0} (tells : Tells I O E) (live : TellsLive L C) (old new : Shelf I O E L C) (c : SendCommand) (source spent : I) (was is : List L) (status : Status) : Type 0 where
+pub record SentByClock {I O E L C : Type 0} (tells : Tells I O E) (live : TellsLive L C) (old new : Shelf I O E L C)
+    (c : SendCommand) (source spent : I) (was is : List L) (status : Status) : Type 0 where
   pub clock : C
   pub later : C
   pub sealer : Option SealerState
@@ -74,10 +77,12 @@ pub record SentByClock {I O E L C : Type 0} (tells : Tells I O E) (live : TellsL
   pub drawn : IfSome sealer (DrawnFirst tells old.entropies new.entropies)
   pub sends : SendsAs live.line c sealer
       (record { moments = live.moments clock; octets = tells.remaining source; answers = map live.line.reads was })
-      (record { moments = live.moments later; octets = tells.remaining spent; answers = map live.line.reads is }) was is status
+      (record { moments = live.moments later; octets = tells.remaining spent; answers = map live.line.reads is }) was is
+      status
 
 -- the links of a line were handed out from the first places, in order, a source was sent on them, and they came back
-pub record SentOnLinks {I O E L C : Type 0} (tells : Tells I O E) (live : TellsLive L C) (old new : Shelf I O E L C) (c : SendCommand) (source spent : I) (status : Status) : Type 0 where
+pub record SentOnLinks {I O E L C : Type 0} (tells : Tells I O E) (live : TellsLive L C) (old new : Shelf I O E L C)
+    (c : SendCommand) (source spent : I) (status : Status) : Type 0 where
   pub was : List L
   pub is : List L
   pub count : length was ≡ length c.links
@@ -86,7 +91,8 @@ pub record SentOnLinks {I O E L C : Type 0} (tells : Tells I O E) (live : TellsL
   pub sent : SentByClock tells live old new c source spent was is status
 
 -- a line's source was sent
-pub record Sent {I O E L C : Type 0} (tells : Tells I O E) (live : TellsLive L C) (old new : Shelf I O E L C) (c : SendCommand) (status : Status) : Type 0 where
+pub record Sent {I O E L C : Type 0} (tells : Tells I O E) (live : TellsLive L C) (old new : Shelf I O E L C)
+    (c : SendCommand) (status : Status) : Type 0 where
   pub source : I
   pub spent : I
   pub took : old.sources c.source ≡ Here source

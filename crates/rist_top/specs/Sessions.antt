@@ -4,7 +4,8 @@ use Rattle.seq_unwrap.specs.declared.width.Width.TheVariants.{W16, W32}
 use Rattle.receiver_rules.specs.declared.limits.Limits.{Limits}
 use Rattle.rist_wire.specs.declared.session.Session.{Session}
 use Rattle.psk_seal.specs.Sealer.{SealerState}
-use Rattle.rist_words.specs.CommandLine.{ReplayCommand, CountCommand, PackCommand, SplitCommand, SendCommand, RecvCommand, GateCommand, Receiver, Serving}
+use Rattle.rist_words.specs.CommandLine.{ReplayCommand, CountCommand, PackCommand, SplitCommand, SendCommand}
+use Rattle.rist_words.specs.CommandLine.{RecvCommand, GateCommand, Receiver, Serving}
 use Rattle.rist_pack.specs.declared.settings.PackSettings.{PackSettings}
 use Rattle.rist_words.specs.CommandLine as lines
 use Rattle.rist_ends.specs.Settings.{limits_of, muted_settings}
@@ -110,7 +111,8 @@ steps_kept s = if s.keep == 0 then None else Some s.keep
 abbrev pub kept_steps : RecvCommand → Option ℕ
 kept_steps c = steps_kept c.serving
 
--- what its run is set to, under a sealer where there is one: its steps are told, with that limit or, in turns, with none
+-- what its run is set to, under a sealer where there is one: its steps are told, with that limit or, in turns, with
+-- none
 abbrev pub setup_received : RecvCommand → Option SealerState → ReceiveSetup
 setup_received c sealer = setup_made (settings_received c) (session_read c.session) sealer (kept_steps c) true
 

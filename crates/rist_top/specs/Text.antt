@@ -4,7 +4,9 @@ use Rattle.capture_file.specs.Text.{kind_text}
 use Rattle.pcap_file.specs.Text.{kind_text as pcap_kind_text}
 use Rattle.rist_recv.specs.Text.{tear_text}
 use Rattle.rist_top.specs.declared.status.Status.{Status}
-use Rattle.rist_top.specs.declared.status.Status.TheVariants.{Done, Memory, Usage, OpenFault, ReadFault, WriteFault, BadCapture, EntropyFault, TooLong, LinksDown, TraceFull, Torn, Spent, TurnsSpent, BadPcap}
+use Rattle.rist_top.specs.declared.status.Status.TheVariants.{Done, Memory, Usage, OpenFault, ReadFault, WriteFault}
+use Rattle.rist_top.specs.declared.status.Status.TheVariants.{BadCapture, EntropyFault, TooLong, LinksDown, TraceFull}
+use Rattle.rist_top.specs.declared.status.Status.TheVariants.{Torn, Spent, TurnsSpent, BadPcap}
 
 -- for a bad capture or pcap file the test that fails and the offset, in decimal digits
 abbrev pub text_of : Status → List ℕ

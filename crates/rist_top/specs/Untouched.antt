@@ -17,6 +17,7 @@ pub record Untouched {I O E L C : Type 0} (old new : Shelf I O E L C) (c : Comma
 
 -- Where memory is refused a packing has touched nothing. A walk over a capture has touched nothing, or its sink has
 -- gained exactly what is written of some records at the front.
-abbrev pub LeavesAtMemory : {I O E L C : Type 0} → Tells I O E → Shelf I O E L C → Shelf I O E L C → CommandLine → Type 0
+abbrev pub LeavesAtMemory : {I O E L C : Type 0} → Tells I O E → Shelf I O E L C → Shelf I O E L C → CommandLine
+    → Type 0
 LeavesAtMemory tells old new (Pack c) = Untouched old new (Pack c)
 LeavesAtMemory tells old new c = Untouched old new c ⊎ Ran tells old new c statuses.Memory

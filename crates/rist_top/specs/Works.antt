@@ -18,7 +18,8 @@ use Rattle.rist_pack.specs.Packing.{Packs}
 use Rattle.rist_pack.specs.Capture.{packed_record, nonces_of}
 use Rattle.rist_pack.specs.declared.bad.PackBad.{PackBad}
 use Rattle.rist_pack.specs.declared.bad.PackBad.TheVariants as packs
-use Rattle.rist_words.specs.CommandLine.{CommandLine, Replay, Show, Count, Pack, Split, Send, Recv, Gate, Drill, Session, ReplayCommand, ShowCommand, CountCommand, PackCommand}
+use Rattle.rist_words.specs.CommandLine.{CommandLine, Replay, Show, Count, Pack, Split, Send, Recv, Gate, Drill}
+use Rattle.rist_words.specs.CommandLine.{Session, ReplayCommand, ShowCommand, CountCommand, PackCommand}
 use Rattle.rist_top.specs.Sessions.{session_with, session_read, replay_limits, count_limits, pack_settings}
 use Rattle.rist_top.specs.declared.status.Status.{Status}
 use Rattle.rist_top.specs.declared.status.Status.TheVariants as statuses
@@ -59,7 +60,8 @@ form_of session (Some port) = Pcap session.profile port
 abbrev pub PacksAs : PackCommand → Option SealerState → Passage → Status → Type 0
 PacksAs c sealer p status =
     (end : Result Unit PackBad) × (status ≡ pack_status end)
-    × Packs (packed_record (session_with c.session c.stream.nulls c.stream.wide) (nonces_of sealer) (pack_settings c)) p end
+    × Packs (packed_record (session_with c.session c.stream.nulls c.stream.wide) (nonces_of sealer) (pack_settings c)) p
+    end
 
 -- the sealer of a session: one that has given no pair, exactly where there is a passphrase
 pub record IsFreshFor (s : Session) (sealer : Option SealerState) : Type 0 where
@@ -70,7 +72,8 @@ pub record IsFreshFor (s : Session) (sealer : Option SealerState) : Type 0 where
 -- what a replay of a file of this form leaves
 abbrev pub ReplaysAs : Form → ReplayCommand → Passage → Status → Type 0
 ReplaysAs form c p status =
-    Walks form (released_so_far (session_read c.session) (replay_limits c)) (replayed (session_read c.session) (replay_limits c)) p status
+    Walks form (released_so_far (session_read c.session) (replay_limits c))
+    (replayed (session_read c.session) (replay_limits c)) p status
 
 -- what a replay leaves
 abbrev pub Replays : ReplayCommand → Passage → Status → Type 0
@@ -93,7 +96,8 @@ abbrev pub Counts : CountCommand → Passage → Status → Type 0
 Counts c p status = CountsAs (form_of c.session c.pcap) c p status
 
 -- what a command leaves of its source and its sink, where they tell, and what else is known of the sealer of a packing.
--- A split has several sinks: `Splits` is for it. A sending has no sink: `Sent` is. A simulated run has no source: `DoesDrill` is.
+-- A split has several sinks: `Splits` is for it. A sending has no sink: `Sent` is. A simulated run has no source:
+-- `DoesDrill` is.
 abbrev pub Works : (SealerState → Type 0) → CommandLine → Passage → Status → Type 0
 Works IsKnown (Replay c) p status = Replays c p status
 Works IsKnown (Show c) p status = Shows c p status

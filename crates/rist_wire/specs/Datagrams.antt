@@ -2,7 +2,8 @@
 use Rattle.std.specs.Prelude.{◌≡◌, ℕ, ◌+◌, Bool, true, false, ◌&&◌, List, ◌++◌, ◌==◌, Option, Some, is_some}
 use Rattle.std.specs.Int.{w16, to_be_bytes}
 use Rattle.outside_io.specs.declared.channel.Channel.{Channel}
-use Rattle.outside_io.specs.declared.channel.Channel.TheVariants.{Media as OnMedia, Control as OnControl, Tunnel as OnTunnel}
+use Rattle.outside_io.specs.declared.channel.Channel.TheVariants.{Media as OnMedia, Control as OnControl}
+use Rattle.outside_io.specs.declared.channel.Channel.TheVariants.{Tunnel as OnTunnel}
 use Rattle.gre_tunnel.specs.declared.tunnel.Tunnel.{Tunnel}
 use Rattle.gre_tunnel.specs.Gre.{Header, keepalive_protocol, datagram_protocol, full_protocol, spelling as gre_spelling}
 use Rattle.gre_tunnel.specs.Writing.{header_with, ignored_with}
@@ -14,7 +15,8 @@ use Rattle.outside_io.specs.declared.profile.Profile.{Profile}
 use Rattle.outside_io.specs.declared.profile.Profile.TheVariants.{Simple, Main}
 use Rattle.rist_wire.specs.declared.session.Session.{Session}
 use Rattle.rist_wire.specs.declared.item.Kind.{Kind}
-use Rattle.rist_wire.specs.declared.item.Kind.TheVariants.{Media as MediaKind, Control as ControlKind, Keepalive as KeepaliveKind}
+use Rattle.rist_wire.specs.declared.item.Kind.TheVariants.{Media as MediaKind, Control as ControlKind}
+use Rattle.rist_wire.specs.declared.item.Kind.TheVariants.{Keepalive as KeepaliveKind}
 use Rattle.rist_wire.specs.Cipher.{ciphered_by}
 use Rattle.rist_wire.specs.Sealed.{IsSealed}
 use Rattle.rist_wire.specs.Writing.{nonce_of, sequence_of}
@@ -105,8 +107,8 @@ datagram_of session pair kind octets = datagram_on session.profile session pair 
 
 -- The datagram of a message on its channel, which is read back as that message. In a session with a passphrase it is
 -- enciphered under the pair.
-pub record IsDatagram (session : Session) (pair : Option Pair) (kind : Kind) (message : List ℕ)
-    (way : Channel) (datagram : List ℕ) : Type 0 where
+pub record IsDatagram (session : Session) (pair : Option Pair) (kind : Kind) (message : List ℕ) (way : Channel)
+    (datagram : List ℕ) : Type 0 where
   pub channel : way ≡ channel_of session kind
   pub octets : datagram ≡ datagram_of session pair kind message
   pub item : item_of session way datagram ≡ item_by session.tunnel kind message

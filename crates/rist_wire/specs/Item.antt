@@ -1,7 +1,8 @@
 -- The item of a datagram in a session, or the first test that fails.
 use Rattle.std.specs.Prelude.{ℕ, List, Result, Ok, Err}
 use Rattle.outside_io.specs.declared.channel.Channel.{Channel}
-use Rattle.outside_io.specs.declared.channel.Channel.TheVariants.{Media as OnMedia, Control as OnControl, Tunnel as OnTunnel}
+use Rattle.outside_io.specs.declared.channel.Channel.TheVariants.{Media as OnMedia, Control as OnControl}
+use Rattle.outside_io.specs.declared.channel.Channel.TheVariants.{Tunnel as OnTunnel}
 use Rattle.gre_tunnel.specs.declared.tunnel.Tunnel.{Tunnel}
 use Rattle.gre_tunnel.specs.Reading.{reading_of as gre_reading_of}
 use Rattle.outside_io.specs.declared.profile.Profile.{Profile}

@@ -17,11 +17,14 @@ use Rattle.rist_ext.specs.Reading.{reading_of as extension_reading_of}
 use Rattle.rist_ext.specs.Counted.{counted_reading_of}
 use Rattle.ts_nulls.specs.declared.nulls.NullBad.TheVariants.{Shape as BadShape}
 use Rattle.rist_wire.specs.declared.bad.WireBad.{WireBad}
-use Rattle.rist_wire.specs.declared.bad.WireBad.TheVariants.{Keepalive as NoKeepalive, Rtp as NoRtp, Rtcp as NoRtcp, Ext as NoExt, Nulls as NoNulls}
+use Rattle.rist_wire.specs.declared.bad.WireBad.TheVariants.{Keepalive as NoKeepalive, Rtp as NoRtp, Rtcp as NoRtcp}
+use Rattle.rist_wire.specs.declared.bad.WireBad.TheVariants.{Ext as NoExt, Nulls as NoNulls}
 use Rattle.rist_wire.specs.declared.item.Item.{Item}
-use Rattle.rist_wire.specs.declared.item.Item.TheVariants.{Media as MediaItem, Control as ControlItem, Keepalive as KeepaliveItem}
+use Rattle.rist_wire.specs.declared.item.Item.TheVariants.{Media as MediaItem, Control as ControlItem}
+use Rattle.rist_wire.specs.declared.item.Item.TheVariants.{Keepalive as KeepaliveItem}
 use Rattle.rist_wire.specs.declared.item.Kind.{Kind}
-use Rattle.rist_wire.specs.declared.item.Kind.TheVariants.{Media as MediaKind, Control as ControlKind, Keepalive as KeepaliveKind}
+use Rattle.rist_wire.specs.declared.item.Kind.TheVariants.{Media as MediaKind, Control as ControlKind}
+use Rattle.rist_wire.specs.declared.item.Kind.TheVariants.{Keepalive as KeepaliveKind}
 use Rattle.rist_wire.specs.Media.{MediaValue, can_restore, is_again, width_by, word_by}
 
 -- a message without the headers of the tunnel

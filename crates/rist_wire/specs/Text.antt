@@ -8,7 +8,8 @@ use Rattle.rtcp_compound.specs.Text.{text_of as rtcp_text_of}
 use Rattle.rist_ext.specs.Text.{text_of as extension_text_of}
 use Rattle.ts_nulls.specs.Text.{text_of as nulls_text_of}
 use Rattle.rist_wire.specs.declared.bad.WireBad.{WireBad}
-use Rattle.rist_wire.specs.declared.bad.WireBad.TheVariants.{Channel, Gre, Sealed, Clear, Keepalive, Stub, Ip, Port, Rtp, Rtcp, Ext, Nulls}
+use Rattle.rist_wire.specs.declared.bad.WireBad.TheVariants.{Channel, Gre, Sealed, Clear, Keepalive, Stub, Ip, Port}
+use Rattle.rist_wire.specs.declared.bad.WireBad.TheVariants.{Rtp, Rtcp, Ext, Nulls}
 
 -- the text of the test that fails
 abbrev pub text_of : WireBad → List ℕ

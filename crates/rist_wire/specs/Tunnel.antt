@@ -1,5 +1,6 @@
 -- Datagrams of the tunnel (this profile): the message of one, or the first test that fails.
-use Rattle.std.specs.Prelude.{ℕ, ◌+◌, ◌-◌, ◌≤◌, Bool, ◌&&◌, not, List, ◌++◌, length, take, drop, if◌then◌else◌, ◌==◌, nat_lt, Option, Some, None, is_some, Result, Ok, Err}
+use Rattle.std.specs.Prelude.{ℕ, ◌+◌, ◌-◌, ◌≤◌, Bool, ◌&&◌, not, List, ◌++◌, length, take, drop, if◌then◌else◌, ◌==◌}
+use Rattle.std.specs.Prelude.{nat_lt, Option, Some, None, is_some, Result, Ok, Err}
 use Rattle.std.specs.Int.{w16, from_be_bytes}
 use Rattle.gre_tunnel.specs.declared.gre.Gre.{Gre}
 use Rattle.gre_tunnel.specs.declared.gre.GreBad.{GreBad}
@@ -12,7 +13,8 @@ use Rattle.rist_wire.specs.declared.session.Session.{Session}
 use Rattle.rist_wire.specs.declared.bad.WireBad.{WireBad}
 use Rattle.rist_wire.specs.declared.bad.WireBad.TheVariants.{Clear, Sealed, Stub, Port, Gre as NoGre, Ip as NoIp}
 use Rattle.rist_wire.specs.declared.item.Kind.{Kind}
-use Rattle.rist_wire.specs.declared.item.Kind.TheVariants.{Media as MediaKind, Control as ControlKind, Keepalive as KeepaliveKind}
+use Rattle.rist_wire.specs.declared.item.Kind.TheVariants.{Media as MediaKind, Control as ControlKind}
+use Rattle.rist_wire.specs.declared.item.Kind.TheVariants.{Keepalive as KeepaliveKind}
 use Rattle.rist_wire.specs.declared.item.Part.{Part}
 use Rattle.rist_wire.specs.Cipher.{ciphered_by}
 use Rattle.rist_wire.specs.Messages.{Message}
@@ -93,5 +95,6 @@ pub record LiesIn (part : Part) (octets : List ℕ) : Type 0 where
 
 -- the message that lies in this part of the datagram
 abbrev pub message_at : List ℕ → Result Part WireBad → Result Message WireBad
-message_at octets (Ok part) = Ok (record { kind = part.kind; octets = take (part.end - part.from) (drop part.from octets) })
+message_at octets (Ok part) =
+    Ok (record { kind = part.kind; octets = take (part.end - part.from) (drop part.from octets) })
 message_at octets (Err bad) = Err bad

@@ -1,6 +1,7 @@
 -- What a command line is: the command with all its values, where the words are taken and each value reads (this
 -- profile).
-use Rattle.std.specs.Prelude.{Bool, true, false, not, ◌&&◌, ℕ, List, [], ◌∷◌, length, Option, Some, None, slice_index, slice_index_or, is_none, is_some, option_and_then, option_map, if◌then◌else◌, codes}
+use Rattle.std.specs.Prelude.{Bool, true, false, not, ◌&&◌, ℕ, List, [], ◌∷◌, length, Option, Some, None, slice_index}
+use Rattle.std.specs.Prelude.{slice_index_or, is_none, is_some, option_and_then, option_map, if◌then◌else◌, codes}
 use Rattle.std.specs.Str.{bytes_eq}
 use Rattle.clap.specs.Words.{Kinds, Row, Text, all_of, first_of}
 use Rattle.gre_tunnel.specs.declared.tunnel.Tunnel.{Tunnel}
@@ -10,7 +11,8 @@ use Rattle.rist_words.specs.declared.values.Numbers.{Numbers}
 use Rattle.rist_words.specs.Commands.{SessionNames, faults_of, command_in, incoming_names, session_names}
 use Rattle.outside_net.specs.declared.link_spec.LinkSpec.{LinkSpec}
 use Rattle.request_rules.specs.declared.policy.NackKind.{NackKind}
-use Rattle.rist_words.specs.Values.{echo_of, flag_of, is_set, nack_of, name_of, number_at, number_in, number_of, phrase_of, profile_of, tunnel_of, ◌>>=◌}
+use Rattle.rist_words.specs.Values.{echo_of, flag_of, is_set, nack_of, name_of, number_at, number_in, number_of}
+use Rattle.rist_words.specs.Values.{phrase_of, profile_of, tunnel_of, ◌>>=◌}
 use Rattle.rist_words.specs.Links.{gate_links_of, link_ports, links_of, shares_of}
 use Rattle.rist_words.specs.Outs.{outs_of}
 pub use Rattle.rist_words.specs.Outs.{ports}
@@ -72,8 +74,8 @@ pub record PackCommand : Type 0 where
   pub stream : Stream
   pub gap : ℕ
 
--- a split of a capture of a tunnel: the port and the name of each output, in their order; the session that all have but for
--- the port, which is that of the first output; and the rest as of a replay
+-- a split of a capture of a tunnel: the port and the name of each output, in their order; the session that all have but
+-- for the port, which is that of the first output; and the rest as of a replay
 pub record SplitCommand : Type 0 where
   pub capture : Text
   pub ports : List ℕ
@@ -85,9 +87,9 @@ pub record SplitCommand : Type 0 where
   pub drift : Bool
   pub pcap : Option ℕ
 
--- a stream sent on links: the time between two datagrams in microseconds; the time before the first one, how many packets
--- are stored, and for how many milliseconds none is sent again; the links' weights, where they share the stream; for how
--- many milliseconds requests are answered after the source's end; how many turns are made at most
+-- a stream sent on links: the time between two datagrams in microseconds; the time before the first one, how many
+-- packets are stored, and for how many milliseconds none is sent again; the links' weights, where they share the
+-- stream; for how many milliseconds requests are answered after the source's end; how many turns are made at most
 pub record SendCommand : Type 0 where
   pub source : Text
   pub links : List LinkSpec
@@ -101,10 +103,10 @@ pub record SendCommand : Type 0 where
   pub linger : ℕ
   pub turns : ℕ
 
--- what a receiver is set to: the playout delay in milliseconds, the buffer's capacity in packets and the restart time in
--- milliseconds, 0 for never; whether deadlines follow a clock that drifts; for how many milliseconds a
--- packet may be missing before it is asked for, the least number of them between two requests for it, how often it is asked for
--- at most, how requests are written, and the receiver's own SSRC
+-- what a receiver is set to: the playout delay in milliseconds, the buffer's capacity in packets and the restart time
+-- in milliseconds, 0 for never; whether deadlines follow a clock that drifts; for how many milliseconds a packet may be
+-- missing before it is asked for, the least number of them between two requests for it, how often it is asked for at
+-- most, how requests are written, and the receiver's own SSRC
 pub record Receiver : Type 0 where
   pub delay : ℕ
   pub span : ℕ
@@ -146,8 +148,8 @@ pub record GateCommand : Type 0 where
   pub hold : ℕ
   pub share : Option (List ℕ)
 
--- a simulated run of a sender and a receiver: the number from which the network's words are drawn, how many payloads are
--- sent, on how many links, and in how many of a thousand cases a datagram is lost
+-- a simulated run of a sender and a receiver: the number from which the network's words are drawn, how many payloads
+-- are sent, on how many links, and in how many of a thousand cases a datagram is lost
 pub record DrillCommand : Type 0 where
   pub number : ℕ
   pub count : ℕ
@@ -282,7 +284,8 @@ session_of rows = session_named session_names (is_set (first_of (codes "echo") r
 abbrev pub are_unset : SessionNames → List Row → Bool
 are_unset names rows =
     is_none (first_of names.port rows) && (is_none (first_of names.pass rows)
-    && (is_none (first_of names.bits rows) && (not (is_set (first_of names.full rows)) && is_none (first_of names.tunnel rows))))
+    && (is_none (first_of names.bits rows)
+    && (not (is_set (first_of names.full rows)) && is_none (first_of names.tunnel rows))))
 
 -- The session of the links that a gateway receives on. Where its profile is given its options say it, and as in a
 -- receiving no flag asks for the round-trip time; else none of them is given, and it is the session of the other links.
@@ -297,7 +300,15 @@ tunnel_session_of port rows = do
   pass ← phrase_of Main (first_of session_names.pass rows)
   bits ← number_of key_bits (first_of session_names.bits rows)
   tunnel ← tunnel_of Main (first_of session_names.tunnel rows)
-  Some (record { profile = Main; port = port; pass = pass; bits = bits; full = false; tunnel = tunnel; echo = echo_of tunnel false })
+  Some (record {
+    profile = Main;
+    port = port;
+    pass = pass;
+    bits = bits;
+    full = false;
+    tunnel = tunnel;
+    echo = echo_of tunnel false;
+  })
 
 -- the UDP port of a pcap file's datagrams: `--pcap` and `--udp` are given both or neither
 abbrev pub pcap_with : Profile → Bool → Option Text → Option (Option ℕ)
@@ -320,7 +331,16 @@ replay_of rows = do
   span ← number_of spans (first_of (codes "span") rows)
   restart ← number_of restarts (first_of (codes "restart") rows)
   pcap ← pcap_of session.profile rows
-  Some (record { capture = capture; out = out; session = session; delay = delay; span = span; restart = restart; drift = is_set (first_of (codes "drift") rows); pcap = pcap })
+  Some (record {
+    capture = capture;
+    out = out;
+    session = session;
+    delay = delay;
+    span = span;
+    restart = restart;
+    drift = is_set (first_of (codes "drift") rows);
+    pcap = pcap;
+  })
 
 -- the values of a counting
 abbrev pub count_of : List Row → Option CountCommand
@@ -331,7 +351,15 @@ count_of rows = do
   span ← number_of spans (first_of (codes "span") rows)
   restart ← number_of restarts (first_of (codes "restart") rows)
   pcap ← pcap_of session.profile rows
-  Some (record { capture = capture; session = session; delay = delay; span = span; restart = restart; drift = is_set (first_of (codes "drift") rows); pcap = pcap })
+  Some (record {
+    capture = capture;
+    session = session;
+    delay = delay;
+    span = span;
+    restart = restart;
+    drift = is_set (first_of (codes "drift") rows);
+    pcap = pcap;
+  })
 
 -- the values of a showing
 abbrev pub show_of : List Row → Option ShowCommand
@@ -410,7 +438,19 @@ send_of rows = do
   share ← shares_of (length links) (first_of (codes "share") rows)
   linger ← number_of lingers (first_of (codes "linger") rows)
   turns ← number_of turn_counts (first_of (codes "turns") rows)
-  Some (record { source = source; links = links; session = session; stream = stream; gap = gap; lead = lead; store = store; hold = hold; share = share; linger = linger; turns = turns })
+  Some (record {
+    source = source;
+    links = links;
+    session = session;
+    stream = stream;
+    gap = gap;
+    lead = lead;
+    store = store;
+    hold = hold;
+    share = share;
+    linger = linger;
+    turns = turns;
+  })
 
 -- what a command's values set a receiver to
 abbrev pub receiver_of : List Row → Option Receiver
@@ -423,7 +463,17 @@ receiver_of rows = do
   tries ← number_of retry_counts (first_of (codes "tries") rows)
   nack ← nack_of (first_of (codes "nack") rows)
   own ← number_of own_ssrcs (first_of (codes "own") rows)
-  Some (record { delay = delay; span = span; restart = restart; drift = is_set (first_of (codes "drift") rows); reorder = reorder; least = least; tries = tries; nack = nack; own = own })
+  Some (record {
+    delay = delay;
+    span = span;
+    restart = restart;
+    drift = is_set (first_of (codes "drift") rows);
+    reorder = reorder;
+    least = least;
+    tries = tries;
+    nack = nack;
+    own = own;
+  })
 
 -- the run that a command's values give
 abbrev pub serving_of : List Row → Option Serving

@@ -1,6 +1,7 @@
 -- The commands of the program with their options and positions (this profile), as the command line parser takes them.
 use Rattle.std.specs.Prelude.{true, List, [], ◌∷◌, Option, Some, fold, codes}
-use Rattle.clap.specs.Words.{App, Kinds, Row, Rule, Text, fault_of, new_app, new_rule, subcommand_of, with_rule, with_subcommand}
+use Rattle.clap.specs.Words.{App, Kinds, Row, Rule, Text, fault_of, new_app, new_rule, subcommand_of, with_rule}
+use Rattle.clap.specs.Words.{with_subcommand}
 use Rattle.clap.specs.declared.builder.ArgAction.TheVariants.{Append, Set, SetTrue}
 use Rattle.rist_words.specs.declared.command.Kind.{Kind}
 use Rattle.rist_words.specs.declared.command.Kind.TheVariants.{Flag, Position, Positions, Valued}
@@ -29,7 +30,15 @@ pub record SessionNames : Type 0 where
 
 -- those of each command that speaks of a session
 abbrev pub session_names : SessionNames
-session_names = record { profile = codes "profile"; port = codes "port"; pass = codes "pass"; bits = codes "bits"; full = codes "full"; tunnel = codes "tunnel" }
+session_names =
+    record {
+      profile = codes "profile";
+      port = codes "port";
+      pass = codes "pass";
+      bits = codes "bits";
+      full = codes "full";
+      tunnel = codes "tunnel";
+    }
 
 -- those of the links that a gateway receives on
 abbrev pub incoming_names : SessionNames
@@ -44,15 +53,20 @@ incoming_names = record {
 
 -- a command that speaks of a session
 abbrev pub session_app : Text → App
-session_app name = with_rules Valued (new_app name) (codes "profile" ∷ codes "port" ∷ codes "pass" ∷ codes "bits" ∷ codes "tunnel" ∷ [])
+session_app name =
+    with_rules Valued (new_app name)
+    (codes "profile" ∷ codes "port" ∷ codes "pass" ∷ codes "bits" ∷ codes "tunnel" ∷ [])
 
 -- the command with these options, flags and positions
 abbrev pub with_arguments : App → List Text → List Text → List Text → App
-with_arguments app options flags positions = with_rules Position (with_rules Flag (with_rules Valued app options) flags) positions
+with_arguments app options flags positions =
+    with_rules Position (with_rules Flag (with_rules Valued app options) flags) positions
 
 -- a replay: its options beside the session's, its flags and its positions
 abbrev pub replay_app : App
-replay_app = with_arguments (session_app (codes "replay")) (codes "delay" ∷ codes "span" ∷ codes "restart" ∷ codes "udp" ∷ []) (codes "pcap" ∷ codes "drift" ∷ [])
+replay_app =
+    with_arguments (session_app (codes "replay")) (codes "delay" ∷ codes "span" ∷ codes "restart" ∷ codes "udp" ∷ [])
+    (codes "pcap" ∷ codes "drift" ∷ [])
     (codes "capture" ∷ codes "out" ∷ [])
 
 -- a showing: its option, its flag and its position
@@ -61,54 +75,72 @@ show_app = with_arguments (session_app (codes "show")) (codes "udp" ∷ []) (cod
 
 -- a counting: its options, its flag and its position
 abbrev pub count_app : App
-count_app = with_arguments (session_app (codes "count")) (codes "delay" ∷ codes "span" ∷ codes "restart" ∷ codes "udp" ∷ []) (codes "pcap" ∷ codes "drift" ∷ []) (codes "capture" ∷ [])
+count_app =
+    with_arguments (session_app (codes "count")) (codes "delay" ∷ codes "span" ∷ codes "restart" ∷ codes "udp" ∷ [])
+    (codes "pcap" ∷ codes "drift" ∷ []) (codes "capture" ∷ [])
 
 -- a packing: its options, its flags and its positions
 abbrev pub pack_app : App
-pack_app = with_arguments (session_app (codes "pack")) (codes "flow" ∷ codes "first" ∷ codes "gap" ∷ []) (codes "nulls" ∷ codes "wide" ∷ codes "full" ∷ [])
+pack_app =
+    with_arguments (session_app (codes "pack")) (codes "flow" ∷ codes "first" ∷ codes "gap" ∷ [])
+    (codes "nulls" ∷ codes "wide" ∷ codes "full" ∷ [])
     (codes "source" ∷ codes "capture" ∷ [])
 
--- a split, which is always in the Main Profile and has the ports of its outputs: its options, its flags and its positions
+-- a split, which is always in the Main Profile and has the ports of its outputs: its options, its flags and its
+-- positions
 abbrev pub split_app : App
-split_app = with_arguments (with_rules Valued (new_app (codes "split")) (codes "pass" ∷ codes "bits" ∷ codes "tunnel" ∷ []))
-    (codes "delay" ∷ codes "span" ∷ codes "restart" ∷ codes "udp" ∷ []) (codes "pcap" ∷ codes "drift" ∷ []) (codes "capture" ∷ codes "outs" ∷ [])
+split_app =
+    with_arguments (with_rules Valued (new_app (codes "split")) (codes "pass" ∷ codes "bits" ∷ codes "tunnel" ∷ []))
+    (codes "delay" ∷ codes "span" ∷ codes "restart" ∷ codes "udp" ∷ []) (codes "pcap" ∷ codes "drift" ∷ [])
+    (codes "capture" ∷ codes "outs" ∷ [])
 
 -- a sending: its options, its flags and its positions, of which the last takes one link or more
 abbrev pub send_app : App
 send_app = with_rules Positions (with_arguments (session_app (codes "send"))
-    (codes "flow" ∷ codes "first" ∷ codes "gap" ∷ codes "lead" ∷ codes "store" ∷ codes "hold" ∷ codes "share" ∷ codes "linger" ∷ codes "turns" ∷ [])
+    (codes "flow" ∷ codes "first" ∷ codes "gap" ∷ codes "lead" ∷ codes "store" ∷ codes "hold" ∷ codes "share"
+    ∷ codes "linger" ∷ codes "turns" ∷ [])
     (codes "nulls" ∷ codes "wide" ∷ codes "full" ∷ codes "echo" ∷ []) (codes "source" ∷ [])) (codes "link" ∷ [])
 
 -- the options of a receiver and of its run
 abbrev pub receiver_options : List Text
 receiver_options =
-    codes "delay" ∷ codes "span" ∷ codes "restart" ∷ codes "reorder" ∷ codes "least" ∷ codes "tries" ∷ codes "nack" ∷ codes "own" ∷ codes "turns"
+    codes "delay" ∷ codes "span" ∷ codes "restart" ∷ codes "reorder" ∷ codes "least" ∷ codes "tries" ∷ codes "nack"
+    ∷ codes "own" ∷ codes "turns"
     ∷ codes "idle" ∷ codes "keep" ∷ []
 
 -- a receiving: its options, its flags and its positions, of which the last takes one link or more
 abbrev pub recv_app : App
-recv_app = with_rules Positions (with_arguments (session_app (codes "recv")) receiver_options (codes "full" ∷ codes "drift" ∷ []) (codes "out" ∷ [])) (codes "link" ∷ [])
+recv_app =
+    with_rules Positions (with_arguments (session_app (codes "recv")) receiver_options
+    (codes "full" ∷ codes "drift" ∷ []) (codes "out" ∷ [])) (codes "link" ∷ [])
 
 -- a gateway: a receiver's options, its own, its flags and its links. The session of the links that are received on has
 -- options and a flag of its own
 abbrev pub gate_app : App
 gate_app = with_rules Positions (with_arguments (with_rules Valued (session_app (codes "gate")) receiver_options)
-    (codes "flow" ∷ codes "first" ∷ codes "store" ∷ codes "hold" ∷ codes "share" ∷ codes "in" ∷ codes "in-profile" ∷ codes "in-port" ∷ codes "in-pass"
+    (codes "flow" ∷ codes "first" ∷ codes "store" ∷ codes "hold" ∷ codes "share" ∷ codes "in" ∷ codes "in-profile"
+    ∷ codes "in-port" ∷ codes "in-pass"
     ∷ codes "in-bits" ∷ codes "in-tunnel" ∷ [])
-    (codes "nulls" ∷ codes "wide" ∷ codes "full" ∷ codes "drift" ∷ codes "echo" ∷ codes "in-full" ∷ []) []) (codes "link" ∷ [])
+    (codes "nulls" ∷ codes "wide" ∷ codes "full" ∷ codes "drift" ∷ codes "echo" ∷ codes "in-full" ∷ []) [])
+    (codes "link" ∷ [])
 
 -- a simulated run: four positions, and neither options nor flags
 abbrev pub drill_app : App
-drill_app = with_rules Position (new_app (codes "drill")) (codes "number" ∷ codes "count" ∷ codes "links" ∷ codes "loss" ∷ [])
+drill_app =
+    with_rules Position (new_app (codes "drill")) (codes "number" ∷ codes "count" ∷ codes "links" ∷ codes "loss" ∷ [])
 
 -- the commands over files
 abbrev pub files_app : App
-files_app = with_subcommand (with_subcommand (with_subcommand (with_subcommand (with_subcommand (new_app (codes "rist")) replay_app.top) show_app.top)
+files_app =
+    with_subcommand (with_subcommand
+    (with_subcommand (with_subcommand (with_subcommand (new_app (codes "rist")) replay_app.top) show_app.top)
     count_app.top) pack_app.top) split_app.top
 
 -- the program: those, the commands over links, and the simulated run
 abbrev pub rist_app : App
-rist_app = with_subcommand (with_subcommand (with_subcommand (with_subcommand files_app send_app.top) recv_app.top) gate_app.top) drill_app.top
+rist_app =
+    with_subcommand (with_subcommand (with_subcommand (with_subcommand files_app send_app.top) recv_app.top)
+    gate_app.top) drill_app.top
 
 -- what stands against taking the words, the program's name first; where nothing does, they are taken
 unfoldable pub faults_of : List Text → Kinds

@@ -1,5 +1,6 @@
 -- How links, and the weights by which they share a stream, are written on a command line (this profile).
-use Rattle.std.specs.Prelude.{ℕ, ◌-◌, zero, suc, List, [], ◌∷◌, length, take, drop, nat_lt, ◌&&◌, ◌==◌, if◌then◌else◌, Option, Some, None, option_map}
+use Rattle.std.specs.Prelude.{ℕ, ◌-◌, zero, suc, List, [], ◌∷◌, length, take, drop, nat_lt, ◌&&◌, ◌==◌, if◌then◌else◌}
+use Rattle.std.specs.Prelude.{Option, Some, None, option_map}
 use Rattle.std.specs.List.{before_first, after_first, position_or_len}
 use Rattle.clap.specs.Words.{Text}
 use Rattle.outside_io.specs.declared.profile.Profile.{Profile}
@@ -26,8 +27,8 @@ dot = 46
 abbrev pub address_numbers : Numbers
 address_numbers = record { default = 0; least = 0; most = 255; multiple_of = 1 }
 
--- a UDP port of a link, or of the datagrams in a pcap file. In the Simple Profile it is that of media, an even one, and the next is
--- that of control (VSF TR-06-1)
+-- a UDP port of a link, or of the datagrams in a pcap file. In the Simple Profile it is that of media, an even one, and
+-- the next is that of control (VSF TR-06-1)
 abbrev pub link_ports : Profile → Numbers
 link_ports Simple = record { default = 2; least = 2; most = 65534; multiple_of = 2 }
 link_ports Main = record { default = 1; least = 1; most = 65535; multiple_of = 1 }

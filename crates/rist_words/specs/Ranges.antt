@@ -1,11 +1,16 @@
 -- The ranges and combinations of a line's values (this profile).
-use Rattle.std.specs.Prelude.{◌≡◌, ◌⊎◌, ℕ, [], ◌+◌, ◌%◌, ◌^◌, ◌<◌, ◌≤◌, false, None, IfSome, length, slice_index, slice_index_or}
+use Rattle.std.specs.Prelude.{◌≡◌, ◌⊎◌, ℕ, [], ◌+◌, ◌%◌, ◌^◌, ◌<◌, ◌≤◌, false, None, IfSome, length, slice_index}
+use Rattle.std.specs.Prelude.{slice_index_or}
 use Rattle.std.specs.List.{All}
 use Rattle.gre_tunnel.specs.declared.tunnel.Tunnel.TheVariants.{Own}
 use Rattle.outside_io.specs.declared.profile.Profile.{Profile}
 use Rattle.outside_io.specs.declared.profile.Profile.TheVariants.{Simple, Main}
-use Rattle.rist_words.specs.CommandLine.{CommandLine, Replay, Show, Count, Pack, Split, Send, Recv, Gate, Drill, Session, Stream, Receiver, Serving, ReplayCommand, ShowCommand, CountCommand, PackCommand, SplitCommand, SendCommand, RecvCommand, GateCommand, DrillCommand}
-use Rattle.rist_words.specs.CommandLine.{delays, spans, restarts, gaps, leads, stores, holds, lingers, turn_counts, reorders, retry_times, retry_counts, idle_times, kept_counts, drill_counts, drill_links, drill_losses}
+use Rattle.rist_words.specs.CommandLine.{CommandLine, Replay, Show, Count, Pack, Split, Send, Recv, Gate, Drill}
+use Rattle.rist_words.specs.CommandLine.{Session, Stream, Receiver, Serving, ReplayCommand, ShowCommand, CountCommand}
+use Rattle.rist_words.specs.CommandLine.{PackCommand, SplitCommand, SendCommand, RecvCommand, GateCommand, DrillCommand}
+use Rattle.rist_words.specs.CommandLine.{delays, spans, restarts, gaps, leads, stores, holds, lingers, turn_counts}
+use Rattle.rist_words.specs.CommandLine.{reorders, retry_times, retry_counts, idle_times, kept_counts, drill_counts}
+use Rattle.rist_words.specs.CommandLine.{drill_links, drill_losses}
 use Rattle.rist_words.specs.Links.{link_weights}
 use Rattle.rist_words.specs.Outs.{ports}
 
@@ -78,9 +83,11 @@ pub record IsInSplit (c : SplitCommand) : Type 0 where
   pub even : (k : ℕ) → k < length c.ports → slice_index c.ports k % 2 ≡ 0
   pub low : (k : ℕ) → k < length c.ports → ports.least ≤ slice_index c.ports k
   pub high : (k : ℕ) → k < length c.ports → slice_index c.ports k ≤ ports.most
-  pub different : (j k : ℕ) → j < length c.ports → k < length c.ports → slice_index c.ports j ≡ slice_index c.ports k → j ≡ k
+  pub different : (j k : ℕ) → j < length c.ports → k < length c.ports → slice_index c.ports j ≡ slice_index c.ports k
+      → j ≡ k
   pub named : (k : ℕ) → k < length c.names → 1 ≤ length (slice_index_or c.names k [])
-  pub apart : (j k : ℕ) → j < length c.names → k < length c.names → slice_index_or c.names j [] ≡ slice_index_or c.names k [] → j ≡ k
+  pub apart : (j k : ℕ) → j < length c.names → k < length c.names
+      → slice_index_or c.names j [] ≡ slice_index_or c.names k [] → j ≡ k
   pub some_delay : delays.least ≤ c.delay
   pub delay : c.delay ≤ delays.most
   pub some_span : spans.least ≤ c.span

@@ -17,19 +17,48 @@ use Rattle.rist_words.specs.declared.lines.GateLine.{GateLine}
 use Rattle.rist_words.specs.declared.lines.DrillLine.{DrillLine}
 use Rattle.rist_words.specs.declared.session.SessionOptions.{SessionOptions}
 use Rattle.rist_words.specs.Commands.{SessionNames}
-use Rattle.rist_words.specs.CommandLine.{CommandLine, Replay, Show, Count, Pack, Split, Send, Recv, Gate, Drill, Session, Stream, Receiver, Serving, ReplayCommand, ShowCommand, CountCommand, PackCommand, SplitCommand, SendCommand, RecvCommand, GateCommand, DrillCommand}
+use Rattle.rist_words.specs.CommandLine.{CommandLine, Replay, Show, Count, Pack, Split, Send, Recv, Gate, Drill}
+use Rattle.rist_words.specs.CommandLine.{Session, Stream, Receiver, Serving, ReplayCommand, ShowCommand, CountCommand}
+use Rattle.rist_words.specs.CommandLine.{PackCommand, SplitCommand, SendCommand, RecvCommand, GateCommand, DrillCommand}
 
 -- the names of a session's options
 abbrev pub shown_names : SessionOptions → SessionNames
-shown_names o = record { profile = o.profile.now; port = o.port.now; pass = o.pass.now; bits = o.bits.now; full = o.full.now; tunnel = o.tunnel.now }
+shown_names o =
+    record {
+      profile = o.profile.now;
+      port = o.port.now;
+      pass = o.pass.now;
+      bits = o.bits.now;
+      full = o.full.now;
+      tunnel = o.tunnel.now;
+    }
 
 -- the session of a line
 abbrev pub shown_session : SessionWords → Session
-shown_session s = record { profile = s.profile; port = s.port; pass = option_map (λ p. p.now) s.pass; bits = s.bits; full = s.full; tunnel = s.tunnel; echo = s.echo }
+shown_session s =
+    record {
+      profile = s.profile;
+      port = s.port;
+      pass = option_map (λ p. p.now) s.pass;
+      bits = s.bits;
+      full = s.full;
+      tunnel = s.tunnel;
+      echo = s.echo;
+    }
 
 -- the replay that a line says
 abbrev pub shown_replay : ReplayLine → ReplayCommand
-shown_replay l = record { capture = l.capture.now; out = l.out.now; session = shown_session l.session; delay = l.delay; span = l.span; restart = l.restart; drift = l.drift; pcap = l.pcap }
+shown_replay l =
+    record {
+      capture = l.capture.now;
+      out = l.out.now;
+      session = shown_session l.session;
+      delay = l.delay;
+      span = l.span;
+      restart = l.restart;
+      drift = l.drift;
+      pcap = l.pcap;
+    }
 
 -- the showing that a line says
 abbrev pub shown_show : ShowLine → ShowCommand
@@ -37,7 +66,16 @@ shown_show l = record { capture = l.capture.now; session = shown_session l.sessi
 
 -- the counting that a line says
 abbrev pub shown_count : CountLine → CountCommand
-shown_count l = record { capture = l.capture.now; session = shown_session l.session; delay = l.delay; span = l.span; restart = l.restart; drift = l.drift; pcap = l.pcap }
+shown_count l =
+    record {
+      capture = l.capture.now;
+      session = shown_session l.session;
+      delay = l.delay;
+      span = l.span;
+      restart = l.restart;
+      drift = l.drift;
+      pcap = l.pcap;
+    }
 
 -- the stream of a line
 abbrev pub shown_stream : StreamWords → Stream
@@ -45,7 +83,14 @@ shown_stream s = record { nulls = s.nulls; wide = s.wide; flow = s.flow; first =
 
 -- the packing that a line says
 abbrev pub shown_pack : PackLine → PackCommand
-shown_pack l = record { source = l.source.now; capture = l.capture.now; session = shown_session l.session; stream = shown_stream l.stream; gap = l.gap }
+shown_pack l =
+    record {
+      source = l.source.now;
+      capture = l.capture.now;
+      session = shown_session l.session;
+      stream = shown_stream l.stream;
+      gap = l.gap;
+    }
 
 -- the split that a line says
 abbrev pub shown_split : SplitLine → SplitCommand
@@ -79,7 +124,18 @@ shown_send l = record {
 
 -- what a line sets its receiver to
 abbrev pub shown_receiver : ReceiverWords → Receiver
-shown_receiver r = record { delay = r.delay; span = r.span; restart = r.restart; drift = r.drift; reorder = r.reorder; least = r.least; tries = r.tries; nack = r.nack; own = r.own }
+shown_receiver r =
+    record {
+      delay = r.delay;
+      span = r.span;
+      restart = r.restart;
+      drift = r.drift;
+      reorder = r.reorder;
+      least = r.least;
+      tries = r.tries;
+      nack = r.nack;
+      own = r.own;
+    }
 
 -- the run of a line's receiver
 abbrev pub shown_serving : ServingWords → Serving
@@ -87,7 +143,14 @@ shown_serving s = record { turns = s.turns; idle = s.idle; keep = s.keep }
 
 -- the receiving that a line says
 abbrev pub shown_recv : RecvLine → RecvCommand
-shown_recv l = record { out = l.out.now; links = l.links.items; session = shown_session l.session; receiver = shown_receiver l.receiver; serving = shown_serving l.serving }
+shown_recv l =
+    record {
+      out = l.out.now;
+      links = l.links.items;
+      session = shown_session l.session;
+      receiver = shown_receiver l.receiver;
+      serving = shown_serving l.serving;
+    }
 
 -- the gateway that a line says
 abbrev pub shown_gate : GateLine → GateCommand

@@ -1,5 +1,6 @@
 -- How the values of a command line read (this profile).
-use Rattle.std.specs.Prelude.{ℕ, ◌%◌, ◌==◌, ◌&&◌, Bool, true, false, not, nat_lt, length, Option, Some, None, if◌then◌else◌, codes}
+use Rattle.std.specs.Prelude.{ℕ, ◌%◌, ◌==◌, ◌&&◌, Bool, true, false, not, nat_lt, length, Option, Some, None}
+use Rattle.std.specs.Prelude.{if◌then◌else◌, codes}
 use Rattle.std.specs.Char.{is_ascii_digit}
 use Rattle.std.specs.List.{list_all}
 use Rattle.std.specs.Str.{bytes_eq}
@@ -50,18 +51,21 @@ name_of (Some text) = if nat_lt 0 (length text) then Some text else None
 -- a profile is one of two words
 abbrev pub profile_of : Option Text → Option Profile
 profile_of None = Some Simple
-profile_of (Some text) = if bytes_eq text (codes "simple") then Some Simple else (if bytes_eq text (codes "main") then Some Main else None)
+profile_of (Some text) =
+    if bytes_eq text (codes "simple") then Some Simple else (if bytes_eq text (codes "main") then Some Main else None)
 
 -- how requests are written is one of two words
 abbrev pub nack_of : Option Text → Option NackKind
 nack_of None = Some Range
-nack_of (Some text) = if bytes_eq text (codes "range") then Some Range else (if bytes_eq text (codes "mask") then Some Mask else None)
+nack_of (Some text) =
+    if bytes_eq text (codes "range") then Some Range else (if bytes_eq text (codes "mask") then Some Mask else None)
 
 -- the tunnel of the Main Profile is one of two words
 abbrev pub tunnel_of : Profile → Option Text → Option Tunnel
 tunnel_of profile None = Some Own
 tunnel_of Simple (Some text) = None
-tunnel_of Main (Some text) = if bytes_eq text (codes "own") then Some Own else (if bytes_eq text (codes "librist") then Some Librist else None)
+tunnel_of Main (Some text) =
+    if bytes_eq text (codes "own") then Some Own else (if bytes_eq text (codes "librist") then Some Librist else None)
 
 -- a sender asks for the round-trip time where the flag is given, and always in librist's tunnel
 abbrev pub echo_of : Tunnel → Bool → Bool

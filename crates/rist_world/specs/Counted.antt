@@ -1,5 +1,6 @@
 -- What came of a run, in numbers.
-use Rattle.std.specs.Prelude.{◌≡◌, ℕ, [], length, get_or, Bool, true, false, not, ◌&&◌, nat_lt, if◌then◌else◌, is_some, unwrap_or, Option, None}
+use Rattle.std.specs.Prelude.{◌≡◌, ℕ, [], length, get_or, Bool, true, false, not, ◌&&◌, nat_lt, if◌then◌else◌, is_some}
+use Rattle.std.specs.Prelude.{unwrap_or, Option, None}
 use Rattle.std.specs.List.{count_by, range_with_len}
 use Rattle.receiver_rules.specs.declared.verdict.Verdict.TheVariants.{Kept}
 use Rattle.receiver_rules.specs.Steps.{has_ended}
@@ -16,7 +17,8 @@ use Rattle.rist_world.specs.World.{WorldState, none}
 abbrev pub held_at : WorldState → ℕ → ℕ
 held_at w link = if nat_lt link (length w.forward) then length (get_or w.forward link none).put else 0
 
--- of media at a place of a link, whether it says that it is a retransmission; nothing of what is no media or isn't there
+-- of media at a place of a link, whether it says that it is a retransmission; nothing of what is no media or isn't
+-- there
 abbrev pub media_at : WorldState → ℕ → ℕ → Option Bool
 media_at w link place = get_or (get_or w.media link []) place None
 
@@ -41,4 +43,5 @@ pub record Counted (setup : Setup) (course : Course) (c : Counts) : Type 0 where
   pub asked : c.asked ≡ capped (asked_count setup.control course.steps)
   pub resent : c.resent ≡ capped (resent_count setup course)
   pub released : c.released ≡ capped (verdict_count Kept setup.control.limits course.steps)
-  pub out : has_ended (buffer_history course.steps) ≡ true → c.released ≡ capped (length (released_payloads setup.control.limits (buffer_history course.steps)))
+  pub out : has_ended (buffer_history course.steps) ≡ true
+      → c.released ≡ capped (length (released_payloads setup.control.limits (buffer_history course.steps)))

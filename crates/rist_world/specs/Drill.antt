@@ -12,10 +12,12 @@ use Rattle.world_rules.specs.World.{Setup, Course, IsSetup, IsSealerOf, links_of
 use Rattle.rist_world.specs.declared.counts.Counts.{Counts}
 use Rattle.rist_world.specs.Counted.{Counted}
 
--- Moves, the oldest first, were made from the beginning on: where they are fewer than 2^27, all those of a script. The counts
--- are those of what was made, and the digest is that of all that the receiver released. Where the moves are a short script, that
--- is what was reached, epoch after epoch, by rising number, and nothing else.
-pub record Drilled (setup : Setup) (near far : Option SealerState) (script : Setup → Course → List Move → Course → Type 0) (moves : List Move) (counts : Counts) (hash : List ℕ) : Type 0 where
+-- Moves, the oldest first, were made from the beginning on: where they are fewer than 2^27, all those of a script. The
+-- counts are those of what was made, and the digest is that of all that the receiver released. Where the moves are a
+-- short script, that is what was reached, epoch after epoch, by rising number, and nothing else.
+pub record Drilled (setup : Setup) (near far : Option SealerState)
+    (script : Setup → Course → List Move → Course → Type 0) (moves : List Move) (counts : Counts)
+    (hash : List ℕ) : Type 0 where
   pub course : Course
   pub makes : MakesAll setup (reverse moves) (beginning near far (links_of setup)) course
   pub follows : length moves < 2 ^ 27 → script setup (beginning near far (links_of setup)) (reverse moves) course

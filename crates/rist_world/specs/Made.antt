@@ -22,7 +22,18 @@ use Rattle.rist_world.specs.Script.{IsMadeScript}
 
 -- its session: in the Main Profile, under a passphrase, with null packets deleted and numbers of 32 bits
 abbrev pub made_session : Session
-made_session = record { profile = Main; port = 1968; pass = Some (codes "drill"); bits = 128; nulls = true; width = W32; full = false; tunnel = Own; echo = false }
+made_session =
+    record {
+      profile = Main;
+      port = 1968;
+      pass = Some (codes "drill");
+      bits = 128;
+      nulls = true;
+      width = W32;
+      full = false;
+      tunnel = Own;
+      echo = false;
+    }
 
 -- its sender, which duplicates over so many links
 abbrev pub made_sender : ℕ → SenderSettings
@@ -30,7 +41,19 @@ made_sender links = record { flow = 0x10203040; first = 0; store = 2048; hold = 
 
 -- its receiver
 abbrev pub made_receiver : ReceiverSettings
-made_receiver = record { delay = 1000; span = 2048; restart = 0; drift = false; reorder = 10; least = 20; tries = 8; nack = Range; own = 7; muted = false }
+made_receiver =
+    record {
+      delay = 1000;
+      span = 2048;
+      restart = 0;
+      drift = false;
+      reorder = 10;
+      least = 20;
+      tries = 8;
+      nack = Range;
+      own = 7;
+      muted = false;
+    }
 
 -- what both ends are set to
 abbrev pub made_setup : ℕ → Setup
@@ -57,13 +80,23 @@ nonce_words number = words_from number 1 0 32
 
 -- the counts of a report
 abbrev pub counts_in : Report → Counts
-counts_in r = record { sent = r.sent; carried = r.carried; lost = r.lost; asked = r.asked; resent = r.resent; released = r.released }
+counts_in r =
+    record {
+      sent = r.sent;
+      carried = r.carried;
+      lost = r.lost;
+      asked = r.asked;
+      resent = r.resent;
+      released = r.released;
+    }
 
--- The moves of the report are those of the made script, by sealers of its session, and the report tells what came of them.
+-- The moves of the report are those of the made script, by sealers of its session, and the report tells what came of
+-- them.
 pub record IsMadeRun (script : Script) (report : Report) : Type 0 where
   pub near : Option SealerState
   pub far : Option SealerState
   pub sender : IsSealerFrom (take 16 (nonce_words script.number)) near
   pub receiver : IsSealerFrom (take 16 (drop 16 (nonce_words script.number))) far
   pub sealed : IsSealerOf made_session near
-  pub run : Drilled (made_setup script.links) near far (IsMadeScript script) report.moves.items (counts_in report) report.digest
+  pub run : Drilled (made_setup script.links) near far (IsMadeScript script) report.moves.items (counts_in report)
+      report.digest

@@ -1,6 +1,7 @@
--- The made script (this profile): in each slot of a millisecond a payload is sent, where one is left, the clocks tick, and
--- the datagrams are carried that are due.
-use Rattle.std.specs.Prelude.{◌≡◌, ◌≤◌, ℕ, ◌+◌, ◌*◌, ◌==◌, List, [], ◌∷◌, ◌++◌, length, map, reverse, get_or, zero, suc, Bool, true, false, ◌&&◌, nat_lt, if◌then◌else◌}
+-- The made script (this profile): in each slot of a millisecond a payload is sent, where one is left, the clocks tick,
+-- and the datagrams are carried that are due.
+use Rattle.std.specs.Prelude.{◌≡◌, ◌≤◌, ℕ, ◌+◌, ◌*◌, ◌==◌, List, [], ◌∷◌, ◌++◌, length, map, reverse, get_or, zero, suc}
+use Rattle.std.specs.Prelude.{Bool, true, false, ◌&&◌, nat_lt, if◌then◌else◌}
 use Rattle.std.specs.List.{range_with_len, flat_map, filter}
 use Rattle.made_script.specs.declared.draws.Way.{Way}
 use Rattle.made_script.specs.declared.draws.Way.TheVariants.{Forward, Backward}
@@ -40,7 +41,8 @@ carry_by Backward link place micros = CarryBack link place micros
 
 -- those of a link that carry what is due in a slot, by place
 abbrev pub carries_on : Way → ℕ → ℕ → List Due → List Move
-carries_on way link slot dues = map (λ (due : Due). carry_by way link due.place (micros_of slot)) (filter (is_due way link slot) dues)
+carries_on way link slot dues =
+    map (λ (due : Due). carry_by way link due.place (micros_of slot)) (filter (is_due way link slot) dues)
 
 -- those of all links, link by link
 abbrev pub carries : Way → ℕ → ℕ → List Due → List Move
@@ -57,12 +59,14 @@ ticks links slot = map (λ link. Tick link (micros_of slot)) (range_with_len 0 l
 -- the moves of a slot, in their order
 abbrev pub slot_moves : Script → ℕ → List Due → List Move
 slot_moves script slot dues =
-    (((sends script slot ++ SenderTick (micros_of slot) ∷ []) ++ carries Forward script.links slot dues) ++ ticks script.links slot)
+    (((sends script slot ++ SenderTick (micros_of slot) ∷ []) ++ carries Forward script.links slot dues)
+    ++ ticks script.links slot)
     ++ carries Backward script.links slot dues
 
 -- the moves from the beginning of a slot up to the next; behind the last slot stands the end
 abbrev pub moves_at : Script → ℕ → List Due → List Move
-moves_at script slot dues = if nat_lt slot (slot_count script) then slot_moves script slot dues else End (micros_of slot) ∷ []
+moves_at script slot dues =
+    if nat_lt slot (slot_count script) then slot_moves script slot dues else End (micros_of slot) ∷ []
 
 -- how many datagrams the sender has put on a link
 abbrev pub forward_count : Setup → Course → ℕ → ℕ
@@ -84,7 +88,8 @@ held_in setup course = record {
 }
 
 -- One slot more: its moves are made, and what was put in it draws its words.
-pub record OneSlot (script : Script) (setup : Setup) (slot : ℕ) (Before : List Move → Drawn → Course → Type 0) (moves : List Move) (drawn : Drawn) (to : Course) : Type 0 where
+pub record OneSlot (script : Script) (setup : Setup) (slot : ℕ) (Before : List Move → Drawn → Course → Type 0)
+    (moves : List Move) (drawn : Drawn) (to : Course) : Type 0 where
   pub earlier : List Move
   pub known : Drawn
   pub from : Course
@@ -93,14 +98,16 @@ pub record OneSlot (script : Script) (setup : Setup) (slot : ℕ) (Before : List
   pub moves_are : moves ≡ reverse (moves_at script slot known.dues) ++ earlier
   pub drawn_are : drawn ≡ draw script slot (held_in setup to) known
 
--- the first so many slots of a script, made from a course on: their moves, the newest first, what was drawn, and the course
--- that they lead to
+-- the first so many slots of a script, made from a course on: their moves, the newest first, what was drawn, and the
+-- course that they lead to
 abbrev pub AreSlots : Script → Setup → Course → ℕ → List Move → Drawn → Course → Type 0
 AreSlots script setup from zero moves drawn to = ((moves ≡ []) × (drawn ≡ nothing_drawn)) × (to ≡ from)
-AreSlots script setup from (suc slot) moves drawn to = OneSlot script setup slot (AreSlots script setup from slot) moves drawn to
+AreSlots script setup from (suc slot) moves drawn to =
+    OneSlot script setup slot (AreSlots script setup from slot) moves drawn to
 
 -- moves, the newest first, that from a course on lead to another, are the made script: all its slots, and the end
-pub record IsMadeScript (script : Script) (setup : Setup) (from : Course) (moves : List Move) (to : Course) : Type 0 where
+pub record IsMadeScript (script : Script) (setup : Setup) (from : Course) (moves : List Move)
+    (to : Course) : Type 0 where
   pub earlier : List Move
   pub drawn : Drawn
   pub last : Course

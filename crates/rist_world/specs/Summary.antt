@@ -7,6 +7,7 @@ use Rattle.rist_world.specs.declared.running.Report.{Report}
 -- a line for each count, and the SHA-256 in hexadecimal digits
 abbrev pub summary_of : Report → List ℕ
 summary_of r =
-    (((((((line (codes "sent") r.sent ++ line (codes "carried") r.carried) ++ line (codes "lost") r.lost) ++ line (codes "asked") r.asked)
+    (((((((line (codes "sent") r.sent ++ line (codes "carried") r.carried) ++ line (codes "lost") r.lost)
+    ++ line (codes "asked") r.asked)
     ++ line (codes "resent") r.resent) ++ line (codes "released") r.released)
     ++ codes "sha256 ") ++ encode_lower r.digest) ++ codes "\n"

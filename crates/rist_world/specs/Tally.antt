@@ -30,4 +30,5 @@ pub record IsTallyOf (setup : Setup) (t : TallyState) (course : Course) : Type 0
   pub carried : t.carried ≡ capped (carried_count setup course.carried)
   pub asked : t.asked ≡ capped (asked_count setup.control course.steps)
   pub links : length t.came ≡ links_of setup
-  pub came : (link place : ℕ) → link < links_of setup → came_at t.came link place ≡ was_carried course.carried link place
+  pub came : (link place : ℕ) → link < links_of setup
+      → came_at t.came link place ≡ was_carried course.carried link place

@@ -33,8 +33,8 @@ pub record WrittenState : Type 0 where
   pub faults : ℕ
 
 -- the sender, and what opens the datagrams that come back to it; the receiver, what opens those that come to it, and
--- what it wrote; the links each way; of each datagram that the sender put on each link, whether it is media and says that
--- it is a retransmission; the SSRCs of the flows so far, the newest first; and what is counted
+-- what it wrote; the links each way; of each datagram that the sender put on each link, whether it is media and says
+-- that it is a retransmission; the SSRCs of the flows so far, the newest first; and what is counted
 pub record WorldState : Type 0 where
   pub sender : SenderState
   pub near : Session
@@ -76,15 +76,18 @@ marked session marks put = marks ++ map (media_of session) (drop (length marks) 
 -- what was put on each link since is marked, where it has marks
 abbrev pub AreMarked : Session → List (List (Option Bool)) → List WireState → List (List (Option Bool)) → Type 0
 AreMarked session old wires new =
-    (link : ℕ) → link < length wires → link < length old → get_or new link [] ≡ marked session (get_or old link []) (get_or wires link none).put
+    (link : ℕ) → link < length wires → link < length old
+    → get_or new link [] ≡ marked session (get_or old link []) (get_or wires link none).put
 
 -- each datagram that the sender put is marked as it reads
 pub record AreMarks (setup : Setup) (media : List (List (Option Bool))) (course : Course) : Type 0 where
   pub links : length media ≡ links_of setup
-  pub marks : (link : ℕ) → link < links_of setup → get_or media link [] ≡ map (media_of setup.session) (forward_on setup course link)
+  pub marks : (link : ℕ) → link < links_of setup
+      → get_or media link [] ≡ map (media_of setup.session) (forward_on setup course link)
 
 -- what it keeps is that of a course: the sender its work, each link what was put on it, the receiver its steps, what
--- was written is what these released, its marks are those of what the sender put, and what is counted is what came of it
+-- was written is what these released, its marks are those of what the sender put, and what is counted is what came of
+-- it
 pub record IsWorldAfter (setup : Setup) (w : WorldState) (course : Course) : Type 0 where
   pub sender : IsSenderAfter w.sender course.work
   pub rules : rules_of w.sender ≡ rules_after setup course.work.history
@@ -92,7 +95,8 @@ pub record IsWorldAfter (setup : Setup) (w : WorldState) (course : Course) : Typ
   pub near : w.near ≡ setup.session
   pub far : w.far ≡ setup.session
   pub links : length w.forward ≡ links_of setup
-  pub forward : (link : ℕ) (d : WireState) → link < links_of setup → (get_or w.forward link d).put ≡ forward_on setup course link
+  pub forward : (link : ℕ) (d : WireState) → link < links_of setup
+      → (get_or w.forward link d).put ≡ forward_on setup course link
   pub receiver : IsReceiverAfter w.receiver course.steps
   pub control : settings_of w.receiver ≡ setup.control
   pub shutter : w.receiver.reporter.shutter ≡ record { session = setup.session; sealer = course.sealer }

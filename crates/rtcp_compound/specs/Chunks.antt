@@ -1,5 +1,6 @@
 -- The chunks of a source description (RFC 3550, section 6.5).
-use Rattle.std.specs.Prelude.{◌≡◌, ℕ, zero, suc, ◌<◌, ◌%◌, List, [], ◌∷◌, ◌++◌, length, drop, Option, Some, None, Bool, is_some, if◌then◌else◌, ◌==◌, nat_lt, option_map, option_and_then}
+use Rattle.std.specs.Prelude.{◌≡◌, ℕ, zero, suc, ◌<◌, ◌%◌, List, [], ◌∷◌, ◌++◌, length, drop, Option, Some, None, Bool}
+use Rattle.std.specs.Prelude.{is_some, if◌then◌else◌, ◌==◌, nat_lt, option_map, option_and_then}
 use Rattle.std.specs.List.{flat_map, AllByRecursion}
 
 -- an item: its type, which is not 0, and a text

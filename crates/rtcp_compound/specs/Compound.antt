@@ -1,5 +1,6 @@
 -- RTCP packets and compounds (RFC 3550, sections 6.1 and 6.4 to 6.7; RFC 4585, section 6.1).
-use Rattle.std.specs.Prelude.{◌≡◌, ℕ, ◌+◌, ◌*◌, ◌/◌, ◌%◌, ◌^◌, ◌<◌, ◌≤◌, ◌⊎◌, List, [], ◌∷◌, ◌++◌, length, take, drop, map, slice_index, if◌then◌else◌, ◌==◌}
+use Rattle.std.specs.Prelude.{◌≡◌, ℕ, ◌+◌, ◌*◌, ◌/◌, ◌%◌, ◌^◌, ◌<◌, ◌≤◌, ◌⊎◌, List, [], ◌∷◌, ◌++◌, length, take, drop}
+use Rattle.std.specs.Prelude.{map, slice_index, if◌then◌else◌, ◌==◌}
 use Rattle.std.specs.List.{flat_map, AllByRecursion}
 use Rattle.std.specs.Int.{w16, w32, to_be_bytes, from_be_bytes}
 use Rattle.rtcp_compound.specs.Chunks.{AreChunks}
@@ -31,7 +32,8 @@ number_at place body = from_be_bytes w32 (take 4 (drop place body))
 -- the content of a packet by its type, its five bits of count, subtype or format, and its body
 abbrev pub content_of : ℕ → ℕ → List ℕ → Content
 content_of kind count body =
-    if kind == 200 then sender_report (number_at 0 body) (number_at 4 body) (number_at 8 body) (number_at 12 body) (number_at 16 body) (number_at 20 body) (take (24 * count) (drop 24 body))
+    if kind == 200 then sender_report (number_at 0 body) (number_at 4 body) (number_at 8 body) (number_at 12 body)
+    (number_at 16 body) (number_at 20 body) (take (24 * count) (drop 24 body))
     else (if kind == 201 then receiver_report (number_at 0 body) (take (24 * count) (drop 4 body))
     else (if kind == 202 then description count body
     else (if kind == 203 then goodbye count body
@@ -58,7 +60,9 @@ padding_bit (x ∷ xs) = 32
 
 -- version 2, P and count; type; the length in words less one; body and padding
 abbrev pub spelling : Wire → List ℕ
-spelling w = (128 + padding_bit w.padding + w.count) ∷ w.kind ∷ (to_be_bytes w16 ((length w.body + length w.padding) / 4) ++ (w.body ++ w.padding))
+spelling w =
+    (128 + padding_bit w.padding + w.count) ∷ w.kind
+    ∷ (to_be_bytes w16 ((length w.body + length w.padding) / 4) ++ (w.body ++ w.padding))
 
 -- none, or whole words, the last octet of which counts them
 abbrev pub IsPadding : List ℕ → Type 0

@@ -1,5 +1,7 @@
 -- The tests of a compound in their order, each with the offset of its packet.
-use Rattle.std.specs.Prelude.{◌≡◌, ℕ, zero, suc, ◌+◌, ◌-◌, ◌*◌, ◌/◌, ◌%◌, List, [], ◌∷◌, length, take, drop, slice_index, Option, Some, None, Bool, true, false, not, ◌&&◌, ◌||◌, if◌then◌else◌, ◌==◌, nat_lt, nat_le}
+use Rattle.std.specs.Prelude.{◌≡◌, ℕ, zero, suc, ◌+◌, ◌-◌, ◌*◌, ◌/◌, ◌%◌, List, [], ◌∷◌, length, take, drop}
+use Rattle.std.specs.Prelude.{slice_index, Option, Some, None, Bool, true, false, not, ◌&&◌, ◌||◌, if◌then◌else◌, ◌==◌}
+use Rattle.std.specs.Prelude.{nat_lt, nat_le}
 use Rattle.std.specs.Int.{w16, from_be_bytes}
 use Rattle.rtcp_compound.specs.Chunks.{has_chunks}
 use Rattle.rtcp_compound.specs.Compound.{Content, content_of}
@@ -82,7 +84,8 @@ abbrev pub fault_within : ℕ → ℕ → List ℕ → Option RtcpBad
 fault_within zero place octets = None
 fault_within (suc most) place octets =
     refused_or place (fault_at (place == 0) octets)
-    (if nat_lt (length_in octets) (length octets) then fault_within most (place + length_in octets) (drop (length_in octets) octets) else None)
+    (if nat_lt (length_in octets) (length octets)
+    then fault_within most (place + length_in octets) (drop (length_in octets) octets) else None)
 
 -- the first test that fails, packet by packet, and the offset of that packet
 unfoldable pub fault_of : List ℕ → Option RtcpBad
@@ -93,7 +96,8 @@ abbrev pub packets_within : ℕ → List ℕ → List Content
 packets_within zero octets = []
 packets_within (suc most) [] = []
 packets_within (suc most) (x ∷ xs) =
-    content_of (kind_in (x ∷ xs)) (count_in (x ∷ xs)) (body_in (x ∷ xs)) ∷ packets_within most (drop (length_in (x ∷ xs)) (x ∷ xs))
+    content_of (kind_in (x ∷ xs)) (count_in (x ∷ xs)) (body_in (x ∷ xs))
+    ∷ packets_within most (drop (length_in (x ∷ xs)) (x ∷ xs))
 
 -- nothing, or packets one after another, each without a fault as a later one; they are at most so many
 abbrev pub ArePackets : ℕ → List ℕ → Type 0

@@ -15,7 +15,8 @@ numbers_spelling numbers = flat_map (to_be_bytes w32) numbers
 
 -- a packet without padding whose body is numbers of 32 bits and then octets
 abbrev pub plain : ℕ → ℕ → List ℕ → List ℕ → Wire
-plain count kind numbers words = record { count = count; kind = kind; body = numbers_spelling numbers ++ words; padding = [] }
+plain count kind numbers words =
+    record { count = count; kind = kind; body = numbers_spelling numbers ++ words; padding = [] }
 
 -- one more packet was put
 abbrev pub with_packet : Written → Content → List ℕ → Written
@@ -27,7 +28,8 @@ Gains old new packet octets = new ≡ with_packet old packet octets
 
 -- a sender's report with no blocks
 abbrev pub sr_octets : ℕ → ℕ → ℕ → ℕ → ℕ → ℕ → List ℕ
-sr_octets ssrc seconds fraction rtp_time packets octets = spelling (plain 0 200 (ssrc ∷ seconds ∷ fraction ∷ rtp_time ∷ packets ∷ octets ∷ []) [])
+sr_octets ssrc seconds fraction rtp_time packets octets =
+    spelling (plain 0 200 (ssrc ∷ seconds ∷ fraction ∷ rtp_time ∷ packets ∷ octets ∷ []) [])
 
 -- a receiver's report with no blocks
 abbrev pub rr_octets : ℕ → List ℕ
@@ -43,7 +45,8 @@ sdes_octets ssrc = spelling (plain 1 202 (ssrc ∷ []) name_item)
 
 -- an application's packet
 abbrev pub app_octets : ℕ → ℕ → List ℕ → List ℕ → List ℕ
-app_octets subtype ssrc name words = spelling (record { count = subtype; kind = 204; body = to_be_bytes w32 ssrc ++ (name ++ words); padding = [] })
+app_octets subtype ssrc name words =
+    spelling (record { count = subtype; kind = 204; body = to_be_bytes w32 ssrc ++ (name ++ words); padding = [] })
 
 -- a feedback message
 abbrev pub feedback_octets : ℕ → ℕ → ℕ → ℕ → List ℕ → List ℕ

@@ -1,6 +1,7 @@
 -- What is read of the octets of a datagram as RTP (RFC 3550, sections 5.1 and 5.3.1): the packet's
 -- value, or the first test that fails. Bits are counted from the least significant.
-use Rattle.std.specs.Prelude.{ℕ, ◌+◌, ◌-◌, ◌*◌, ◌/◌, ◌%◌, Bool, ◌&&◌, ◌||◌, not, List, length, take, drop, slice_index, if◌then◌else◌, ◌==◌, nat_lt, Option, Some, None, Result, Ok, Err}
+use Rattle.std.specs.Prelude.{ℕ, ◌+◌, ◌-◌, ◌*◌, ◌/◌, ◌%◌, Bool, ◌&&◌, ◌||◌, not, List, length, take, drop, slice_index}
+use Rattle.std.specs.Prelude.{if◌then◌else◌, ◌==◌, nat_lt, Option, Some, None, Result, Ok, Err}
 use Rattle.std.specs.Borrow.{Bor}
 use Rattle.std.specs.Int.{w16, w32, from_be_bytes, bit_at}
 use Rattle.rtp_packet.specs.declared.bad.RtpBad.{RtpBad}

@@ -1,5 +1,6 @@
 -- RTP data packets (RFC 3550, sections 5.1 and 5.3.1), and which octets spell them.
-use Rattle.std.specs.Prelude.{◌≡◌, ℕ, ◌+◌, ◌*◌, ◌/◌, ◌%◌, ◌^◌, ◌<◌, ◌≤◌, Bool, List, [], ◌∷◌, ◌++◌, length, Option, Some, None, is_some, IfSome}
+use Rattle.std.specs.Prelude.{◌≡◌, ℕ, ◌+◌, ◌*◌, ◌/◌, ◌%◌, ◌^◌, ◌<◌, ◌≤◌, Bool, List, [], ◌∷◌, ◌++◌, length, Option}
+use Rattle.std.specs.Prelude.{Some, None, is_some, IfSome}
 use Rattle.std.specs.Int.{w16, w32, to_be_bytes, from_bool}
 
 -- A packet without its padding. The sources (CSRC) and the words of an extension, behind its profile

@@ -1,6 +1,7 @@
 -- Link bonding: which links a media packet goes on (VSF TR-06-1, bonding of several links; the weights of load sharing
 -- are this profile's). Links and payloads are counted from 0.
-use Rattle.std.specs.Prelude.{ℕ, suc, ◌-◌, ◌%◌, ◌<◌, ◌≤◌, List, [], ◌∷◌, ◌++◌, length, take, Bool, not, nat_lt, if◌then◌else◌, Option, None, Some}
+use Rattle.std.specs.Prelude.{ℕ, suc, ◌-◌, ◌%◌, ◌<◌, ◌≤◌, List, [], ◌∷◌, ◌++◌, length, take, Bool, not, nat_lt}
+use Rattle.std.specs.Prelude.{if◌then◌else◌, Option, None, Some}
 use Rattle.std.specs.List.{sum, filter, find, range_with_len}
 
 -- each packet goes on all of so many links, or on one of them by their weights

@@ -30,4 +30,5 @@ requested_packets size history asked =
 -- the packets that are sent again at a tick: those requested, but for those that were sent again within the hold time
 abbrev pub packets_to_send_again : ℕ → ℕ → List Sending → ℕ → List AskedNumber → List Packet
 packets_to_send_again size hold history tick asked =
-    take MAX_SENT_AGAIN (filter (λ packet. has_passed hold tick (last_sent_again history packet.number)) (requested_packets size history asked))
+    take MAX_SENT_AGAIN (filter (λ packet. has_passed hold tick (last_sent_again history packet.number))
+    (requested_packets size history asked))

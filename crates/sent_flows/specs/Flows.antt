@@ -1,6 +1,7 @@
 -- What senders sent, flow after flow, and what it means that a packet is a copy of it. Flows are told the newest
 -- first, and so are the payloads of each.
-use Rattle.std.specs.Prelude.{◌≡◌, ◌≤◌, ◌<◌, ℕ, ◌+◌, ◌/◌, ◌^◌, List, [], ◌∷◌, length, Bool, true, false, ◌&&◌, ◌||◌, nat_le, nat_lt, ◌==◌, if◌then◌else◌}
+use Rattle.std.specs.Prelude.{◌≡◌, ◌≤◌, ◌<◌, ℕ, ◌+◌, ◌/◌, ◌^◌, List, [], ◌∷◌, length, Bool, true, false, ◌&&◌, ◌||◌}
+use Rattle.std.specs.Prelude.{nat_le, nat_lt, ◌==◌, if◌then◌else◌}
 use Rattle.seq_unwrap.specs.declared.width.Width.{Width}
 use Rattle.seq_unwrap.specs.Nearest.{cycle_of}
 use Rattle.receiver_rules.specs.Steps.{Arrival, Event, Media, TimeOnly, End, Step}
@@ -41,7 +42,8 @@ payload_at first (p ∷ before) n = if n == first + length before then p.payload
 
 -- the stream of a flow
 abbrev pub stream_in : Width → SentFlow → SentStream
-stream_in width f = record { flow = f.flow; width = width; timestamp = tick_at f.first f.sent; payload = payload_at f.first f.sent }
+stream_in width f =
+    record { flow = f.flow; width = width; timestamp = tick_at f.first f.sent; payload = payload_at f.first f.sent }
 
 -- the stream that was sent under an SSRC, which has nothing where none was
 abbrev pub stream_of : Width → List SentFlow → ℕ → SentStream
@@ -51,7 +53,8 @@ stream_of width (f ∷ fs) flow = if f.flow == flow then stream_in width f else 
 -- a number of a flow was sent
 abbrev pub was_sent : List SentFlow → ℕ → ℕ → Bool
 was_sent [] flow n = false
-was_sent (f ∷ fs) flow n = if f.flow == flow then nat_le f.first n && nat_lt n (f.first + length f.sent) else was_sent fs flow n
+was_sent (f ∷ fs) flow n =
+    if f.flow == flow then nat_le f.first n && nat_lt n (f.first + length f.sent) else was_sent fs flow n
 
 -- ---- copies
 

@@ -3,7 +3,8 @@ use Rattle.std.specs.Prelude.{◌≡◌, ℕ, List, [], ◌∷◌, length, true,
 use Rattle.seq_unwrap.specs.declared.width.Width.{Width}
 use Rattle.receiver_rules.specs.declared.limits.Limits.{Limits}
 use Rattle.receiver_rules.specs.Steps.{Step}
-use Rattle.receiver_rules.specs.SentEpochs.{SentStreams, Shipment, CopyIn, Foreign, NoPacket, Transfer, AreTransfersOf, shipped_steps, sent_epochs, reached_payloads}
+use Rattle.receiver_rules.specs.SentEpochs.{SentStreams, Shipment, CopyIn, Foreign, NoPacket, Transfer, AreTransfersOf}
+use Rattle.receiver_rules.specs.SentEpochs.{shipped_steps, sent_epochs, reached_payloads}
 use Rattle.sent_flows.specs.Flows.{SentFlow, stream_of, was_sent}
 
 -- the flow of an epoch, by the flows of the epochs, the newest first, which are counted from 0
@@ -29,10 +30,12 @@ AreOfSent sent flows (d ∷ before) = IsOfSent sent flows d.what × AreOfSent se
 -- The steps of a history are those of a run in which each packet of an epoch's flow is a copy of what was sent in
 -- that flow; and what was played out are, epoch after epoch, the payloads of the numbers that were reached, by rising
 -- number, and nothing else.
-pub record PlaysReached (limits : Limits) (width : Width) (sent : List SentFlow) (history : List Step) (played : List (List ℕ)) : Type 0 where
+pub record PlaysReached (limits : Limits) (width : Width) (sent : List SentFlow) (history : List Step)
+    (played : List (List ℕ)) : Type 0 where
   pub flows : List ℕ
   pub run : List Transfer
   pub steps : shipped_steps (streams_in width sent flows) run ≡ history
   pub fits : AreTransfersOf limits (streams_in width sent flows) run
   pub of_sent : AreOfSent sent flows run
-  pub reached : played ≡ reached_payloads (streams_in width sent flows) (sent_epochs limits (streams_in width sent flows) run)
+  pub reached : played ≡ reached_payloads (streams_in width sent flows)
+      (sent_epochs limits (streams_in width sent flows) run)

@@ -1,4 +1,5 @@
--- Reading a source in pieces of 1,316 octets, by the octets that it had and has left, where it tells them (this profile).
+-- Reading a source in pieces of 1,316 octets, by the octets that it had and has left, where it tells them (this
+-- profile).
 use Rattle.std.specs.Prelude.{ℕ, ◌+◌, ◌*◌, ◌^◌, ◌<◌, ◌≤◌, List, length, take, Result, Ok, Err, Option}
 use Rattle.outside_io.specs.Causes.{Fault, NoFault, Read}
 use Rattle.outside_io.specs.Told.{Takes, IsEmpty}

@@ -1,6 +1,7 @@
 -- Transport stream packets (ISO/IEC 13818-1, section 2.4.3): 188 octets each, or 204 with sixteen octets
 -- after them that aren't interpreted. A payload of one to seven whole packets has one size by its length.
-use Rattle.std.specs.Prelude.{ℕ, zero, suc, ◌-◌, ◌/◌, ◌%◌, Bool, true, false, ◌&&◌, List, [], ◌∷◌, take, drop, replicate, slice_index, if◌then◌else◌, ◌==◌, nat_lt, Option, Some, None}
+use Rattle.std.specs.Prelude.{ℕ, zero, suc, ◌-◌, ◌/◌, ◌%◌, Bool, true, false, ◌&&◌, List, [], ◌∷◌, take, drop}
+use Rattle.std.specs.Prelude.{replicate, slice_index, if◌then◌else◌, ◌==◌, nat_lt, Option, Some, None}
 use Rattle.ts_nulls.specs.declared.packets.TheConstants.{SHORT_LEN, LONG_LEN, SYNC_BYTE}
 
 -- how many octets a packet has

@@ -10,7 +10,8 @@ abbrev pub no_added : Aside → NoRoom → Side → Option Step
 no_added ask room side = None
 
 -- a sink did what an aside of its kind does, at a moment and on a link, and shows the same after it
-pub record LooksAt {K : Type 0} (contents : K → Option (List ℕ)) (faults : K → ℕ) (looks : K → K → ℕ → ℕ → Side → Type 0) (us link : ℕ) (side : Side) : Type 0 where
+pub record LooksAt {K : Type 0} (contents : K → Option (List ℕ)) (faults : K → ℕ)
+    (looks : K → K → ℕ → ℕ → Side → Type 0) (us link : ℕ) (side : Side) : Type 0 where
   pub before : K
   pub after : K
   pub contents_same : contents after ≡ contents before

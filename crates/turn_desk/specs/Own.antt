@@ -27,8 +27,8 @@ module _ {N K : Type 0} where
   abbrev pub passes_in : TurnDesk N K → ℕ
   passes_in desk = passes_of desk.lock
 
-  -- the pass is one of the desk's, by this number, which is that of its link: each step that was made with it is of that
-  -- link
+  -- the pass is one of the desk's, by this number, which is that of its link: each step that was made with it is of
+  -- that link
   pub record IsOf (desk : TurnDesk N K) (link : ℕ) (pass : Pass Step (Shared N K)) : Type 0 where
     pub own : IsPassOf desk.lock pass
     pub number : number_of pass ≡ link

@@ -52,7 +52,10 @@ with_end history answer outs = added (step_after end_told (outcome_with answer o
 
 -- The end was told to what stood for these steps: what is left stands for them and the end, and a write failed in it or
 -- before it exactly where the sink's count rose.
-pub record IsEnded {K : Type 0} (given : Given) (contents : K → Option (List ℕ)) (faults : K → ℕ) (history : List Step) (answer : Answer) (outs : Outs) (parts : Parts K) : Type 0 where
-  pub stands : StandsFor given (kept_with parts.receiver (contents parts.sink) (faults parts.sink) (with_end history answer outs)) (with_end history answer outs)
+pub record IsEnded {K : Type 0} (given : Given) (contents : K → Option (List ℕ)) (faults : K → ℕ) (history : List Step)
+    (answer : Answer) (outs : Outs) (parts : Parts K) : Type 0 where
+  pub stands : StandsFor given
+      (kept_with parts.receiver (contents parts.sink) (faults parts.sink) (with_end history answer outs))
+      (with_end history answer outs)
   pub settings : settings_of parts.receiver ≡ given.settings
   pub cause : RoseWhere (is_cut_off answer) given.faults (faults parts.sink)

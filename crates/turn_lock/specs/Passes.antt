@@ -55,9 +55,11 @@ module _ {E X : Type 0} where
     pub all : length passes ≡ passes_of lock
     pub each : (k : ℕ) (p : Pass E X) → slice_get passes k ≡ Some p → IsPassOf lock p × (number_of p ≡ k)
 
-  -- One turn was taken with the pass. It has seen all that it had seen before, then the turns that others took since, and
-  -- then its own, whose entry is added to what was added with it. The answer is one after all that was added before.
-  pub record Stepped {A M B : Type 0} (adds : A → M → B → Option E) (answers : List E → A → M → M → B → Type 0) (old new : Pass E X) (ask : A) (was is : M) (answer : B) : Type 0 where
+  -- One turn was taken with the pass. It has seen all that it had seen before, then the turns that others took since,
+  -- and then its own, whose entry is added to what was added with it. The answer is one after all that was added
+  -- before.
+  pub record Stepped {A M B : Type 0} (adds : A → M → B → Option E) (answers : List E → A → M → M → B → Type 0)
+      (old new : Pass E X) (ask : A) (was is : M) (answer : B) : Type 0 where
     pub since : List (Turn E)
     pub seen : turns_seen new ≡ record { pass = number_of old; entry = adds ask is answer } ∷ since ++ turns_seen old
     pub own : entries_with new ≡ added (adds ask is answer) (entries_with old)

@@ -1,7 +1,8 @@
 -- The rule of a lock's table, and what each step on it tells. The one word is 0 where any pass may take the turn, and 4
--- where one may that has slept. Where it is another number, the turn is taken, and the value, else in the slot, is out with
--- the pass that has it. Lists stand with the newest first.
-use Rattle.std.specs.Prelude.{◌≡◌, ◌≢◌, ◌⊎◌, ℕ, ◌+◌, ◌-◌, ◌*◌, ◌<◌, ◌≤◌, List, [], ◌∷◌, ◌++◌, map, length, replicate, if◌then◌else◌, ◌==◌, Option, Some, None}
+-- where one may that has slept. Where it is another number, the turn is taken, and the value, else in the slot, is out
+-- with the pass that has it. Lists stand with the newest first.
+use Rattle.std.specs.Prelude.{◌≡◌, ◌≢◌, ◌⊎◌, ℕ, ◌+◌, ◌-◌, ◌*◌, ◌<◌, ◌≤◌, List, [], ◌∷◌, ◌++◌, map, length, replicate}
+use Rattle.std.specs.Prelude.{if◌then◌else◌, ◌==◌, Option, Some, None}
 use mathlib.Core.Option.{some, none}
 use mathlib.Core.Option as maybe
 use lib.ListN.{get_elem?}
@@ -58,7 +59,8 @@ module _ {E : Type 0} where
 
   -- n numbers from the first on, with no turn made
   abbrev pub opener_at : ℕ → ℕ → View E
-  opener_at first n = record { stage = Idle; seen = []; first = first; owns = replicate n []; met = []; left = n * 288230376151711744 }
+  opener_at first n =
+      record { stage = Idle; seen = []; first = first; owns = replicate n []; met = []; left = n * 288230376151711744 }
 
   abbrev pub opener : ℕ → View E
   opener count = opener_at 0 count
@@ -71,24 +73,57 @@ module _ {E : Type 0} where
   turn_of v e = record { pass = v.first; entry = e }
 
   abbrev pub after : View E → Option E → View E
-  after v e = record { stage = Idle; seen = turn_of v e ∷ v.seen; first = v.first; owns = map (added e) v.owns; met = v.met; left = v.left }
+  after v e =
+      record {
+        stage = Idle;
+        seen = turn_of v e ∷ v.seen;
+        first = v.first;
+        owns = map (added e) v.owns;
+        met = v.met;
+        left = v.left;
+      }
 
   -- the first number is cut off
   abbrev pub one_off : View E → View E
-  one_off v = record { stage = Idle; seen = v.seen; first = v.first; owns = only_first v.owns; met = []; left = 288230376151711744 }
+  one_off v =
+      record {
+        stage = Idle;
+        seen = v.seen;
+        first = v.first;
+        owns = only_first v.owns;
+        met = [];
+        left = 288230376151711744;
+      }
 
   abbrev pub others : View E → View E
-  others v = record { stage = v.stage; seen = v.seen; first = v.first + 1; owns = all_but_first v.owns; met = v.met; left = v.left - 288230376151711744 }
+  others v =
+      record {
+        stage = v.stage;
+        seen = v.seen;
+        first = v.first + 1;
+        owns = all_but_first v.owns;
+        met = v.met;
+        left = v.left - 288230376151711744;
+      }
 
   -- the second has the numbers right below those of the first
   abbrev pub joined : View E → View E → View E
-  joined v w = record { stage = v.stage; seen = w.seen; first = w.first; owns = w.owns ++ v.owns; met = v.seen ∷ v.met; left = v.left + w.left }
+  joined v w =
+      record {
+        stage = v.stage;
+        seen = w.seen;
+        first = w.first;
+        owns = w.owns ++ v.owns;
+        met = v.seen ∷ v.met;
+        left = v.left + w.left;
+      }
 
   abbrev pub ended : View E
   ended = record { stage = Idle; seen = []; first = 0; owns = []; met = []; left = 0 }
 
   abbrev pub One : (ℕ → View E → Type 0) → List (View E) → Type 0
-  One P vs = (i j : ℕ) (v w : View E) (k : ℕ) → get_elem? vs i ≡ some v → get_elem? vs j ≡ some w → P k v → P k w → i ≡ j
+  One P vs =
+      (i j : ℕ) (v w : View E) (k : ℕ) → get_elem? vs i ≡ some v → get_elem? vs j ≡ some w → P k v → P k w → i ≡ j
 
 module _ {X E : Type 0} where
   abbrev pub AtHome : (X → List E → Type 0) → List (Turn E) → List (maybe.Option (Option X)) → Type 0
@@ -113,12 +148,23 @@ module _ {X E : Type 0} where
     pub turns : List (Turn E)
     pub later : List (Turn E)
     pub value : X
-    pub now : m' ≡ (record { stage = Holds; seen = turns; first = m.0.first; owns = m.0.owns; met = m.0.met; left = m.0.left - 1 }, (0, Some value) ∷ m.1)
+    pub now : m' ≡ (
+      record {
+        stage = Holds;
+        seen = turns;
+        first = m.0.first;
+        owns = m.0.owns;
+        met = m.0.met;
+        left = m.0.left - 1;
+      },
+      (0, Some value) ∷ m.1,
+    )
     pub stood : stands value (entries turns)
     pub saw : turns ≡ later ++ m.0.seen
 
   -- the turn is taken where the word was the first operand, and else nothing is
-  abbrev pub taken : (X → List E → Type 0) → Step (Option X) → Me (Option X) (View E) → ℕ → Me (Option X) (View E) → Type 0
+  abbrev pub taken : (X → List E → Type 0) → Step (Option X) → Me (Option X) (View E) → ℕ → Me (Option X) (View E)
+      → Type 0
   taken stands st m n m' = (n ≡ st.first → Took stands m m') × (n ≢ st.first → m' ≡ m)
 
   -- the pass is where it was
@@ -140,7 +186,17 @@ module _ {X E : Type 0} where
   pub record HasTurn (stands : X → List E → Type 0) (v : View E) (m : Me (Option X) (View E)) (x : X) : Type 0 where
     pub turns : List (Turn E)
     pub later : List (Turn E)
-    pub now : m ≡ (record { stage = Holds; seen = turns; first = v.first; owns = v.owns; met = v.met; left = v.left - 1 }, (0, None) ∷ [])
+    pub now : m ≡ (
+      record {
+        stage = Holds;
+        seen = turns;
+        first = v.first;
+        owns = v.owns;
+        met = v.met;
+        left = v.left - 1;
+      },
+      (0, None) ∷ [],
+    )
     pub stood : stands x (entries turns)
     pub saw : turns ≡ later ++ v.seen
 

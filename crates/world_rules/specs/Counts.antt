@@ -1,5 +1,6 @@
 -- What became of what was sent, in numbers.
-use Rattle.std.specs.Prelude.{ℕ, ◌+◌, List, [], ◌∷◌, length, Bool, true, false, not, ◌&&◌, ◌==◌, Option, None, Some, is_some, unwrap_or, Result, Ok, Err}
+use Rattle.std.specs.Prelude.{ℕ, ◌+◌, List, [], ◌∷◌, length, Bool, true, false, not, ◌&&◌, ◌==◌, Option, None, Some}
+use Rattle.std.specs.Prelude.{is_some, unwrap_or, Result, Ok, Err}
 use Rattle.std.specs.List.{list_any, sum_by, count_by, range_with_len}
 use Rattle.outside_net.specs.Links.{Datagram}
 use Rattle.request_rules.specs.declared.policy.NackKind.{NackKind}
@@ -54,7 +55,8 @@ sent_by (Err LinksDown) = 1
 -- at how many places of all links that a sender has put datagrams on a test holds
 abbrev pub place_count : Setup → Course → (ℕ → ℕ → Bool) → ℕ
 place_count setup course test =
-    sum_by (λ link. count_by (test link) (range_with_len 0 (length (forward_on setup course link)))) (range_with_len 0 (links_of setup))
+    sum_by (λ link. count_by (test link) (range_with_len 0 (length (forward_on setup course link))))
+    (range_with_len 0 (links_of setup))
 
 -- the datagram that the sender put at a place of a link is a retransmission
 abbrev pub is_resent : Setup → Course → ℕ → ℕ → Bool
@@ -92,4 +94,5 @@ number_count kind words = length (asked_numbers kind words)
 -- how many numbers the steps of a receiver asked for, each time counted
 abbrev pub asked_count : ControlSettings → List Step → ℕ
 asked_count settings [] = 0
-asked_count settings (step ∷ before) = asked_count settings before + number_count settings.policy.kind (words_made settings before step)
+asked_count settings (step ∷ before) =
+    asked_count settings before + number_count settings.policy.kind (words_made settings before step)

@@ -15,9 +15,11 @@ payload_of tick packet = record { tick = tick; payload = restored_payload packet
 abbrev pub flows_of : ℕ → ℕ → List Event → List SentFlow
 flows_of flow first [] = record { flow = flow; first = first; sent = [] } ∷ []
 flows_of flow first (Called micros ∷ before) = flows_of flow first before
-flows_of flow first (Sent packet ∷ before) = with_sent (payload_of (effective_time before) packet) (flows_of flow first before)
+flows_of flow first (Sent packet ∷ before) =
+    with_sent (payload_of (effective_time before) packet) (flows_of flow first before)
 flows_of flow first (Wrote write ∷ before) = flows_of flow first before
-flows_of flow first (Renewed next number ∷ before) = record { flow = next; first = number; sent = [] } ∷ flows_of flow first before
+flows_of flow first (Renewed next number ∷ before) =
+    record { flow = next; first = number; sent = [] } ∷ flows_of flow first before
 
 -- the SSRC of the flow that is sent after a history
 abbrev pub flow_after : ℕ → List Event → ℕ
@@ -41,5 +43,6 @@ put_on flow session link [] = []
 put_on flow session link (Called micros ∷ before) = put_on flow session link before
 put_on flow session link (Sent packet ∷ before) = put_on flow session link before
 put_on flow session link (Wrote write ∷ before) =
-    put_on flow session link before ++ (if write.link == link then tried_as (flow_after flow before) session write ∷ [] else [])
+    put_on flow session link before
+    ++ (if write.link == link then tried_as (flow_after flow before) session write ∷ [] else [])
 put_on flow session link (Renewed next number ∷ before) = put_on flow session link before

@@ -1,7 +1,9 @@
 -- What each move of a script makes of a sender, a receiver, and all the datagrams that were ever put on the links
 -- between them. Nothing that was put is removed: a datagram is carried where a move says so, at any time, as often as
 -- moves say so.
-use Rattle.std.specs.Prelude.{◌≡◌, ◌≤◌, ◌<◌, ◌^◌, ℕ, ◌%◌, List, [], ◌∷◌, ◌++◌, length, map, replicate, set, get_or, slice_get, Bool, false, not, ◌&&◌, nat_le, nat_lt, ◌==◌, if◌then◌else◌, Option, None, Some, is_some, IfSome, Result, Ok, Err}
+use Rattle.std.specs.Prelude.{◌≡◌, ◌≤◌, ◌<◌, ◌^◌, ℕ, ◌%◌, List, [], ◌∷◌, ◌++◌, length, map, replicate, set, get_or}
+use Rattle.std.specs.Prelude.{slice_get, Bool, false, not, ◌&&◌, nat_le, nat_lt, ◌==◌, if◌then◌else◌, Option, None}
+use Rattle.std.specs.Prelude.{Some, is_some, IfSome, Result, Ok, Err}
 use Rattle.receiver_rules.specs.Steps.{tick_of, has_ended}
 use Rattle.sender_rules.specs.Bonding.{Bonding, link_count}
 use Rattle.rtcp_compound.specs.Compound.{Content}
@@ -94,7 +96,8 @@ forward_on setup course link = datagrams_taken (put_on setup.flow setup.session 
 
 -- a datagram that the sender put on a link, by its place from 0, if it is there
 abbrev pub forward_at : Setup → Course → ℕ → ℕ → Option Datagram
-forward_at setup course link place = if nat_lt link (links_of setup) then slice_get (forward_on setup course link) place else None
+forward_at setup course link place =
+    if nat_lt link (links_of setup) then slice_get (forward_on setup course link) place else None
 
 -- a datagram that the receiver put on a link
 abbrev pub backward_at : Course → ℕ → ℕ → Option Datagram
@@ -160,7 +163,8 @@ datagrams_made (Err spent) = []
 -- the receiver makes a step, unless it has ended: what it makes goes on the step's link
 pub record Receives (setup : Setup) (step : Step) (from to : Course) : Type 0 where
   pub result : Result (Option Outs) Spent
-  pub answers : AnswersAfter setup.control (record { session = setup.session; sealer = from.sealer }) from.steps step result
+  pub answers : AnswersAfter setup.control (record { session = setup.session; sealer = from.sealer }) from.steps step
+      result
   pub is : to ≡ record {
     work = from.work;
     steps = step_answered step result ∷ from.steps;
@@ -208,7 +212,8 @@ renewed_in flow first from = record {
 
 -- an SSRC of 32 bits is even, and none of the earlier flows'
 abbrev pub is_new : Setup → Course → ℕ → Bool
-is_new setup from flow = nat_lt flow (2 ^ 32) && (flow % 2 == 0) && not (is_known (flows_of setup.flow setup.first from.work.history) flow)
+is_new setup from flow =
+    nat_lt flow (2 ^ 32) && (flow % 2 == 0) && not (is_known (flows_of setup.flow setup.first from.work.history) flow)
 
 -- ---- moves
 
@@ -217,12 +222,14 @@ is_new setup from flow = nat_lt flow (2 ^ 32) && (flow % 2 == 0) && not (is_know
 abbrev pub Makes : Setup → Move → Course → Course → Type 0
 Makes setup (moves.Send micros payload) from to =
     IfElse (nat_le (length payload) 1500) (Works (SendsIn setup micros payload) from to) (to ≡ from)
-Makes setup (moves.Carry link place micros) from to = CarriesIf setup link place micros (forward_at setup from link place) from to
+Makes setup (moves.Carry link place micros) from to =
+    CarriesIf setup link place micros (forward_at setup from link place) from to
 Makes setup (moves.CarryBack link place micros) from to =
     FeedsIf setup micros link (compound_carried setup (backward_at from link place)) from to
 Makes setup (moves.SenderTick micros) from to = Works (TicksIn setup micros) from to
 Makes setup (moves.Tick link micros) from to =
-    IfElse (nat_lt link (links_of setup)) (ReceivesIf setup (record { link = link; tick = tick_of micros; input = Tick micros }) from to) (to ≡ from)
+    IfElse (nat_lt link (links_of setup))
+    (ReceivesIf setup (record { link = link; tick = tick_of micros; input = Tick micros }) from to) (to ≡ from)
 Makes setup (moves.End micros) from to =
     ReceivesIf setup (record { link = 0; tick = tick_of micros; input = End }) from to
 Makes setup (moves.Renew flow first) from to =
@@ -241,4 +248,5 @@ beginning near far links = record {
 -- moves, the newest first
 abbrev pub MakesAll : Setup → List Move → Course → Course → Type 0
 MakesAll setup [] from to = to ≡ from
-MakesAll setup (move ∷ before) from to = (between : Course) × MakesAll setup before from between × Makes setup move between to
+MakesAll setup (move ∷ before) from to =
+    (between : Course) × MakesAll setup before from between × Makes setup move between to

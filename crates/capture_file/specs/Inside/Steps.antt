@@ -1,5 +1,6 @@
 -- What the steps of a reader answer, by the octets that remained and that remain now, where those are told.
-use Rattle.std.specs.Prelude.{◌≡◌, ◌≢◌, ℕ, ◌+◌, ◌^◌, ◌<◌, ◌≤◌, List, [], length, take, None, Some, Result, Ok, Err, IfSome}
+use Rattle.std.specs.Prelude.{◌≡◌, ◌≢◌, ℕ, ◌+◌, ◌^◌, ◌<◌, ◌≤◌, List, [], length, take, None, Some, Result, Ok, Err}
+use Rattle.std.specs.Prelude.{IfSome}
 use Rattle.std.specs.declared.option.Option.{Option}
 use Rattle.outside_io.specs.Told.{Takes, IsEmpty}
 use Rattle.capture_file.specs.Capture.{magic, Fits, NoRecord, spelling}
@@ -22,14 +23,17 @@ abbrev pub ReadsHead : ℕ → Option (List ℕ) → Option (List ℕ) → Resul
 ReadsHead at old new (Ok None) = Takes old new [] × IsEmpty new
 ReadsHead at old new (Ok (Some head)) =
     ((head.link < 16) × (head.length ≤ 2048) × (head.us < 2 ^ 64) × (at + 12 + head.length ≤ 2 ^ 40))
-    × (fault_of_head at (head_octets head) ≡ None) × (length_said (head_octets head) ≡ head.length) × Takes old new (head_octets head)
-ReadsHead at old new (Err (Bad kind place)) = (place ≡ at) × IfSome old (λ b. (0 < length b) × (fault_of_head at (take 12 b) ≡ Some kind))
+    × (fault_of_head at (head_octets head) ≡ None) × (length_said (head_octets head) ≡ head.length)
+    × Takes old new (head_octets head)
+ReadsHead at old new (Err (Bad kind place)) =
+    (place ≡ at) × IfSome old (λ b. (0 < length b) × (fault_of_head at (take 12 b) ≡ Some kind))
 ReadsHead at old new (Err ReadFault) = IsCutShort old new (λ part. length part < 12)
 
 -- a record's octets were read, or fewer are left
 abbrev pub ReadsBody : ℕ → ℕ → Option (List ℕ) → Option (List ℕ) → List ℕ → Result Unit CapBad → Type 0
 ReadsBody at size old new buf (Ok x) = Takes old new buf
-ReadsBody at size old new buf (Err (Bad kind place)) = (kind ≡ Truncated) × (place ≡ at) × IfSome old (λ b. length b < size)
+ReadsBody at size old new buf (Err (Bad kind place)) =
+    (kind ≡ Truncated) × (place ≡ at) × IfSome old (λ b. length b < size)
 ReadsBody at size old new buf (Err ReadFault) = IsCutShort old new (λ part. length part < size)
 
 -- the name was read where it was not yet
@@ -43,5 +47,6 @@ abbrev pub ReadsRecord : ℕ → Option (List ℕ) → Option (List ℕ) → Lis
 ReadsRecord at old new buf (Ok None) = Takes old new [] × IsEmpty new
 ReadsRecord at old new buf (Ok (Some head)) =
     Fits (record_of head (take head.length buf)) × Takes old new (spelling (record_of head (take head.length buf)))
-ReadsRecord at old new buf (Err (Bad kind place)) = (place ≡ at) × IfSome old (λ rest. (0 < length rest) × (fault_at place rest ≡ Some kind))
+ReadsRecord at old new buf (Err (Bad kind place)) =
+    (place ≡ at) × IfSome old (λ rest. (0 < length rest) × (fault_at place rest ≡ Some kind))
 ReadsRecord at old new buf (Err ReadFault) = IsCutShort old new NoRecord

@@ -1,5 +1,6 @@
 -- What a reader of a pcap file's datagrams has read, and what a turn of it comes to.
-use Rattle.std.specs.Prelude.{◌≡◌, ◌^◌, ◌+◌, ◌≤◌, ℕ, List, [], ◌∷◌, ◌++◌, length, map, flat_map, All, Bool, true, false, Err}
+use Rattle.std.specs.Prelude.{◌≡◌, ◌^◌, ◌+◌, ◌≤◌, ℕ, List, [], ◌∷◌, ◌++◌, length, map, flat_map, All, Bool, true, false}
+use Rattle.std.specs.Prelude.{Err}
 use Rattle.std.specs.declared.option.Option.{Option}
 use Rattle.std.specs.declared.option.Option.TheVariants.{None, Some}
 use Rattle.outside_io.specs.Causes.{Fault, NoFault}
@@ -20,9 +21,10 @@ use Rattle.capture_walk.specs.declared.port.Turn.{Turn}
 use Rattle.capture_walk.specs.declared.port.Turn.TheVariants as turns
 use Rattle.capture_walk.specs.declared.walk_bad.WalkBad.{WalkBad}
 
--- of the octets that were told first, a reader at this offset has read a header of this format and the records of these frames,
--- and then `more`
-pub record IsTaken (format : Format) (at : ℕ) (first remaining : Option (List ℕ)) (more : List ℕ) (frames : List Captured) : Type 0 where
+-- of the octets that were told first, a reader at this offset has read a header of this format and the records of these
+-- frames, and then `more`
+pub record IsTaken (format : Format) (at : ℕ) (first remaining : Option (List ℕ)) (more : List ℕ)
+    (frames : List Captured) : Type 0 where
   pub header : List ℕ
   pub packets : List Packet
   pub is_header : IsHeader format header

@@ -6,7 +6,8 @@ use Rattle.capture_file.specs.Reading.{name_at, offset_at}
 
 -- of the octets that were told first, these records were read by a reader that stands at this offset
 abbrev pub Rest : Option (List ℕ) → Option (List ℕ) → ℕ → List Record → Type 0
-Rest first remaining at done = (taken : List ℕ) × Takes first remaining taken × (taken ++ name_at at ≡ magic ++ flat_map spelling done)
+Rest first remaining at done =
+    (taken : List ℕ) × Takes first remaining taken × (taken ++ name_at at ≡ magic ++ flat_map spelling done)
 
 -- a reader that stands at this offset has read these records, and no others
 pub record HasRead (first remaining : Option (List ℕ)) (at : ℕ) (done : List Record) : Type 0 where
@@ -17,7 +18,8 @@ pub record HasRead (first remaining : Option (List ℕ)) (at : ℕ) (done : List
 
 -- records were read and taken, and the sink holds what was written of them
 pub record Sofar {R V : Type 0} (so_far : List Record → List ℕ) (has_read : R → Option (List ℕ) → List Record → Type 0)
-    (has_seen : V → List Record → Type 0) (first : Option (List ℕ)) (reader : R) (visitor : V) (held holds : Option (List ℕ)) : Type 0 where
+    (has_seen : V → List Record → Type 0) (first : Option (List ℕ)) (reader : R) (visitor : V)
+    (held holds : Option (List ℕ)) : Type 0 where
   pub done : List Record
   pub read : has_read reader first done
   pub seen : has_seen visitor done

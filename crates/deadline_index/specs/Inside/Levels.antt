@@ -31,4 +31,5 @@ IsLeastIn xs at from end least = (k : ℕ) → from ≤ k → k < end → least 
 
 -- it is at most each other entry of the group of one entry
 abbrev pub IsLeastBut : List ℕ → ℕ → ℕ → ℕ → ℕ → Type 0
-IsLeastBut xs at len entry least = (k : ℕ) → k < len → k / 8 ≡ entry / 8 → (k ≡ entry → ⊥) → least ≤ slice_index xs (at + k)
+IsLeastBut xs at len entry least =
+    (k : ℕ) → k < len → k / 8 ≡ entry / 8 → (k ≡ entry → ⊥) → least ≤ slice_index xs (at + k)

@@ -1,5 +1,6 @@
 -- One pass over the packets that a timer keeps, by rising number.
-use Rattle.std.specs.Prelude.{ℕ, ◌+◌, max, List, [], ◌∷◌, ◌++◌, Bool, false, not, ◌&&◌, nat_le, nat_lt, ◌==◌, if◌then◌else◌, Option, None, Some}
+use Rattle.std.specs.Prelude.{ℕ, ◌+◌, max, List, [], ◌∷◌, ◌++◌, Bool, false, not, ◌&&◌, nat_le, nat_lt, ◌==◌}
+use Rattle.std.specs.Prelude.{if◌then◌else◌, Option, None, Some}
 use Rattle.std.specs.List.{list_any}
 use Rattle.receiver_rules.specs.Packets.{Packet}
 use Rattle.request_rules.specs.declared.policy.Policy.{Policy}
@@ -33,11 +34,13 @@ stamped t e = record { number = e.number; found = e.found; last = Some t; count 
 
 -- the words after one entry
 abbrev pub words_after : Policy → ℕ → ℕ → List AskWord → Missing → List AskWord
-words_after policy rtt t words e = if is_due_entry policy rtt t e then with_number policy.kind 64 words e.number else words
+words_after policy rtt t words e =
+    if is_due_entry policy rtt t e then with_number policy.kind 64 words e.number else words
 
 -- the entry after it was looked at
 abbrev pub entry_after : Policy → ℕ → ℕ → List AskWord → Missing → Missing
-entry_after policy rtt t words e = if is_due_entry policy rtt t e && takes policy.kind 64 words e.number then stamped t e else e
+entry_after policy rtt t words e =
+    if is_due_entry policy rtt t e && takes policy.kind 64 words e.number then stamped t e else e
 
 -- the words after all entries
 abbrev pub words_of : Policy → ℕ → ℕ → ℕ → List Packet → List AskWord → List Missing → List AskWord

@@ -58,7 +58,8 @@ Skips at count old new (Err ReadFault) = IsCutShort old new (λ part. length par
 abbrev pub ReadsBody : ℕ → ℕ → Option (List ℕ) → Option (List ℕ) → List ℕ → Result ℕ PcapBad → Type 0
 ReadsBody at count old new buf (Ok given) =
     (octets : List ℕ) × (length octets ≡ count) × Takes old new octets × (take given buf ≡ take most_given octets)
-ReadsBody at count old new buf (Err (Bad kind place)) = (kind ≡ Truncated) × (place ≡ at) × IfSome old (λ b. length b < count)
+ReadsBody at count old new buf (Err (Bad kind place)) =
+    (kind ≡ Truncated) × (place ≡ at) × IfSome old (λ b. length b < count)
 ReadsBody at count old new buf (Err ReadFault) = IsCutShort old new (λ part. length part < count)
 
 -- a record of this format was read, and this is its frame

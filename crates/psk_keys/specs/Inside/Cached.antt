@@ -1,5 +1,6 @@
 -- The places of the keys that are cached.
-use Rattle.std.specs.Prelude.{◌≡◌, ◌==◌, ℕ, zero, suc, List, [], ◌∷◌, Bool, false, Option, Some, None, if◌then◌else◌, Contains, IfSome, MatchOption, length}
+use Rattle.std.specs.Prelude.{◌≡◌, ◌==◌, ℕ, zero, suc, List, [], ◌∷◌, Bool, false, Option, Some, None, if◌then◌else◌}
+use Rattle.std.specs.Prelude.{Contains, IfSome, MatchOption, length}
 use Rattle.std.specs.Option.{option_map_or}
 use Rattle.std.specs.Int.{w32, to_be_bytes}
 use Rattle.psk_keys.specs.declared.cached.TheConstants.{CACHED_KEYS}

@@ -7,6 +7,8 @@ use Rattle.reorder_buffer.specs.declared.ring.Held.{Held}
 pub record IsAround (low : ℕ) (places : List (Option Held)) (ticks : List ℕ) : Type 0 where
   pub some : 1 ≤ length places
   pub indexed : ticks ≡ map tick_of places
-  pub placed : (place : ℕ) (held : Held) → slice_index_or places place None ≡ Some held → IsPlaced (length places) place held
+  pub placed : (place : ℕ) (held : Held) → slice_index_or places place None ≡ Some held
+      → IsPlaced (length places) place held
   pub from : (place : ℕ) (held : Held) → slice_index_or places place None ≡ Some held → low ≤ held.number
-  pub below : (place : ℕ) (held : Held) → slice_index_or places place None ≡ Some held → held.number < low + length places
+  pub below : (place : ℕ) (held : Held) → slice_index_or places place None ≡ Some held
+      → held.number < low + length places

@@ -1,5 +1,6 @@
 -- How one call changes the state.
-use Rattle.std.specs.Prelude.{ℕ, ◌+◌, Bool, true, not, ◌&&◌, ◌==◌, nat_eq, nat_lt, nat_le, length, Option, Some, None, if◌then◌else◌}
+use Rattle.std.specs.Prelude.{ℕ, ◌+◌, Bool, true, not, ◌&&◌, ◌==◌, nat_eq, nat_lt, nat_le, length, Option, Some, None}
+use Rattle.std.specs.Prelude.{if◌then◌else◌}
 use Rattle.receiver_rules.specs.declared.anchor.Anchor.{Anchor}
 use Rattle.receiver_rules.specs.Packets.{Packet, insert_by_number, is_from, higher, is_kept}
 use Rattle.std.specs.List.{filter}
@@ -44,13 +45,16 @@ moved b t a clock kept =
 
 -- the clock after an arrival of the epoch
 abbrev pub clock_then : State → ℕ → Arrival → Bool → Clock
-clock_then b t arrival kept = counted_clock b.limits (anchor_at b t arrival) (clock_at b t) t (placed_at b t arrival).timestamp (kept && not arrival.again)
+clock_then b t arrival kept =
+    counted_clock b.limits (anchor_at b t arrival) (clock_at b t) t (placed_at b t arrival).timestamp
+    (kept && not arrival.again)
 
 -- what one arrival of the epoch leaves
 abbrev pub taken : State → ℕ → Arrival → State
 taken b t arrival =
     let kept = is_kept (judged b t arrival) in
-    moved (if kept then holding b (placed_at b t arrival) else b) t (anchor_at b t arrival) (clock_then b t arrival kept) kept
+    moved (if kept then holding b (placed_at b t arrival) else b) t (anchor_at b t arrival)
+    (clock_then b t arrival kept) kept
 
 -- the packets below the floor have gone out
 abbrev pub raised : State → ℕ → State

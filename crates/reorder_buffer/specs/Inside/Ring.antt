@@ -1,5 +1,6 @@
 -- How places and blocks show the packets that wait.
-use Rattle.std.specs.Prelude.{◌≡◌, ℕ, ◌+◌, ◌-◌, ◌^◌, ◌<◌, ◌≤◌, ◌%◌, pos, List, [], ◌∷◌, length, map, take, min, max, nat_lt, Bool, false, slice_index_or, Option, None, Some}
+use Rattle.std.specs.Prelude.{◌≡◌, ℕ, ◌+◌, ◌-◌, ◌^◌, ◌<◌, ◌≤◌, ◌%◌, pos, List, [], ◌∷◌, length, map, take, min, max}
+use Rattle.std.specs.Prelude.{nat_lt, Bool, false, slice_index_or, Option, None, Some}
 use Rattle.receiver_rules.specs.declared.bounds.TheConstants.{MAX_SPAN}
 use Rattle.receiver_rules.specs.Packets.{Packet, insert_by_number, IsRising}
 use Rattle.reorder_buffer.specs.Inside.Span.{IsWithin}
@@ -14,7 +15,13 @@ pub record Waiting : Type 0 where
 
 -- a packet with the block of its place
 abbrev pub packet_of : Held → List ℕ → Packet
-packet_of held block = record { number = held.number; timestamp = held.timestamp; deadline = pos held.deadline; payload = take held.length block }
+packet_of held block =
+    record {
+      number = held.number;
+      timestamp = held.timestamp;
+      deadline = pos held.deadline;
+      payload = take held.length block;
+    }
 
 -- the packets of some places, by number
 abbrev pub packets_in : List (Option Held) → List (List ℕ) → List Packet
@@ -66,11 +73,13 @@ pub record IsPlaced (capacity place : ℕ) (held : Held) : Type 0 where
   pub length : held.length ≤ 1500
 
 -- what is kept beside the packets follows from them
-pub record IsRing (places : List (Option Held)) (blocks : List (List ℕ)) (ticks : List ℕ) (ends : Option Ends) (count : ℕ) : Type 0 where
+pub record IsRing (places : List (Option Held)) (blocks : List (List ℕ)) (ticks : List ℕ) (ends : Option Ends)
+    (count : ℕ) : Type 0 where
   pub some : 1 ≤ length places
   pub few : length places ≤ MAX_SPAN
   pub sized : length blocks ≡ length places
-  pub placed : (place : ℕ) (held : Held) → slice_index_or places place None ≡ Some held → IsPlaced (length places) place held
+  pub placed : (place : ℕ) (held : Held) → slice_index_or places place None ≡ Some held
+      → IsPlaced (length places) place held
   pub indexed : ticks ≡ map tick_of places
   pub bounded : ends ≡ ends_of (packets_in places blocks)
   pub high : ForSome ends (λ e. e.high < 2 ^ 62)
@@ -79,7 +88,8 @@ pub record IsRing (places : List (Option Held)) (blocks : List (List ℕ)) (tick
   pub within : IsWithin (length places) (packets_in places blocks)
 
 -- and where the lowest number stands
-pub record IsStanding (places : List (Option Held)) (blocks : List (List ℕ)) (ticks : List ℕ) (ends : Option Ends) (first count : ℕ) : Type 0 where
+pub record IsStanding (places : List (Option Held)) (blocks : List (List ℕ)) (ticks : List ℕ) (ends : Option Ends)
+    (first count : ℕ) : Type 0 where
   pub ring : IsRing places blocks ticks ends count
   pub inside : first < length places
   pub stands : ForSome ends (λ e. first ≡ e.low % length places)

@@ -7,7 +7,8 @@ use Rattle.reorder_buffer.specs.declared.buffer.Buffer.TheInside.{Inside}
 
 -- the packets of all places
 abbrev pub shown_waiting : RingInside → Waiting
-shown_waiting ring = record { capacity = length ring.places.items; packets = packets_in ring.places.items ring.pool.items }
+shown_waiting ring =
+    record { capacity = length ring.places.items; packets = packets_in ring.places.items ring.pool.items }
 
 -- what is kept beside them follows from them
 abbrev pub IsShownRing : RingInside → Type 0

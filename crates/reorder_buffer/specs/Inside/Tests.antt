@@ -1,5 +1,6 @@
 -- The verdict as the buffer's own state shows it.
-use Rattle.std.specs.Prelude.{◌≡◌, ◌<◌, ◌≤◌, true, false, ℕ, ℤ, pos, int_le, int_lt, ◌+◌, ◌*◌, ◌^◌, not, nat_le, nat_lt, ◌==◌, unwrap_or}
+use Rattle.std.specs.Prelude.{◌≡◌, ◌<◌, ◌≤◌, true, false, ℕ, ℤ, pos, int_le, int_lt, ◌+◌, ◌*◌, ◌^◌, not, nat_le, nat_lt}
+use Rattle.std.specs.Prelude.{◌==◌, unwrap_or}
 use Rattle.std.specs.List.{list_any}
 use Rattle.receiver_rules.specs.declared.verdict.Verdict.{Verdict}
 use Rattle.receiver_rules.specs.declared.anchor.Anchor.{Anchor}

@@ -17,7 +17,8 @@ use Rattle.rist_ends.specs.Told.{step_of}
 use Rattle.rist_ends.specs.Inside.Stepping.{SaysVerdict}
 
 -- the reporter stands before the step, and the buffer after it, with this verdict; before it this was the epoch's place
-pub record IsBetween (r : ReporterState) (b : State) (told : Told) (verdict : Option Verdict) (place : ℕ) (history : List Step) : Type 0 where
+pub record IsBetween (r : ReporterState) (b : State) (told : Told) (verdict : Option Verdict) (place : ℕ)
+    (history : List Step) : Type 0 where
   pub reporter : IsReporterAfter r b.limits history
   pub buffer : IsStateAfter b (buffer_history (step_of told ∷ history))
   pub says : SaysVerdict verdict b.limits (buffer_history history) (step_of told)

@@ -42,7 +42,8 @@ IsJudged whats.End v = v ≡ None
 
 -- and a media packet alone may raise the highest number, or open an epoch, in which it is known
 abbrev pub IsHigh : What → State → State → Type 0
-IsHigh (whats.Media arrival) old new = (new.epoch ≡ old.epoch → IsNoLower old.highest new.highest) × (new.epoch ≢ old.epoch → IsSome new.highest)
+IsHigh (whats.Media arrival) old new =
+    (new.epoch ≡ old.epoch → IsNoLower old.highest new.highest) × (new.epoch ≢ old.epoch → IsSome new.highest)
 IsHigh (whats.Control compound) old new = new.highest ≡ old.highest
 IsHigh whats.Keepalive old new = new.highest ≡ old.highest
 IsHigh whats.Refused old new = new.highest ≡ old.highest
@@ -51,7 +52,8 @@ IsHigh whats.End old new = Unit {0}
 
 -- likewise of the number alone, from an epoch's place to another
 abbrev pub IsHighNumber : What → ℕ → ℕ → Option ℕ → Option ℕ → Type 0
-IsHighNumber (whats.Media arrival) place now old new = (now ≡ place → IsNoLowerNumber old new) × (now ≢ place → IsSome new)
+IsHighNumber (whats.Media arrival) place now old new =
+    (now ≡ place → IsNoLowerNumber old new) × (now ≢ place → IsSome new)
 IsHighNumber (whats.Control compound) place now old new = new ≡ old
 IsHighNumber whats.Keepalive place now old new = new ≡ old
 IsHighNumber whats.Refused place now old new = new ≡ old

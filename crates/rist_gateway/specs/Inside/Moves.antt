@@ -11,24 +11,29 @@ abbrev pub setup_with : SenderState → ℕ → Setup
 setup_with s links = record { rules = rules_of s; session = s.session; links = links }
 
 -- sender, links and what has passed are as far as this
-pub record IsFar {L : Type 0} (line : Line L) (s : SenderState) (passed : Passed) (links : List L) (course : Course) : Type 0 where
+pub record IsFar {L : Type 0} (line : Line L) (s : SenderState) (passed : Passed) (links : List L)
+    (course : Course) : Type 0 where
   pub sender : IsSenderAfter s course.work
   pub passed_is : course.passed ≡ passed
   pub answers : course.answers ≡ map line.reads links
 
 -- from as far as that they have come to something of which this holds
-pub record Goes {L : Type 0} (line : Line L) (old new : SenderState) (passed : Passed) (was is : List L) (from : Course) (P : Course → Type 0) : Type 0 where
+pub record Goes {L : Type 0} (line : Line L) (old new : SenderState) (passed : Passed) (was is : List L) (from : Course)
+    (P : Course → Type 0) : Type 0 where
   pub to : Course
   pub fact : P to
   pub stands : IsFar line new passed is to
   pub given : AreServed line old.flow old.session from.work.history to.work.history was is
 
 -- a part of a call, whatever has passed: from as far as that, sender and links come to something of which this holds
-abbrev pub GoesBy : {L : Type 0} → Line L → SenderState → SenderState → List L → List L → (Setup → Course → Course → Type 0) → Type 0
+abbrev pub GoesBy : {L : Type 0} → Line L → SenderState → SenderState → List L → List L
+    → (Setup → Course → Course → Type 0) → Type 0
 GoesBy line old new was is P =
     (passed : Passed) (from : Course) → IsFar line old passed was from
     → Goes line old new passed was is from (P (setup_with old (length was)) from)
 
 -- the parts before these octets were sent: whatever the sending of the rest leaves, the sending of the piece leaves
 abbrev pub SendsBefore : Setup → List ℕ → List ℕ → Course → Course → Type 0
-SendsBefore setup piece rest from to = (result : Result Unit SendBad) (last : Course) → SendsOn setup rest result to last → SendsOn setup piece result from last
+SendsBefore setup piece rest from to =
+    (result : Result Unit SendBad) (last : Course) → SendsOn setup rest result to last
+    → SendsOn setup piece result from last

@@ -12,11 +12,12 @@ use Rattle.rist_gateway.specs.Run.{EndsGate, tells_of}
 
 -- What was received on these links went on by a sending end that was made so; its links and its clock are those.
 pub record PlaysOn {L C : Type 0} (moments : C → Option (ℕ → ℕ)) (line : Line L) (s : Setup) (limits : Limits)
-    (links_were links_are : List L) (clocks_were clocks_are : List C) (first : OnwardState) (onward : List L) (clock : C)
-    (counts : Counts) (ending : GateEnding) : Type 0 where
+    (links_were links_are : List L) (clocks_were clocks_are : List C) (first : OnwardState) (onward : List L)
+    (clock : C) (counts : Counts) (ending : GateEnding) : Type 0 where
   pub last : OnwardState
   pub ended : Ending
-  pub receives : Receives moments (tells_of line) s limits links_were links_are clocks_were clocks_are (Some []) (Some last.passed.sent) 0 last.faults counts ended
+  pub receives : Receives moments (tells_of line) s limits links_were links_are clocks_were clocks_are (Some [])
+      (Some last.passed.sent) 0 last.faults counts ended
   pub does : IsOnward first last
   pub links : last.links ≡ map (shown line) onward
   pub clock_is : last.passed.moments ≡ moments clock

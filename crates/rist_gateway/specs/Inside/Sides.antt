@@ -44,16 +44,19 @@ pub record HasRoom {L C U D P : Type 0} (items : List (Part L C U D P)) (capacit
 abbrev pub MayLookAtLinks : {S L C U D P : Type 0} → SidesTell S P → S → Limits → ℕ → List (Part L C U D P) → Type 0
 MayLookAtLinks {D = D} {P = P} tells shared limits first old =
     (were : List (SideWorker D P)) → old ≡ sending_parts were
-    → (place : ℕ) (d : SideWorker D P) → place < length were → MayLook tells shared limits (first + place) (slice_index_or were place d)
+    → (place : ℕ) (d : SideWorker D P) → place < length were
+    → MayLook tells shared limits (first + place) (slice_index_or were place d)
 
 -- each of the side workers looked at its link
-pub record LookedWith {S D P : Type 0} (tells : SidesTell S P) (shared : S) (moments : D → Option (ℕ → ℕ)) (limits : Limits) (first : ℕ) (were are : List (SideWorker D P)) : Type 0 where
+pub record LookedWith {S D P : Type 0} (tells : SidesTell S P) (shared : S) (moments : D → Option (ℕ → ℕ))
+    (limits : Limits) (first : ℕ) (were are : List (SideWorker D P)) : Type 0 where
   pub count : length are ≡ length were
   pub looked : (place : ℕ) (d : SideWorker D P) → place < length were
       → LooksWith tells shared moments limits (first + place) (slice_index_or were place d) (slice_index_or are place d)
 
 -- those of which these are the parts did, and those are the parts of what they came to
-abbrev pub LookAtLinks : {S L C U D P : Type 0} → SidesTell S P → S → (D → Option (ℕ → ℕ)) → Limits → ℕ → List (Part L C U D P) → List (Part L C U D P) → Type 0
+abbrev pub LookAtLinks : {S L C U D P : Type 0} → SidesTell S P → S → (D → Option (ℕ → ℕ)) → Limits → ℕ
+    → List (Part L C U D P) → List (Part L C U D P) → Type 0
 LookAtLinks {D = D} {P = P} tells shared moments limits first old new =
     (were : List (SideWorker D P)) → old ≡ sending_parts were
     → (are : List (SideWorker D P)) × (new ≡ sending_parts are) × LookedWith tells shared moments limits first were are

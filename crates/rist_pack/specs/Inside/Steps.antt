@@ -19,10 +19,13 @@ spelled_from record_of k pieces = flat_map spelling (records_of record_of k piec
 -- what the packing of piece k answers: a whole piece was packed, the source ended in it, or why it is not packed
 abbrev pub PacksPiece : (ℕ → List ℕ → Record) → ℕ → Passage → Result Turn PackBad → Type 0
 PacksPiece record_of k p (Ok On) =
-    Reads p.had p.left (λ b. (length b ≡ 1316) × (1316 * k + length b ≤ 2 ^ 40) × Appends p.held p.holds (spelled_from record_of k (pieces_of b)))
+    Reads p.had p.left (λ b. (length b ≡ 1316) × (1316 * k + length b ≤ 2 ^ 40)
+    × Appends p.held p.holds (spelled_from record_of k (pieces_of b)))
 PacksPiece record_of k p (Ok Over) =
-    Reads p.had p.left (λ b. IsEmpty p.left × (1316 * k + length b ≤ 2 ^ 40) × Appends p.held p.holds (spelled_from record_of k (pieces_of b)))
-PacksPiece record_of k p (Err ReadFault) = DropsPart p.had p.left (λ n. 1316 * k + n ≤ 2 ^ 40) × Appends p.held p.holds []
+    Reads p.had p.left (λ b. IsEmpty p.left × (1316 * k + length b ≤ 2 ^ 40)
+    × Appends p.held p.holds (spelled_from record_of k (pieces_of b)))
+PacksPiece record_of k p (Err ReadFault) =
+    DropsPart p.had p.left (λ n. 1316 * k + n ≤ 2 ^ 40) × Appends p.held p.holds []
 PacksPiece record_of k p (Err TooLong) = DropsPart p.had p.left (λ n. 2 ^ 40 < 1316 * k + n) × Appends p.held p.holds []
 PacksPiece record_of k p (Err WriteFault) =
     Reads p.had p.left (λ b. ((0 < length b) × (length b ≤ 1316)) × (1316 * k + length b ≤ 2 ^ 40)

@@ -20,7 +20,8 @@ use Rattle.rist_reporter.specs.OneMore.{is_short}
 -- the datagrams that a tick makes
 abbrev pub datagrams_due : Due → List AskWord → List Datagram
 datagrams_due due words =
-    tick_compound due.kind due.own due.is_report due.flow due.width words due.micros ++ tick_keepalive due.own due.is_keepalive
+    tick_compound due.kind due.own due.is_report due.flow due.width words due.micros
+    ++ tick_keepalive due.own due.is_keepalive
 
 -- how many they are
 abbrev pub how_many : Bool → Bool → ℕ
@@ -39,7 +40,9 @@ due_of r at link micros flow =
       width = r.width;
       micros = micros;
       is_report = has_passed_since report_interval at (entry_at r.links.reports link);
-      is_keepalive = is_main r.shutter.session.profile && has_passed_since keepalive_interval at (entry_at r.links.keepalives link);
+      is_keepalive =
+          is_main r.shutter.session.profile
+          && has_passed_since keepalive_interval at (entry_at r.links.keepalives link);
     }
 
 -- pairs are wanting for these datagrams; a muted reporter wants none
@@ -61,7 +64,8 @@ LacksAt r buffer at rtt due answer =
     (before : List Step) (link tick micros : ℕ) → IsTimerAfter r.timer buffer.limits before
     → IsStateAfter buffer (buffer_history (tick_step link tick micros ∷ before))
     → rtt ≡ tick_of (longest_rtt 16 before)
-    → answer ≡ lacks_for r.is_muted (pairs_left r.shutter.sealer) (datagrams_due due (asked_words buffer.limits r.timer.policy before at))
+    → answer ≡ lacks_for r.is_muted (pairs_left r.shutter.sealer)
+    (datagrams_due due (asked_words buffer.limits r.timer.policy before at))
 
 -- the highest number is no lower than it was
 abbrev pub IsNoLowerNumber : Option ℕ → Option ℕ → Type 0

@@ -37,23 +37,27 @@ pub record IsAt (s : SenderState) (p : Progress) (outside : Outside) (run : Run)
   pub answers : run.answers ≡ outside.answers
 
 -- a part of a run: it comes to something of which this holds
-pub record Moves {L : Type 0} (line : Line L) (old new : SenderState) (progress : Progress) (outside : Outside) (was is : List L) (from : Run) (P : Run → Type 0) : Type 0 where
+pub record Moves {L : Type 0} (line : Line L) (old new : SenderState) (progress : Progress) (outside : Outside)
+    (was is : List L) (from : Run) (P : Run → Type 0) : Type 0 where
   pub to : Run
   pub fact : P to
   pub stands : IsAt new progress outside to
   pub given : AreServed line old.flow old.session from.work.history to.work.history was is
 
--- a part of a run that comes neither to its clock nor to its source: from where a run has come to, it comes to something
--- of which this holds
-abbrev pub MovesBy : {L : Type 0} → Line L → SenderState → SenderState → Progress → Progress → List L → List L → (Setup → Run → Run → Type 0) → Type 0
+-- a part of a run that comes neither to its clock nor to its source: from where a run has come to, it comes to
+-- something of which this holds
+abbrev pub MovesBy : {L : Type 0} → Line L → SenderState → SenderState → Progress → Progress → List L → List L
+    → (Setup → Run → Run → Type 0) → Type 0
 MovesBy line old new before after was is P =
     (settings : SendSettings) (from : Run) → IsAt old before (with_links from (map line.reads was)) from
-    → Moves line old new after (with_links from (map line.reads is)) was is from (P (setup_of settings old (length was)) from)
+    → Moves line old new after (with_links from (map line.reads is)) was is from
+    (P (setup_of settings old (length was)) from)
 
 -- one link gave an answer to a read, and the others stay
 pub record ReadsAt {L : Type 0} (line : Line L) (link : ℕ) (answer : Answer) (was is : List L) : Type 0 where
   pub first : (d : L) → IsFirst (line.reads (slice_index_or was link d)) answer
-  pub reads : (d : L) → line.reads (slice_index_or is link d) ≡ option_map later (line.reads (slice_index_or was link d))
+  pub reads : (d : L) → line.reads (slice_index_or is link d)
+      ≡ option_map later (line.reads (slice_index_or was link d))
   pub taken : (d : L) → line.taken (slice_index_or is link d) ≡ line.taken (slice_index_or was link d)
   pub faults : (d : L) → line.faults (slice_index_or was link d) ≤ line.faults (slice_index_or is link d)
   pub others : (k : ℕ) (d : L) → k ≢ link → slice_index_or is k d ≡ slice_index_or was k d
@@ -61,5 +65,6 @@ pub record ReadsAt {L : Type 0} (line : Line L) (link : ℕ) (answer : Answer) (
 -- the links before one were read: whatever the reads of the others leave, the reads of all leave
 abbrev pub ReadsBefore : Setup → ℕ → Run → Run → Type 0
 ReadsBefore setup link from to =
-    (result : Result Unit SendFault) (last : Run) → ReadsInTurn setup (range_with_len link (setup.links - link)) result to last
+    (result : Result Unit SendFault) (last : Run)
+    → ReadsInTurn setup (range_with_len link (setup.links - link)) result to last
     → ReadsInTurn setup (range_with_len 0 setup.links) result from last

@@ -10,16 +10,17 @@ use Rattle.rist_sender.specs.declared.answer.Answer.{Answer}
 use Rattle.rist_sender.specs.declared.answer.Answer.TheVariants.{Took, NoPeer, Failed}
 use Rattle.rist_sender.specs.Sender.{has_keepalives}
 
--- a packet can be sent: its payload fits, and null packets were deleted from it only where the session deletes them, so that they
--- can be put back
+-- a packet can be sent: its payload fits, and null packets were deleted from it only where the session deletes them, so
+-- that they can be put back
 pub record IsSendable (nulls : Bool) (packet : Packet) : Type 0 where
   pub payload : length packet.payload ≤ 1500
   pub strip : IsSome packet.strip → nulls ≡ true
   pub whole : can_restore packet.strip packet.payload ≡ true
 
--- the flow is even; a sealer is there exactly where there is a passphrase; what is known of the session is its own; the next packet
--- follows on those that are stored, each of which can be sent again
-pub record IsKept (nulls alive : Bool) (flow first hold : ℕ) (shutter : ShutterState) (store : StoreState) (time count : ℕ) : Type 0 where
+-- the flow is even; a sealer is there exactly where there is a passphrase; what is known of the session is its own; the
+-- next packet follows on those that are stored, each of which can be sent again
+pub record IsKept (nulls alive : Bool) (flow first hold : ℕ) (shutter : ShutterState) (store : StoreState)
+    (time count : ℕ) : Type 0 where
   pub session : IsSession shutter.session
   pub paired : is_some shutter.sealer ≡ is_some shutter.session.pass
   pub deletes : nulls ≡ shutter.session.nulls

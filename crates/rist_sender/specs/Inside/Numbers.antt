@@ -16,7 +16,8 @@ number_seen number = record { width = number.width; word = number.word }
 
 -- so many numbers of an ask from one on
 abbrev pub numbers_from : Width → ℕ → ℕ → List AskedNumber
-numbers_from width next count = map (λ word. record { width = width; word = word }) (following (cycle_of width) count next)
+numbers_from width next count =
+    map (λ word. record { width = width; word = word }) (following (cycle_of width) count next)
 
 -- those of the ask that is being read, and those of the asks behind it
 abbrev pub numbers_left : Width → ℕ → ℕ → List Ask → List AskedNumber
@@ -25,4 +26,5 @@ numbers_left width next count asks = numbers_from width next count ++ flat_map n
 -- the number of a packet that was found, unless it was sent again within the hold time
 abbrev pub number_again : ℕ → ℕ → List Sending → Option Packet → Option ℕ
 number_again hold tick history None = None
-number_again hold tick history (Some packet) = if has_passed hold tick (last_sent_again history packet.number) then Some packet.number else None
+number_again hold tick history (Some packet) =
+    if has_passed hold tick (last_sent_again history packet.number) then Some packet.number else None

@@ -20,8 +20,8 @@ use Rattle.rist_replay.specs.Replay.{replayed}
 use Rattle.rist_split.specs.Split.{IsSplitOff}
 use Rattle.rist_split.specs.Inside.Telling.{history_at}
 
--- what a split begins with: the ports, the session that the tunnel has but for its port, the receivers' limits; and what each
--- sink held then, and its count of faults, by place
+-- what a split begins with: the ports, the session that the tunnel has but for its port, the receivers' limits; and
+-- what each sink held then, and its count of faults, by place
 pub record SplitStart : Type 0 where
   pub ports : List ℕ
   pub session : Session
@@ -40,29 +40,36 @@ no_start =
       before = λ v. 0;
     }
 
--- what a receiver and its sink have come to: they go on, and the sink has gained what the history releases; or a write failed,
--- and it has gained a front part of that
-pub data HasComeTo (limits : Limits) (held : Option (List ℕ)) (before : ℕ) (history : List ReceiverStep) (receiver : ReceiverState) (holds : Option (List ℕ)) (now : ℕ) : Type 0 where
-  Goes : IsReceiverAfter receiver history → receiver.buffer.phase ≡ Open → Appends held holds (released_bytes limits (buffer_history history)) → now ≡ before
+-- what a receiver and its sink have come to: they go on, and the sink has gained what the history releases; or a write
+-- failed, and it has gained a front part of that
+pub data HasComeTo (limits : Limits) (held : Option (List ℕ)) (before : ℕ) (history : List ReceiverStep)
+    (receiver : ReceiverState) (holds : Option (List ℕ)) (now : ℕ) : Type 0 where
+  Goes : IsReceiverAfter receiver history → receiver.buffer.phase ≡ Open
+      → Appends held holds (released_bytes limits (buffer_history history)) → now ≡ before
       → HasComeTo limits held before history receiver holds now
-  Fails : receiver.buffer.phase ≡ Failed → AppendsPart held holds (released_bytes limits (buffer_history history)) → Rose before now
+  Fails : receiver.buffer.phase ≡ Failed → AppendsPart held holds (released_bytes limits (buffer_history history))
+      → Rose before now
       → HasComeTo limits held before history receiver holds now
 
 -- and as it was set
-pub record StandsAfter (limits : Limits) (held : Option (List ℕ)) (before : ℕ) (history : List ReceiverStep) (receiver : ReceiverState) (holds : Option (List ℕ)) (now : ℕ) : Type 0 where
+pub record StandsAfter (limits : Limits) (held : Option (List ℕ)) (before : ℕ) (history : List ReceiverStep)
+    (receiver : ReceiverState) (holds : Option (List ℕ)) (now : ℕ) : Type 0 where
   pub going : has_ended (buffer_history history) ≡ false
   pub limits_are : receiver.buffer.limits ≡ limits
   pub muted : receiver.reporter.is_muted ≡ true
   pub state : HasComeTo limits held before history receiver holds now
 
 -- each flow after these records
-abbrev pub FlowsAfter : {K : Type 0} → (K → Option (List ℕ)) → (K → ℕ) → SplitStart → List (Flow K) → List Record → Type 0
+abbrev pub FlowsAfter : {K : Type 0} → (K → Option (List ℕ)) → (K → ℕ) → SplitStart → List (Flow K) → List Record
+    → Type 0
 FlowsAfter {K} contents faults start flows rs =
     (v : ℕ) (flow : Flow K) → slice_get flows v ≡ Some flow
-    → StandsAfter start.limits (start.held v) (start.before v) (history_at start.ports start.session v rs) flow.receiver (contents flow.sink) (faults flow.sink)
+    → StandsAfter start.limits (start.held v) (start.before v) (history_at start.ports start.session v rs) flow.receiver
+    (contents flow.sink) (faults flow.sink)
 
 -- the same of a split in this session and at these ports, with a flow for each
-pub record HasSplit {K : Type 0} (contents : K → Option (List ℕ)) (faults : K → ℕ) (start : SplitStart) (session : Session) (ports : List ℕ) (flows : List (Flow K)) (rs : List Record) : Type 0 where
+pub record HasSplit {K : Type 0} (contents : K → Option (List ℕ)) (faults : K → ℕ) (start : SplitStart)
+    (session : Session) (ports : List ℕ) (flows : List (Flow K)) (rs : List Record) : Type 0 where
   pub session_is : session ≡ start.session
   pub ports_are : ports ≡ start.ports
   pub places : length flows ≡ length start.ports
@@ -71,10 +78,12 @@ pub record HasSplit {K : Type 0} (contents : K → Option (List ℕ)) (faults : 
 -- ---- after the end
 
 -- each output after these records and the end, by what came of it there
-abbrev pub AllSplitFrom : {K : Type 0} → (K → Option (List ℕ)) → (K → ℕ) → SplitStart → List (Flow K) → List Came → List Record → Type 0
+abbrev pub AllSplitFrom : {K : Type 0} → (K → Option (List ℕ)) → (K → ℕ) → SplitStart → List (Flow K) → List Came
+    → List Record → Type 0
 AllSplitFrom {K} contents faults start new is rs =
     (v : ℕ) (next : Flow K) (came : Came) → slice_get new v ≡ Some next → slice_get is v ≡ Some came
-    → IsSplitOff (replayed (session_at start.ports v start.session) start.limits rs) (start.held v) (contents next.sink) (start.before v) (faults next.sink) (is_cut_off came.answer)
+    → IsSplitOff (replayed (session_at start.ports v start.session) start.limits rs) (start.held v) (contents next.sink)
+    (start.before v) (faults next.sink) (is_cut_off came.answer)
 
 -- ---- what a split is named by
 
@@ -87,6 +96,13 @@ abbrev pub faults_in : {K : Type 0} → (K → ℕ) → List (Flow K) → ℕ �
 faults_in faults flows v = unwrap_or (option_map (λ flow. faults flow.sink) (slice_get flows v)) 0
 
 -- a split of these flows
-abbrev pub start_of : {K : Type 0} → (K → Option (List ℕ)) → (K → ℕ) → List ℕ → Session → Limits → List (Flow K) → SplitStart
+abbrev pub start_of : {K : Type 0} → (K → Option (List ℕ)) → (K → ℕ) → List ℕ → Session → Limits → List (Flow K)
+    → SplitStart
 start_of contents faults ports session limits flows =
-    record { ports = ports; session = session; limits = limits; held = held_in contents flows; before = faults_in faults flows }
+    record {
+      ports = ports;
+      session = session;
+      limits = limits;
+      held = held_in contents flows;
+      before = faults_in faults flows;
+    }

@@ -19,8 +19,8 @@ abbrev pub item_found : Result (ℕ × Item) WireBad → Result Item WireBad
 item_found (Ok found) = Ok found.1
 item_found (Err bad) = Err bad
 
--- what the receiver at a place is told of what was found at a moment in microseconds: its own item, and of all else that a
--- datagram was refused
+-- what the receiver at a place is told of what was found at a moment in microseconds: its own item, and of all else
+-- that a datagram was refused
 abbrev pub input_at : ℕ → ℕ → Result (ℕ × Item) WireBad → Input
 input_at v us (Ok found) = if found.0 == v then input_read us (Ok found.1) else Refused
 input_at v us (Err bad) = Refused

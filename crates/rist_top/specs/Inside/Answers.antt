@@ -22,7 +22,8 @@ OnErrIs (Ok x) P = Unit {0}
 OnErrIs (Err e) P = P e
 
 -- a source and a sink are as they were handed out, and no random word was drawn
-pub record IsUnbegun {I O E L C : Type 0} (source spent : I) (sink filled : O) (old new : Shelf I O E L C) : Type 0 where
+pub record IsUnbegun {I O E L C : Type 0} (source spent : I) (sink filled : O)
+    (old new : Shelf I O E L C) : Type 0 where
   pub unread : spent ≡ source
   pub unwritten : filled ≡ sink
   pub entropies : Stays old.entropies new.entropies

@@ -74,8 +74,7 @@ module _ {K : Type 0} (form : Form) (c : SplitCommand) (contents : K → Option 
 -- the records of a source were split into these sinks, with counts of failed reads before and after, and the answer
 -- is this status
 pub record SplitsAs {K : Type 0} (form : Form) (c : SplitCommand) (contents : K → Option (List ℕ)) (faults : K → ℕ)
-    (had left : Option (List ℕ)) (reads_were reads_are : ℕ)
-    (old new : List K) (status : Status) : Type 0 where
+    (had left : Option (List ℕ)) (reads_were reads_are : ℕ) (old new : List K) (status : Status) : Type 0 where
   pub ended : Status
   pub records : IsRecordsEnd ended
   pub read : HasReadCause (fault_of ended) reads_were reads_are
