@@ -17,9 +17,9 @@ use Rattle.rist_top.specs.Causes.{fault_of}
 use Rattle.rist_top.specs.DoesSplit.{KeepsAroundSplit, OpensInOrder}
 use Rattle.rist_top.specs.Objects.{Tells}
 use Rattle.rist_top.specs.Ran.{Ran}
-use Rattle.rist_top.specs.Splits.{IsAsReplayed, IsCutOff, IsOutput, Splits, Unsplit, output_name}
+use Rattle.rist_top.specs.Splits.{IsAsReplayed, IsCutOff, IsOutput, Splits, Unsplit, output_name, IsRecordsEnd}
 use Rattle.rist_top.specs.Works.{ReplaysAs, form_of}
-use Rattle.rist_top.specs.Inside.Splitting.{AllWhole, IsAnswered, IsRecordsEnd, LeavesPart, LeavesWhole, SomeCut, SplitsAs}
+use Rattle.rist_top.specs.Inside.Splitting.{AllWhole, IsAnswered, LeavesPart, LeavesWhole, SomeCut, SplitsAs}
 use Rattle.rist_top.specs.declared.status.Status.{Status}
 use Rattle.rist_top.proofs.ExactLemmas.{ran_epochs, ran_reached}
 use Rattle.rist_top.proofs.FrameLemmas.{not_as_it_stood}
@@ -154,11 +154,13 @@ module _ {I O E L C : Type 0} (c : SplitCommand) (old new : Shelf I O E L C) (so
         as_replayed v sink.0 filled.0 less sink.1 filled.1 (whole v sink.0 filled.0 sink.1 filled.1) in
         record {
           ended = ended;
+          records = records;
           outputs = λ v less. inl (each v less);
           answer = inl (is, λ v less. subst (λ x. IsAsReplayed tells old new (replay_at c v) x) (sym is) (each v less));
         }
     split_as status (SomeCut outputs cut is) = record {
       ended = ended;
+      records = records;
       outputs = λ v less.
           let sink = was_at v less in
           let filled = is_at v less in

@@ -22,10 +22,10 @@ use Rattle.rist_words.specs.Ranges.{IsInSplit}
 use Rattle.rist_top.specs.Causes.{fault_of}
 use Rattle.rist_top.specs.DoesSplit.{IsSplitEnd}
 use Rattle.rist_top.specs.Sessions.{session_read, split_limits}
-use Rattle.rist_top.specs.Splits.{IsFront}
+use Rattle.rist_top.specs.Splits.{IsFront, IsRecordsEnd}
 use Rattle.rist_top.specs.Works.{ReplaysAs, walk_status}
 use Rattle.rist_top.specs.Inside.Answers.{IsOwn}
-use Rattle.rist_top.specs.Inside.Splitting.{AllWhole, IsAnswered, IsRecordsEnd, LeavesPart, LeavesWhole, SomeCut, SplitsAs}
+use Rattle.rist_top.specs.Inside.Splitting.{AllWhole, IsAnswered, LeavesPart, LeavesWhole, SomeCut, SplitsAs}
 use Rattle.rist_top.specs.declared.status.Status.{Status}
 use Rattle.rist_top.specs.declared.status.Status.TheVariants as statuses
 

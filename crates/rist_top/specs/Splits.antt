@@ -68,11 +68,30 @@ pub record SomeIsCutOff {I O E L C : Type 0} (tells : Tells I O E) (old new : Sh
   pub among : output < length c.ports
   pub cut : IsCutOff tells old new (replay_at c output) status
 
+-- how the records of a file can end: no write failed there, and no memory was refused
+abbrev pub IsRecordsEnd : Status → Type 0
+IsRecordsEnd statuses.Done = Unit {0}
+IsRecordsEnd statuses.Memory = ⊥
+IsRecordsEnd statuses.Usage = ⊥
+IsRecordsEnd statuses.OpenFault = ⊥
+IsRecordsEnd statuses.ReadFault = Unit {0}
+IsRecordsEnd statuses.WriteFault = ⊥
+IsRecordsEnd (statuses.BadCapture kind at) = Unit {0}
+IsRecordsEnd statuses.EntropyFault = ⊥
+IsRecordsEnd statuses.TooLong = Unit {0}
+IsRecordsEnd statuses.LinksDown = ⊥
+IsRecordsEnd statuses.TraceFull = ⊥
+IsRecordsEnd (statuses.Torn tear) = ⊥
+IsRecordsEnd statuses.Spent = ⊥
+IsRecordsEnd statuses.TurnsSpent = ⊥
+IsRecordsEnd (statuses.BadPcap kind at) = Unit {0}
+
 -- The records of a capture ended so, and each output is as after a replay with that end, but those to which a write
 -- failed. Where none did the answer is that end too; else the answer is that a write failed.
 pub record Splits {I O E L C : Type 0} (tells : Tells I O E) (old new : Shelf I O E L C) (c : SplitCommand)
     (status : Status) : Type 0 where
   pub ended : Status
+  pub records : IsRecordsEnd ended
   pub outputs : (v : ℕ) → v < length c.ports → IsOutput tells old new (replay_at c v) ended
   pub answer : ((status ≡ ended) × AreAsReplayed tells old new c status)
       ⊎ ((status ≡ statuses.WriteFault) × SomeIsCutOff tells old new c ended)

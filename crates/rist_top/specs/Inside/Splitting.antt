@@ -6,7 +6,7 @@ use Rattle.capture_walk.specs.Form.{Form}
 use Rattle.capture_walk.specs.Leaves.{passage as passed}
 use Rattle.rist_words.specs.CommandLine.{ReplayCommand, SplitCommand, replay_at}
 use Rattle.rist_top.specs.Causes.{fault_of}
-use Rattle.rist_top.specs.Splits.{IsFront}
+use Rattle.rist_top.specs.Splits.{IsFront, IsRecordsEnd}
 use Rattle.rist_top.specs.Works.{ReplaysAs}
 use Rattle.rist_top.specs.declared.status.Status.{Status}
 use Rattle.rist_top.specs.declared.status.Status.TheVariants as statuses
@@ -25,24 +25,6 @@ pub record LeavesWhole (form : Form) (c : ReplayCommand) (p : Passage) (before n
 pub record LeavesPart (form : Form) (c : ReplayCommand) (p : Passage) (before now : ℕ) (ended : Status) : Type 0 where
   pub work : ReplaysPartAs form c p ended
   pub failed : Rose before now
-
--- how the records of a file can end
-abbrev pub IsRecordsEnd : Status → Type 0
-IsRecordsEnd statuses.Done = Unit {0}
-IsRecordsEnd statuses.Memory = ⊥
-IsRecordsEnd statuses.Usage = ⊥
-IsRecordsEnd statuses.OpenFault = ⊥
-IsRecordsEnd statuses.ReadFault = Unit {0}
-IsRecordsEnd statuses.WriteFault = ⊥
-IsRecordsEnd (statuses.BadCapture kind at) = Unit {0}
-IsRecordsEnd statuses.EntropyFault = ⊥
-IsRecordsEnd statuses.TooLong = Unit {0}
-IsRecordsEnd statuses.LinksDown = ⊥
-IsRecordsEnd statuses.TraceFull = ⊥
-IsRecordsEnd (statuses.Torn tear) = ⊥
-IsRecordsEnd statuses.Spent = ⊥
-IsRecordsEnd statuses.TurnsSpent = ⊥
-IsRecordsEnd (statuses.BadPcap kind at) = Unit {0}
 
 -- What is left of these sinks by a split of a source that had these octets and has those left.
 module _ {K : Type 0} (form : Form) (c : SplitCommand) (contents : K → Option (List ℕ)) (faults : K → ℕ)
