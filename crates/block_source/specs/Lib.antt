@@ -1,2 +1,4 @@
 pub mod Block
 pub mod Lending
+pub mod Pieces
+pub mod Reading

@@ -1,7 +1,13 @@
-//! A source that is read in large pieces through a block, so that small reads cost no call outside. A contract sees what
-//! remains of it, and which of that was taken from the source ahead of need.
+//! How a source is read: in large pieces through a block, so that small reads cost no call outside; and in the pieces of a
+//! stream, seven transport stream packets each, the last of which may be shorter. A contract sees what a source had and has
+//! left, where it tells it.
 #![tactic(auto)]
 
 mod block;
+mod fault;
+pub mod laws;
+mod reading;
 
 pub use block::Block;
+pub use fault::PieceFault;
+pub use reading::{MAX_LEN, PIECE_LEN, read_piece};

@@ -10,8 +10,8 @@ use Rattle.capture_file.specs.declared.reader.CapKind.{CapKind}
 use Rattle.capture_file.specs.declared.reader.CapKind.TheVariants.{Truncated, Link, Long, TooLong, Channel as ChannelBad}
 use mathlib.Core.Logic.{inl, inr}
 use Rattle.std.proofs.lemmas.Bool.Decides.{nat_tests}
-use Rattle.outside_io.specs.declared.channel.Channel.{Channel}
-use Rattle.outside_io.specs.declared.channel.Channel.TheVariants.{Media, Control, Tunnel}
+use Rattle.link_channels.specs.declared.channel.Channel.{Channel}
+use Rattle.link_channels.specs.declared.channel.Channel.TheVariants.{Media, Control, Tunnel}
 use Rattle.capture_file.specs.Capture.{Record, Fits, spelling, head_spelling, channel_code, NoRecord, IsFront, IsCapture}
 
 same_code : (a b : Channel) → channel_code a ≡ channel_code b → a ≡ b

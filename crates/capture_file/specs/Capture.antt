@@ -3,8 +3,8 @@
 -- big-endian.
 use Rattle.std.specs.Prelude.{◌≡◌, ℕ, ◌^◌, ◌<◌, ◌≤◌, List, [], ◌∷◌, ◌++◌, length, flat_map, All}
 use Rattle.std.specs.Int.{w16, w64, to_be_bytes}
-use Rattle.outside_io.specs.declared.channel.Channel.{Channel}
-use Rattle.outside_io.specs.declared.channel.Channel.TheVariants.{Media, Control, Tunnel}
+use Rattle.link_channels.specs.declared.channel.Channel.{Channel}
+use Rattle.link_channels.specs.declared.channel.Channel.TheVariants.{Media, Control, Tunnel}
 
 -- one datagram, with the link and the channel that it came on, and its time in microseconds
 pub record Record : Type 0 where

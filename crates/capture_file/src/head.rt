@@ -6,7 +6,7 @@ ghost use Rattle.capture_file.specs.Tests.{fault_of_head, length_said};
 ghost use Rattle.capture_file.specs.Heads.{head_octets};
 
 use crate::CapKind;
-use outside_io::Channel;
+use link_channels::Channel;
 
 /// A record but for its octets.
 #[derive(Clone, Copy, Debug, PartialEq, Eq)]

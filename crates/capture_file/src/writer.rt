@@ -8,7 +8,8 @@ ghost use Rattle.capture_file.specs.Writer.{WriterState, new_writer};
 
 use crate::Head;
 use crate::reader::MAGIC;
-use outside_io::{Channel, Sink, WriteFault};
+use link_channels::Channel;
+use outside_io::{Sink, WriteFault};
 use std::marker::Model;
 
 // Octets of the longest record with its head.

@@ -8,7 +8,7 @@ use Rattle.std.specs.declared.option.Option.TheVariants.{None, Some}
 use Rattle.std.proofs.lemmas.Bool.{cases_lt}
 use Rattle.std.proofs.lemmas.Bool.Decides.{nat_tests}
 use Rattle.std.proofs.lemmas.List.{take_all}
-use Rattle.outside_io.specs.declared.profile.Profile.{Profile}
+use Rattle.link_channels.specs.declared.profile.Profile.{Profile}
 use Rattle.outside_io.specs.Told.{Takes, IsReadTo}
 use Rattle.outside_io.proofs.ToldLemmas.{takes_both}
 use Rattle.capture_file.specs.Capture.{Record}

@@ -7,7 +7,7 @@ use Rattle.std.specs.Option.{option_map}
 use Rattle.std.proofs.lemmas.List.{map-append}
 use Rattle.std.proofs.lemmas.List.Elements.{All-push, All-nil}
 use Rattle.std.proofs.lemmas.Grind.{flat_map-append}
-use Rattle.outside_io.specs.declared.profile.Profile.{Profile}
+use Rattle.link_channels.specs.declared.profile.Profile.{Profile}
 use Rattle.outside_io.specs.Told.{Takes, IsEmpty}
 use Rattle.outside_io.proofs.ToldLemmas.{takes_both, takes_none}
 use Rattle.capture_file.specs.Capture.{Record}

@@ -1,7 +1,7 @@
 -- What holds the records of a walk: a capture file, or a pcap file whose frames carry them.
 use Rattle.std.specs.Prelude.{◌≡◌, ◌≢◌, ◌⊎◌, ℕ, List, [], ◌++◌, map, take, Some}
 use mathlib.Core.Logic.{inl, inr}
-use Rattle.outside_io.specs.declared.profile.Profile.{Profile}
+use Rattle.link_channels.specs.declared.profile.Profile.{Profile}
 use Rattle.capture_file.specs.Capture.{Record, IsCapture, IsFront, magic}
 use Rattle.capture_file.specs.Tests.{BadAt}
 use Rattle.capture_file.specs.declared.reader.CapKind.{CapKind}

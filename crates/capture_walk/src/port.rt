@@ -12,7 +12,8 @@ ghost use Rattle.capture_walk.specs.declared.walk_bad.WalkBad.TheVariants.{ReadF
 use crate::records::Records;
 use crate::walk_bad::WalkBad;
 use capture_file::Head;
-use outside_io::{Profile, Source, copy_front};
+use link_channels::Profile;
+use outside_io::{Source, copy_front};
 use pcap_file::{PcapReader, datagram_in};
 use std::marker::Model;
 

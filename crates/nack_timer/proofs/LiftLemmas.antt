@@ -9,7 +9,7 @@ use Rattle.receiver_rules.specs.Steps.{tick_of}
 use Rattle.request_rules.specs.declared.policy.Policy.{Policy}
 use Rattle.request_rules.specs.Missing.{is_passed}
 use Rattle.request_rules.specs.Requests.{Request, request_times, has_passed, is_due}
-use Rattle.request_rules.specs.Times.{has_passed_since}
+use Rattle.link_channels.specs.Intervals.{has_passed_since}
 use Rattle.request_rules.specs.Missing.{is_below_highest}
 use Rattle.request_rules.specs.declared.word.AskWord.{AskWord}
 use Rattle.request_rules.proofs.KeptLemmas.{passed_since, passed_highest}

@@ -11,8 +11,9 @@ ghost use Rattle.receiver_rules.specs.declared.bounds.TheConstants.{MAX_SPAN};
 
 use crate::entry::Missing;
 use circular_buffer::HeapCircularBuffer;
+use link_channels::has_passed_since;
 use reorder_buffer::Buffer;
-use request_rules::{Asked, Policy, has_passed_since};
+use request_rules::{Asked, Policy};
 
 /// Looks at each entry once: those that have come, or are looked for no more, are forgotten, and those that are due are
 /// asked for.

@@ -4,3 +4,6 @@ pub mod ByPlace
 pub mod MemHost
 pub mod RealHost
 pub mod Text
+pub mod Links
+pub mod Sinks
+pub mod Inside

@@ -7,7 +7,8 @@ ghost use Rattle.outside_host.specs.Shelf.{HandsOutSource, HandsOutSink, HandsOu
 ghost use Rattle.outside_host.specs.Shelf.{ChangesSources, ChangesSinks, ChangesEntropies, ChangesDrawing, ChangesLinks, ChangesOpening, ChangesClocks, ChangesTiming, ChangesReport};
 
 use crate::Reception;
-use outside_io::{Entropy, Profile, Sink, Source};
+use link_channels::Profile;
+use outside_io::{Entropy, Sink, Source};
 use outside_net::{Clock, Link, LinkSpec, Role};
 use std::fmt::{self, Display, Formatter, Write};
 

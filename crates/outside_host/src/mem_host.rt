@@ -15,7 +15,8 @@ use crate::by_place::{is_unwritten, put_place, returned_place, take_place};
 use crate::openings::Openings;
 use crate::slots::{is_fresh, put_back, returned, take_out};
 use crate::{Host, HostBad, Opened, Place, Reception, Slot};
-use outside_io::{FailingCalls, MemSource, NoMemory, Profile, Store8, Words};
+use link_channels::Profile;
+use outside_io::{FailingCalls, MemSource, NoMemory, Store8, Words};
 use outside_net::{LinkSpec, Role, ScriptClock, ScriptLink};
 use std::alloc::Global;
 

@@ -9,9 +9,9 @@ use crate::trouble::{Reason, Thing, Trouble};
 use crate::{Host, HostBad, Reception};
 use libc::net::{POLLIN, poll};
 use libc::types::pollfd;
+use link_channels::Profile;
 use outside_io::{
-    FileIdentity, Profile, RealEntropy, RealSink, RealSource, create_sink, is_named,
-    open_known_source,
+    FileIdentity, RealEntropy, RealSink, RealSource, create_sink, is_named, open_known_source,
 };
 use outside_net::{LinkSpec, ProcessClock, Role, UdpLink};
 use std::alloc::Global;

@@ -3,7 +3,6 @@
 #![tactic(auto)]
 
 mod bytes;
-mod channel;
 mod copying;
 mod entropy;
 mod failing;
@@ -13,7 +12,6 @@ mod mem_source;
 mod memory;
 mod nowhere;
 mod pieces;
-mod profile;
 mod real;
 mod real_entropy;
 mod sink;
@@ -23,7 +21,6 @@ mod words;
 mod write_fault;
 
 pub use bytes::Bytes;
-pub use channel::Channel;
 pub use copying::copy_front;
 pub use entropy::Entropy;
 pub use failing::FailingCalls;
@@ -33,7 +30,6 @@ pub use mem_source::MemSource;
 pub use memory::NoMemory;
 pub use nowhere::Nowhere;
 pub use pieces::Pieces;
-pub use profile::Profile;
 pub use real::{Reading, RealSink, RealSource, Writing, create_sink, is_named, open_known_source};
 pub use real_entropy::RealEntropy;
 pub use sink::Sink;

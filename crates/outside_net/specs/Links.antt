@@ -1,7 +1,7 @@
 -- What a link gives and takes.
 use Rattle.std.specs.Prelude.{◌≡◌, ◌≢◌, ◌≤◌, ℕ, List, [], ◌∷◌, ◌++◌, take, Option, Some, Result, Ok, Err, Bool, true}
 use Rattle.std.specs.Prelude.{false}
-use Rattle.outside_io.specs.declared.channel.Channel.{Channel}
+use Rattle.link_channels.specs.declared.channel.Channel.{Channel}
 use Rattle.outside_net.specs.declared.link.Got.{Got}
 use Rattle.outside_net.specs.declared.link.Got.TheVariants as got
 
@@ -80,3 +80,12 @@ abbrev pub taken_with : {E : Type 0} → Channel → List ℕ → Result Bool E 
 taken_with channel octets (Ok true) taken = taken ++ record { channel = channel; octets = octets } ∷ []
 taken_with channel octets (Ok false) taken = taken
 taken_with channel octets (Err e) taken = taken
+
+-- What a kind of links tells, and its counts: the answers that its reads have still to give, the datagrams that it
+-- took, which channels' peers it knows, how many reads came to an end, and how many calls failed.
+pub record LinkTells (L : Type 0) : Type 0 where
+  pub reads : L → Option (ℕ → Answer)
+  pub taken : L → Option (List Datagram)
+  pub knows : L → Channel → Bool
+  pub ends : L → ℕ
+  pub faults : L → ℕ

@@ -2,8 +2,8 @@
 use Rattle.std.specs.Prelude.{◌≡◌, ◌≤◌, ℕ, suc, zero, length, List, [], ◌∷◌, ◌==◌, if◌then◌else◌, Bool}
 use Rattle.std.specs.List.{list_any}
 use Rattle.outside_io.specs.Calls.{next_count}
-use Rattle.outside_io.specs.declared.channel.Channel.{Channel}
-use Rattle.outside_io.specs.declared.channel.Channel.TheVariants as channels
+use Rattle.link_channels.specs.declared.channel.Channel.{Channel}
+use Rattle.link_channels.specs.declared.channel.Channel.TheVariants as channels
 use Rattle.outside_net.specs.Links.{Datagram, Answer, Gave, Quiet, End, Failed}
 use Rattle.outside_net.specs.declared.script_link.ScriptRead.{ScriptRead}
 use Rattle.outside_net.specs.declared.script_link.ScriptRead.TheVariants as reads

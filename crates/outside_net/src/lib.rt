@@ -5,25 +5,27 @@
 
 mod call_list;
 mod clock;
-mod kept;
 mod link;
 mod link_spec;
+mod list_trace;
 mod octets;
 mod peers;
 mod port;
 mod process_clock;
 mod script_clock;
 mod script_link;
+mod telling;
 mod trace;
 mod udp_link;
 
 pub use clock::Clock;
-pub use kept::Kept;
 pub use link::{Got, Link, MAX_DATAGRAM};
 pub use link_spec::{LinkSpec, Role};
+pub use list_trace::ListTrace;
 pub use octets::Octets;
 pub use process_clock::ProcessClock;
 pub use script_clock::ScriptClock;
 pub use script_link::{ScriptLink, ScriptRead};
+pub use telling::TellingLink;
 pub use trace::{Full, Trace};
 pub use udp_link::UdpLink;

@@ -3,12 +3,13 @@ ghost use Rattle.std.specs.Prelude.{◌≡◌, ℕ, List, Bool, IfOk};
 ghost use Rattle.std.specs.Option.{option_map};
 ghost use Rattle.std.specs.declared.option.Option.{Option};
 ghost use Rattle.outside_io.specs.Causes.{RoseWhere, HasCause};
-ghost use Rattle.outside_io.specs.declared.channel.Channel.{Channel};
+ghost use Rattle.link_channels.specs.declared.channel.Channel.{Channel};
 ghost use Rattle.outside_net.specs.Streams.{later, IsFirst};
 ghost use Rattle.outside_net.specs.Links.{Answer, Datagram, answer_of, IsWithin, IsOver, KnowsAfter, has_read_failed};
 ghost use Rattle.outside_net.specs.Links.{has_come_to_end, taken_with, IsBefore};
 
-use outside_io::{Channel, Failed};
+use link_channels::Channel;
+use outside_io::Failed;
 
 /// How many octets a datagram has at most.
 pub const MAX_DATAGRAM: usize = 2048;

@@ -1,6 +1,6 @@
 //! Which channels' peers are known.
 
-use outside_io::Channel;
+use link_channels::Channel;
 
 /// Of each channel, whether its peer is known.
 #[derive(Clone, Copy)]
@@ -12,7 +12,7 @@ pub struct Known {
 
 impl Known {
     ghost use Rattle.std.specs.Prelude.{◌≡◌};
-    ghost use Rattle.outside_io.specs.declared.channel.Channel.{Channel as ChannelValue};
+    ghost use Rattle.link_channels.specs.declared.channel.Channel.{Channel as ChannelValue};
     ghost use Rattle.outside_net.specs.Links.{LearnsOf};
     ghost use Rattle.outside_net.specs.Scripts.{knows_in};
 

@@ -1,7 +1,8 @@
 //! One socket of a link, and the peer of its channel.
 use crate::{Got, MAX_DATAGRAM, Role};
 use libc::net::{SO_RCVBUF, SOL_SOCKET, setsockopt};
-use outside_io::{Channel, Failed};
+use link_channels::Channel;
+use outside_io::Failed;
 use std::io::{self, ErrorKind};
 use std::net::{Ipv4Addr, Net, SocketAddr, SocketAddrV4, UdpSocket};
 use std::os::fd::AsRawFd;

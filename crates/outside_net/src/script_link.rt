@@ -6,7 +6,8 @@ ghost use Rattle.outside_net.specs.Scripts.{answer_in, FitsDatagram};
 use crate::call_list::CallList;
 use crate::peers::Known;
 use crate::{Got, Link, MAX_DATAGRAM, Octets};
-use outside_io::{Channel, Failed, NoMemory, copy_front};
+use link_channels::Channel;
+use outside_io::{Failed, NoMemory, copy_front};
 use std::alloc::Global;
 use std::marker::Model;
 
@@ -81,7 +82,7 @@ impl Model for ScriptLink {
 impl ScriptLink {
     ghost use Rattle.std.specs.Prelude.{◌≡◌, ◌↔◌, [], ℕ, IfOk, IsTrue, option_map, slice_get};
     ghost use Rattle.std.specs.List.{All};
-    ghost use Rattle.outside_io.specs.declared.channel.Channel.{Channel as ChannelValue};
+    ghost use Rattle.link_channels.specs.declared.channel.Channel.{Channel as ChannelValue};
     ghost use Rattle.outside_net.specs.Scripts.{ScriptState, FitsDatagram, knows_in, IsNewLink};
 
     /// A link of this script, whose datagrams have at most 2,048 octets each. `peer` says whether every channel's peer

@@ -7,7 +7,8 @@ use crate::port::Port;
 use crate::{Got, Link, LinkSpec, Role};
 use libc::net::{POLLIN, poll};
 use libc::types::pollfd;
-use outside_io::{Channel, Failed, Profile};
+use link_channels::{Channel, Profile};
+use outside_io::Failed;
 use std::net::Net;
 
 /// How long a read or a rest waits for a datagram where none is there, in milliseconds.
@@ -34,7 +35,7 @@ pub struct UdpLink {
 impl UdpLink {
     ghost use Rattle.std.specs.Prelude.{◌≡◌, false, IfOk, IfSome};
     ghost use Rattle.outside_net.specs.Links.{IsWithin, has_come_to_end};
-    ghost use Rattle.outside_io.specs.declared.channel.Channel.{Channel as ChannelValue};
+    ghost use Rattle.link_channels.specs.declared.channel.Channel.{Channel as ChannelValue};
     ghost use Rattle.outside_net.specs.Real.{knows_in_link, knew_in_link, stated_in, IsUnused, KnowsAfterLook};
 
     /// Opens a link: it is bound to its address, or sends to it. Where an address can't be bound or is none of this

@@ -1,8 +1,8 @@
 -- Worked rows of the definitions.
 use Rattle.std.proofs.Common.{◌≡◌, ℕ, List, [], ◌∷◌, ◌++◌, Some, refl, arith}
 use Rattle.std.proofs.lemmas.List.Elements.{All-cons, All-nil}
-use Rattle.outside_io.specs.declared.channel.Channel.TheVariants.{Media, Control, Tunnel}
-use Rattle.outside_io.specs.declared.profile.Profile.TheVariants.{Simple, Main}
+use Rattle.link_channels.specs.declared.channel.Channel.TheVariants.{Media, Control, Tunnel}
+use Rattle.link_channels.specs.declared.profile.Profile.TheVariants.{Simple, Main}
 use Rattle.ipv4_udp.specs.Reading.{reading_of, udp_reading}
 use Rattle.pcap_file.specs.declared.format.ByteOrder.TheVariants.{Big, Little}
 use Rattle.pcap_file.specs.declared.format.Fraction.TheVariants.{Micros, Nanos}

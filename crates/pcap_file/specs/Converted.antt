@@ -6,10 +6,10 @@ use Rattle.std.specs.Prelude.{nat_lt, None, Some, Result, Ok, Err}
 use Rattle.std.specs.declared.option.Option.{Option}
 use Rattle.std.specs.Borrow.{Bor}
 use Rattle.std.specs.Int.{w16, from_be_bytes}
-use Rattle.outside_io.specs.declared.channel.Channel.{Channel}
-use Rattle.outside_io.specs.declared.channel.Channel.TheVariants.{Media, Control, Tunnel}
-use Rattle.outside_io.specs.declared.profile.Profile.{Profile}
-use Rattle.outside_io.specs.declared.profile.Profile.TheVariants.{Simple, Main}
+use Rattle.link_channels.specs.declared.channel.Channel.{Channel}
+use Rattle.link_channels.specs.declared.channel.Channel.TheVariants.{Media, Control, Tunnel}
+use Rattle.link_channels.specs.declared.profile.Profile.{Profile}
+use Rattle.link_channels.specs.declared.profile.Profile.TheVariants.{Simple, Main}
 use Rattle.ipv4_udp.specs.declared.ip.IpBad.{IpBad}
 use Rattle.ipv4_udp.specs.declared.ip.Sums.TheVariants.{Skip}
 use Rattle.ipv4_udp.specs.Ip.{Datagram}

@@ -4,8 +4,8 @@ ghost use Rattle.pcap_file.specs.Converted.{ethernet_ip, ip_in, channel_at, data
 
 use crate::format::{ETHERNET, RAW_IP};
 use ipv4_udp::{Ip, Sums};
+use link_channels::{Channel, Profile};
 use octet_fields::u16_at;
-use outside_io::{Channel, Profile};
 
 const IPV4_TYPE: u16 = 0x0800;
 

@@ -5,7 +5,7 @@ use Rattle.std.proofs.lemmas.Bool.{lt-ltb, ltb-true, ltb-false}
 use Rattle.receiver_rules.specs.declared.anchor.Highest.{Highest}
 use Rattle.receiver_rules.specs.Packets.{Packet, highest_of, higher}
 use Rattle.request_rules.specs.Requests.{has_passed}
-use Rattle.request_rules.specs.Times.{has_passed_since}
+use Rattle.link_channels.specs.Intervals.{has_passed_since}
 use Rattle.request_rules.specs.Missing.{is_passed, is_below_highest}
 
 or_nothing : (b : Bool) → b ≡ (b || false)

@@ -8,7 +8,7 @@ use Rattle.receiver_rules.specs.Steps as buffer
 use Rattle.receiver_rules.specs.Steps.{Arrival}
 use Rattle.receiver_rules.specs.ReceiverSteps as receiver
 use Rattle.rtcp_compound.specs.Compound.{Content}
-use Rattle.rist_rtt.specs.Echo.{EchoOf, echoes_in}
+use Rattle.rist_rtt.specs.Echo.{EchoOf, echoes_in, first_response, first_request}
 use Rattle.rist_rtt.specs.Smoothed.{sample_of, smoothed}
 
 -- what comes with a step: a media packet; a compound, of which the sample of the round-trip time that it gives counts,
@@ -40,14 +40,6 @@ abbrev pub sample_at : ℕ → Option EchoOf → Option ℕ
 sample_at micros None = None
 sample_at micros (Some response) =
     if is_fresh micros response then Some (sample_of micros response.stamp response.delay) else None
-
--- the first response of a compound
-abbrev pub first_response : List EchoOf → Option EchoOf
-first_response echoes = find (λ e. e.answer) echoes
-
--- its first request
-abbrev pub first_request : List EchoOf → Option EchoOf
-first_request echoes = find (λ e. not e.answer) echoes
 
 -- a compound that comes at a moment in microseconds
 abbrev pub control_input : ℕ → List Content → Input

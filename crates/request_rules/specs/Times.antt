@@ -6,8 +6,3 @@ use Rattle.std.specs.Prelude.{◌≡◌, ℕ, ◌+◌, List, length, slice_get, 
 pub record AreTimes (last : Option ℕ) (count : ℕ) (times : List ℕ) : Type 0 where
   pub newest : last ≡ slice_get times 0
   pub count_is : count ≡ length times
-
--- so many ticks have passed since a time, if there is one
-abbrev pub has_passed_since : ℕ → ℕ → Option ℕ → Bool
-has_passed_since interval t None = true
-has_passed_since interval t (Some last) = nat_le (last + interval) t

@@ -5,10 +5,8 @@
 mod asked;
 pub mod laws;
 mod policy;
-mod times;
 mod word;
 
 pub use asked::{Asked, MAX_WORDS};
 pub use policy::{NackKind, Policy};
-pub use times::has_passed_since;
 pub use word::AskWord;

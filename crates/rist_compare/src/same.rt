@@ -1,9 +1,9 @@
 //! Whether two steps are the same.
 ghost use Rattle.std.specs.Prelude.{◌≡◌, ◌↔◌, IsTrue};
 
-use rist_desk::{Event, Step, Words};
+use rist_desk::{AskedWords, Event, Step};
 
-fn are_same_words(one: &Words, other: &Words) -> bool
+fn are_same_words(one: &AskedWords, other: &AskedWords) -> bool
     ensures value { IsTrue result ↔ (one.now ≡ other.now) }
 {
     one == other

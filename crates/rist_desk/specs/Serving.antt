@@ -1,29 +1,22 @@
 -- What a worker did, by what its objects tell.
 use Rattle.std.specs.Prelude.{◌≡◌, ◌≤◌, ◌*◌, ℕ, List, Bool, Option, None, Some}
 use Rattle.outside_io.specs.Causes.{RoseWhere}
-use Rattle.outside_io.specs.declared.channel.Channel.{Channel}
+use Rattle.link_channels.specs.declared.channel.Channel.{Channel}
+use Rattle.outside_net.specs.Links.{LinkTells}
 use Rattle.outside_net.specs.Links.{Datagram, Answer}
 use Rattle.rist_wire.specs.declared.session.Session.{Session}
 use Rattle.rist_desk.specs.declared.ended.Ended.{Ended}
 use Rattle.rist_desk.specs.declared.ended.Ended.TheVariants as ends
 use Rattle.rist_desk.specs.declared.step.Step.{Step}
-use Rattle.rist_desk.specs.declared.worker.Limits.{Limits}
+use Rattle.rist_desk.specs.declared.worker.ServingLimits.{ServingLimits}
 use Rattle.rist_desk.specs.declared.worker.Worker.{Worker}
 use Rattle.rist_desk.specs.Desk.{Given}
 use Rattle.rist_desk.specs.Sending.{holds, LacksRoom}
 use Rattle.rist_desk.specs.Turns.{Feed, IsServed}
 use Rattle.rist_desk.specs.Inside.Going.{IsTask, is_link_end, is_link_failure}
 
--- what a kind of links tells
-pub record LinkTells (L : Type 0) : Type 0 where
-  pub reads : L → Option (ℕ → Answer)
-  pub taken : L → Option (List Datagram)
-  pub knows : L → Channel → Bool
-  pub ends : L → ℕ
-  pub faults : L → ℕ
-
 -- this is what a worker is given, where its clock and its link tell
-pub record IsFeed (f : Feed) (session : Session) (place : ℕ) (limits : Limits) (moments : Option (ℕ → ℕ))
+pub record IsFeed (f : Feed) (session : Session) (place : ℕ) (limits : ServingLimits) (moments : Option (ℕ → ℕ))
     (answers : Option (ℕ → Answer)) : Type 0 where
   pub task : IsTask f session place limits
   pub moments_are : moments ≡ Some f.moments
@@ -32,7 +25,7 @@ pub record IsFeed (f : Feed) (session : Session) (place : ℕ) (limits : Limits)
 -- The worker at this place ended: its own list has gained the steps of its turns, and its link what they made. Of a
 -- named desk that tells its steps, that is what the rules make.
 pub record ServesBy {L C U : Type 0} (desk : Option Given) (moments : C → Option (ℕ → ℕ)) (tells : LinkTells L)
-    (list : U → Option (List Step)) (limits : Limits) (place : ℕ) (old new : Worker L C U) : Type 0 where
+    (list : U → Option (List Step)) (limits : ServingLimits) (place : ℕ) (old new : Worker L C U) : Type 0 where
   pub end : Ended
   pub ended : new.end ≡ Some end
   pub served : (f : Feed) → IsFeed f old.opener place limits (moments old.clock) (tells.reads old.link)
@@ -44,7 +37,7 @@ pub record ServesBy {L C U : Type 0} (desk : Option Given) (moments : C → Opti
   pub failed_cause : RoseWhere (is_link_failure (Some end)) (tells.faults old.link) (tells.faults new.link)
 
 -- so, whatever the desk
-abbrev pub Serves : {L C U : Type 0} → (C → Option (ℕ → ℕ)) → LinkTells L → (U → Option (List Step)) → Limits → ℕ
+abbrev pub Serves : {L C U : Type 0} → (C → Option (ℕ → ℕ)) → LinkTells L → (U → Option (List Step)) → ServingLimits → ℕ
     → Worker L C U → Worker L C U → Type 0
 Serves moments tells list limits place old new = ServesBy None moments tells list limits place old new
 
@@ -55,12 +48,12 @@ pub record TraceTells (U : Type 0) : Type 0 where
 
 -- so on this desk; and where it ended since a trace was full, that is its own, or the desk's was
 pub record ServesOn {L C U : Type 0} (given : Given) (moments : C → Option (ℕ → ℕ)) (tells : LinkTells L)
-    (trace : TraceTells U) (limits : Limits) (place : ℕ) (old new : Worker L C U) : Type 0 where
+    (trace : TraceTells U) (limits : ServingLimits) (place : ℕ) (old new : Worker L C U) : Type 0 where
   pub made : ServesBy (Some given) moments tells trace.list limits place old new
   pub full : new.end ≡ Some ends.TraceFull → LacksRoom given (trace.limit new.trace) (trace.list new.trace)
 
 -- a worker at this place may make all its turns, of two steps at most, on what is shared
-pub record MayServe {S L C U : Type 0} (is_of : S → ℕ → U → Type 0) (left : U → ℕ) (shared : S) (limits : Limits)
+pub record MayServe {S L C U : Type 0} (is_of : S → ℕ → U → Type 0) (left : U → ℕ) (shared : S) (limits : ServingLimits)
     (place : ℕ) (w : Worker L C U) : Type 0 where
   pub own : is_of shared place w.trace
   pub left_is : 2 * limits.turns ≤ left w.trace

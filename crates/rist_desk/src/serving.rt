@@ -3,14 +3,15 @@ ghost use Rattle.std.specs.Prelude.{◌≡◌, ◌<◌, ◌≤◌, ◌*◌, ◌^
 ghost use Rattle.outside_io.specs.Causes.{RoseWhere};
 ghost use Rattle.rist_desk.specs.Turns.{Feed, IsServed};
 ghost use Rattle.rist_desk.specs.Sending.{holds, LacksRoom};
-ghost use Rattle.rist_desk.specs.Serving.{IsFeed, Serves, ServesOn, LinkTells, TraceTells, MayServe, Leaves};
+ghost use Rattle.outside_net.specs.Links.{LinkTells};
+ghost use Rattle.rist_desk.specs.Serving.{IsFeed, Serves, ServesOn, TraceTells, MayServe, Leaves};
 ghost use Rattle.rist_desk.specs.Inside.Going.{is_link_end, is_link_failure};
 
 use crate::ended::Ended;
 use crate::shares::Shares;
 use crate::turn::turn;
-use crate::worker::{Limits, Worker};
-use outside_net::{Clock, Link};
+use crate::worker::{ServingLimits, Worker};
+use outside_net::{Clock, Link, TellingLink};
 use rist_ends::Outs;
 use std::sync::Wait;
 use std::thread;
@@ -22,7 +23,7 @@ fn all_turns<S: Shares<U>, U, L: Link, C: Clock, R: Wait>(
     desk: &S,
     worker: &mut Worker<L, C, U>,
     place: u8,
-    limits: &Limits,
+    limits: &ServingLimits,
 ) -> Ended
     requires place { place < 16 }
     requires turns { (0 < limits.now.turns) × (limits.now.turns ≤ 2 ^ 40) }
@@ -72,7 +73,7 @@ pub fn serve_one<S: Shares<U>, U, L: Link, C: Clock, R: Wait>(
     desk: &S,
     worker: &mut Worker<L, C, U>,
     place: usize,
-    limits: &Limits,
+    limits: &ServingLimits,
 )
     requires place { place < 16 }
     requires turns { (0 < limits.now.turns) × (limits.now.turns ≤ 2 ^ 40) }
@@ -80,7 +81,7 @@ pub fn serve_one<S: Shares<U>, U, L: Link, C: Clock, R: Wait>(
     requires left { 2 * limits.now.turns ≤ S.left worker.old.trace }
     ensures own { Leaves S.is_of S.broken desk.now place worker.new }
     ensures on { ServesOn S.given C.moments
-        (record { reads = L.reads; taken = L.taken; knows = L.knows; ends = L.ends; faults = L.faults })
+        ⟦<L as TellingLink>⟧.tells
         (record { list = S.list; limit = S.limit }) limits.now place worker.old worker.new }
 {
     let end = all_turns(rt, desk, worker, place as u8, limits);
@@ -94,7 +95,7 @@ fn serve_all<
     L: Link + Drop + Send,
     C: Clock + Drop + Send,
     R: Threads + Wait + Sync,
->(rt: &R, workers: &mut [Worker<L, C, U>], desk: &S, limits: &Limits)
+>(rt: &R, workers: &mut [Worker<L, C, U>], desk: &S, limits: &ServingLimits)
     requires some { 0 < length workers.old }
     requires few { length workers.old ≤ 16 }
     requires turns { (0 < limits.now.turns) × (limits.now.turns ≤ 2 ^ 40) }
@@ -103,7 +104,7 @@ fn serve_all<
     ensures own { (i : ℕ) (d : _) → i < length workers.old
         → Leaves S.is_of S.broken desk.now i (slice_index_or workers.new i d) }
     ensures on { (i : ℕ) (d : _) → i < length workers.old → ServesOn S.given C.moments
-        (record { reads = L.reads; taken = L.taken; knows = L.knows; ends = L.ends; faults = L.faults })
+        ⟦<L as TellingLink>⟧.tells
         (record { list = S.list; limit = S.limit }) limits.now i
         (slice_index_or workers.old i d) (slice_index_or workers.new i d) }
 {
@@ -123,7 +124,7 @@ pub fn serve<
     L: Link + Drop + Send,
     C: Clock + Drop + Send,
     R: Threads + Wait + Sync,
->(rt: &R, workers: &mut [Worker<L, C, U>], desk: &S, limits: &Limits)
+>(rt: &R, workers: &mut [Worker<L, C, U>], desk: &S, limits: &ServingLimits)
     requires some { 0 < length workers.old }
     requires few { length workers.old ≤ 16 }
     requires turns { (0 < limits.now.turns) × (limits.now.turns ≤ 2 ^ 40) }
@@ -132,12 +133,12 @@ pub fn serve<
     ensures own { (i : ℕ) (d : _) → i < length workers.old
         → Leaves S.is_of S.broken desk.now i (slice_index_or workers.new i d) }
     ensures served { (i : ℕ) (d : _) → i < length workers.old → Serves C.moments
-        (record { reads = L.reads; taken = L.taken; knows = L.knows; ends = L.ends; faults = L.faults })
+        ⟦<L as TellingLink>⟧.tells
         S.list limits.now i (slice_index_or workers.old i d) (slice_index_or workers.new i d) }
     // What it wrote is what its steps made by the rules, where the steps that they were made after are told; and why a
     // trace was full is told.
     ensures on { (i : ℕ) (d : _) → i < length workers.old → ServesOn S.given C.moments
-        (record { reads = L.reads; taken = L.taken; knows = L.knows; ends = L.ends; faults = L.faults })
+        ⟦<L as TellingLink>⟧.tells
         (record { list = S.list; limit = S.limit }) limits.now i
         (slice_index_or workers.old i d) (slice_index_or workers.new i d) }
 {

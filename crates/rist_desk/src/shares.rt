@@ -8,7 +8,7 @@ ghost use Rattle.rist_desk.specs.Desk.{is_cut_off};
 ghost use Rattle.rist_desk.specs.Sending.{IsDueThere, LacksRoom};
 
 use crate::desk::Desk;
-use crate::name::Name;
+use crate::origin::DeskOrigin;
 use crate::trace::{StepTrace, keep};
 use outside_io::Sink;
 use outside_net::{Full, Trace};
@@ -62,7 +62,7 @@ pub trait Shares<U> {
         ensures broken { IfOk result (λ answer. is_cut_off answer ≡ true → broken own.new) };
 }
 
-impl<N: Name, T: StepTrace + Drop, K: Sink + Drop, U: StepTrace> Shares<U>
+impl<N: DeskOrigin, T: StepTrace + Drop, K: Sink + Drop, U: StepTrace> Shares<U>
     for Mutex<Desk<N, T, K>> {
     ghost use Rattle.std.specs.Prelude.{◌^◌};
 

@@ -1,6 +1,6 @@
 //! A worker's steps on the desk, and what they make on its link.
 ghost use Rattle.std.specs.Prelude.{◌≡◌, ◌<◌, ◌≤◌, ◌+◌, [], ◌∷◌, ◌++◌, IfErr, OnOk, OnErr, ℕ, List, Some, Err, option_map};
-ghost use Rattle.outside_io.specs.declared.channel.Channel.{Channel as ChannelValue};
+ghost use Rattle.link_channels.specs.declared.channel.Channel.{Channel as ChannelValue};
 ghost use Rattle.outside_io.specs.Causes.{HasCause, RoseWhere};
 ghost use Rattle.rist_reporter.specs.OneMore.{outs_of};
 ghost use Rattle.rist_ends.specs.Told.{IsFit, IsNoEnd};
@@ -13,7 +13,8 @@ ghost use Rattle.rist_desk.specs.Inside.Links.{IsKept, IsKeptBy, IsInside, SentP
 use crate::ended::Ended;
 use crate::items::what_of;
 use crate::shares::Shares;
-use outside_io::{Channel, Failed};
+use link_channels::Channel;
+use outside_io::Failed;
 use outside_net::Link;
 use rist_ends::{Answer, Outs, Told, What};
 use rist_reporter::Out;

@@ -1,6 +1,6 @@
 //! One turn of a worker.
 ghost use Rattle.std.specs.Prelude.{◌≡◌, ◌<◌, ◌≤◌, ◌+◌, ◌∷◌, [], ℕ, Bool, nat_le, false, IfNone, IfSome, Some};
-ghost use Rattle.outside_io.specs.declared.channel.Channel.{Channel};
+ghost use Rattle.link_channels.specs.declared.channel.Channel.{Channel};
 ghost use Rattle.outside_io.specs.Causes.{RoseWhere};
 ghost use Rattle.outside_net.specs.Links.{Gave, Quiet, answer_of};
 ghost use Rattle.rist_desk.specs.Turns.{Feed, is_tick_due, tick_steps, turn_steps, ticked_after, quiet_since, is_idle};
@@ -13,8 +13,8 @@ ghost use Rattle.rist_desk.specs.Inside.Going.{IsTask, IsGoing, is_link_end, is_
 use crate::ended::Ended;
 use crate::shares::Shares;
 use crate::stepping::{step_datagram, step_tick};
-use crate::worker::{Limits, Worker};
-use outside_io::Channel;
+use crate::worker::{ServingLimits, Worker};
+use link_channels::Channel;
 use outside_net::{Clock, Got, Link};
 use rist_ends::Outs;
 use rist_wire::Opener;
@@ -110,7 +110,7 @@ fn quiet_turn<S: Shares<U>, U, L: Link, R: Wait>(
     if last {
         return Some(Ended::Turns);
     }
-    if idle { Some(Ended::Quiet) } else { None }
+    if idle { Some(Ended::Idle) } else { None }
 }
 
 /// The moment from which quiet counts, after a read.
@@ -140,7 +140,7 @@ pub fn turn<S: Shares<U>, U, L: Link, C: Clock, R: Wait>(
     worker: &mut Worker<L, C, U>,
     outs: &mut Outs,
     place: u8,
-    limits: &Limits,
+    limits: &ServingLimits,
     last: bool,
     ticked: &mut Option<u64>,
     since: &mut Option<u64>,

@@ -6,7 +6,7 @@ use Rattle.reorder_buffer.specs.State.{State}
 use Rattle.reorder_buffer.specs.StateAfter.{IsStateAfter}
 use Rattle.reorder_buffer.specs.declared.phase.Phase.TheVariants.{Open, Failed}
 use Rattle.request_rules.specs.Steps.{Step, buffer_history}
-use Rattle.rist_control.specs.Control.{ControlSettings}
+use Rattle.rist_reporter.specs.Control.{ControlSettings}
 use Rattle.rist_reporter.specs.Reporter.{ReporterState, IsReporterAfter, settings_with}
 use Rattle.rist_reporter.specs.OneMore.{AnswersAfter, TakesPairs, answer_count, step_answered}
 use Rattle.rist_ends.specs.declared.counts.Counts.{Counts}

@@ -5,7 +5,7 @@ use Rattle.receiver_rules.specs.declared.limits.Limits.{Limits}
 use Rattle.nack_timer.specs.declared.settings.Settings.{Settings as TimerSettings}
 use Rattle.nack_timer.specs.State.{policy_of}
 use Rattle.rist_wire.specs.declared.session.Session.{Session}
-use Rattle.rist_control.specs.Control.{ControlSettings}
+use Rattle.rist_reporter.specs.Control.{ControlSettings}
 use Rattle.rist_reporter.specs.Reporter.{is_main}
 use Rattle.request_rules.specs.declared.policy.NackKind.TheVariants.{Range}
 use Rattle.rist_ends.specs.declared.settings.Settings.{Settings}

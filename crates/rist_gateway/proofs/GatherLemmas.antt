@@ -2,11 +2,12 @@
 use Rattle.std.proofs.Common.{◌≡◌, ◌∙◌, ℕ, zero, suc, ◌+◌, ◌<◌, ◌≤◌, List, [], ◌∷◌, ◌++◌, length, map, reverse, get_or, Option, refl, ap, sym, subst, arith}
 use Rattle.std.proofs.lemmas.List.{append-nil, append_assoc, length-append, map-append, reverse-append}
 use Rattle.rist_desk.proofs.ListLemmas.{reverse_more}
-use Rattle.rist_desk.specs.declared.worker.Limits.{Limits}
+use Rattle.rist_desk.specs.declared.worker.ServingLimits.{ServingLimits}
 use Rattle.rist_desk.specs.declared.worker.Worker.{Worker}
-use Rattle.rist_desk.specs.Serving.{LinkTells, MayServe}
-use Rattle.rist_gateway.specs.declared.part.Part.{Part}
-use Rattle.rist_gateway.specs.declared.part.Part.TheVariants as parts
+use Rattle.outside_net.specs.Links.{LinkTells}
+use Rattle.rist_desk.specs.Serving.{MayServe}
+use Rattle.rist_gateway.specs.declared.either_worker.EitherWorker.{EitherWorker}
+use Rattle.rist_gateway.specs.declared.either_worker.EitherWorker.TheVariants as parts
 use Rattle.rist_gateway.specs.declared.side_worker.SideWorker.{SideWorker}
 use Rattle.rist_gateway.specs.Parts.{IsPlaced, LooksWith, MayBegin, MayLook, ServesPart, ServesWith, SharedTells}
 use Rattle.rist_gateway.specs.Inside.Sides.{receiving_part, sending_part}
@@ -50,17 +51,17 @@ last_same xs ys x y e =
     (sym (reverse_twice xs) ∙ (ap reverse same.0 ∙ reverse_twice ys), same.1)
 
 -- some workers are in their list again, and these are left in the parts
-pub record Scattered {L C U D P : Type 0} (ws here : List (Worker L C U)) (rest parts_left : List (Part L C U D P)) : Type 0 where
+pub record Scattered {L C U D P : Type 0} (ws here : List (Worker L C U)) (rest parts_left : List (EitherWorker L C U D P)) : Type 0 where
   pub todo : List (Worker L C U)
   pub all : here ++ todo ≡ ws
   pub left : parts_left ≡ reverse rest ++ map receiving_part (reverse todo)
 
-pub scattered_none : {L C U D P : Type 0} (ws : List (Worker L C U)) (rest all turned_all : List (Part L C U D P)) → all ≡ map receiving_part ws ++ rest → turned_all ≡ reverse all → Scattered ws [] rest turned_all
+pub scattered_none : {L C U D P : Type 0} (ws : List (Worker L C U)) (rest all turned_all : List (EitherWorker L C U D P)) → all ≡ map receiving_part ws ++ rest → turned_all ≡ reverse all → Scattered ws [] rest turned_all
 scattered_none ws rest all turned_all is t = record { todo = ws; all = refl; left = t ∙ turned receiving_part ws rest all is }
 
 -- the last part is that of the next worker, who is taken
-pub scattered_step : {L C U D P : Type 0} (ws here more : List (Worker L C U)) (rest old new : List (Part L C U D P)) → length here < length ws → Scattered ws here rest old
-    → ((w : Worker L C U) (left : List (Part L C U D P)) → old ≡ left ++ receiving_part w ∷ [] → (more ≡ here ++ w ∷ []) × (new ≡ left)) → (length more ≡ length here + 1) × Scattered ws more rest new
+pub scattered_step : {L C U D P : Type 0} (ws here more : List (Worker L C U)) (rest old new : List (EitherWorker L C U D P)) → length here < length ws → Scattered ws here rest old
+    → ((w : Worker L C U) (left : List (EitherWorker L C U D P)) → old ≡ left ++ receiving_part w ∷ [] → (more ≡ here ++ w ∷ []) × (new ≡ left)) → (length more ≡ length here + 1) × Scattered ws more rest new
 scattered_step {L} {C} {U} {D} {P} ws here more rest old new less s takes = by_todo s.todo s.all s.left
   where
     by_todo : (todo : List (Worker L C U)) → here ++ todo ≡ ws → old ≡ reverse rest ++ map receiving_part (reverse todo) → (length more ≡ length here + 1) × Scattered ws more rest new
@@ -73,15 +74,15 @@ scattered_step {L} {C} {U} {D} {P} ws here more rest old new less s takes = by_t
         (ap length t.0 ∙ length-append here (w ∷ []), record { todo = todo; all = ap (λ l. l ++ todo) t.0 ∙ (append_assoc here (w ∷ []) todo ∙ all); left = t.1 })
 
 -- the last part of those that end so
-pub last_part : {L C U D P : Type 0} (old new left : List (Part L C U D P)) (part : Part L C U D P) (w : Worker L C U) → old ≡ new ++ part ∷ [] → old ≡ left ++ receiving_part w ∷ [] → (new ≡ left) × (part ≡ receiving_part w)
+pub last_part : {L C U D P : Type 0} (old new left : List (EitherWorker L C U D P)) (part : EitherWorker L C U D P) (w : Worker L C U) → old ≡ new ++ part ∷ [] → old ≡ left ++ receiving_part w ∷ [] → (new ≡ left) × (part ≡ receiving_part w)
 last_part old new left part w popped is = last_same new left part (receiving_part w) (sym popped ∙ is)
 
-pub no_part : {L C U D P : Type 0} (old left : List (Part L C U D P)) (w : Worker L C U) → old ≡ [] → old ≡ left ++ receiving_part w ∷ [] → ⊥
+pub no_part : {L C U D P : Type 0} (old left : List (EitherWorker L C U D P)) (w : Worker L C U) → old ≡ [] → old ≡ left ++ receiving_part w ∷ [] → ⊥
 no_part old [] w none is = cc (none, is)
 no_part old (p ∷ left) w none is = cc (none, is)
 
 -- all are in their list again
-pub scattered_all : {L C U D P : Type 0} (ws here : List (Worker L C U)) (rest parts_left : List (Part L C U D P)) → length ws ≤ length here → Scattered ws here rest parts_left → (here ≡ ws) × (parts_left ≡ reverse rest)
+pub scattered_all : {L C U D P : Type 0} (ws here : List (Worker L C U)) (rest parts_left : List (EitherWorker L C U D P)) → length ws ≤ length here → Scattered ws here rest parts_left → (here ≡ ws) × (parts_left ≡ reverse rest)
 scattered_all {L} {C} {U} {D} {P} ws here rest parts_left many s = by_todo s.todo s.all s.left
   where
     by_todo : (todo : List (Worker L C U)) → here ++ todo ≡ ws → parts_left ≡ reverse rest ++ map receiving_part (reverse todo) → (here ≡ ws) × (parts_left ≡ reverse rest)
@@ -101,14 +102,14 @@ next_below : (first more : ℕ) → first + suc more ≤ 16 → first + 1 + more
 next_below first more few = omega (arith, few)
 
 pub placed_from : {L C U D P : Type 0} (first : ℕ) (ws : List (Worker L C U)) (sides : List (SideWorker D P)) → first + length ws ≤ 16
-    → (i : ℕ) (d : Part L C U D P) → i < length (map receiving_part ws ++ map sending_part sides) → IsPlaced (get_or (map receiving_part ws ++ map sending_part sides) i d) (first + i)
+    → (i : ℕ) (d : EitherWorker L C U D P) → i < length (map receiving_part ws ++ map sending_part sides) → IsPlaced (get_or (map receiving_part ws ++ map sending_part sides) i d) (first + i)
 placed_from first (w ∷ ws) sides few zero d less = here_below first (length ws) few
 placed_from first (w ∷ ws) sides few (suc i) d less =
     subst (λ (n : ℕ). IsPlaced (get_or (map receiving_part ws ++ map sending_part sides) i d) n) (omega arith) (placed_from (first + 1) ws sides (next_below first (length ws) few) i d (omega (arith, less)))
 placed_from first [] (side ∷ sides) few zero d less = tt
 placed_from first [] (side ∷ sides) few (suc i) d less = placed_side first sides i d (omega (arith, less))
   where
-    placed_side : {L C U D P : Type 0} (first : ℕ) (sides : List (SideWorker D P)) (i : ℕ) (d : Part L C U D P) → i < length (map (sending_part {L = L} {C = C} {U = U} {D = D} {P = P}) sides) → IsPlaced (get_or (map sending_part sides) i d) (first + suc i)
+    placed_side : {L C U D P : Type 0} (first : ℕ) (sides : List (SideWorker D P)) (i : ℕ) (d : EitherWorker L C U D P) → i < length (map (sending_part {L = L} {C = C} {U = U} {D = D} {P = P}) sides) → IsPlaced (get_or (map sending_part sides) i d) (first + suc i)
     placed_side first (side ∷ sides) zero d less = tt
     placed_side first (side ∷ sides) (suc i) d less =
         subst (λ (n : ℕ). IsPlaced (get_or (map sending_part sides) i d) n) (omega arith) (placed_side (first + 1) sides i d (omega (arith, less)))
@@ -116,10 +117,10 @@ placed_from first [] (side ∷ sides) few (suc i) d less = placed_side first sid
 placed_from first [] [] few i d less = absurd (omega (arith, less))
 
 -- workers and side workers may begin, as parts
-pub may_from : {S L C U D P : Type 0} (tells : SharedTells S U P) (shared : S) (limits : Limits) (first : ℕ) (ws : List (Worker L C U)) (sides : List (SideWorker D P))
+pub may_from : {S L C U D P : Type 0} (tells : SharedTells S U P) (shared : S) (limits : ServingLimits) (first : ℕ) (ws : List (Worker L C U)) (sides : List (SideWorker D P))
     → ((i : ℕ) (d : Worker L C U) → i < length ws → MayServe tells.is_of tells.left shared limits (first + i) (get_or ws i d))
     → ((i : ℕ) (d : SideWorker D P) → i < length sides → MayLook tells.sides shared limits (first + length ws + i) (get_or sides i d))
-    → (i : ℕ) (d : Part L C U D P) → i < length (map receiving_part ws ++ map sending_part sides)
+    → (i : ℕ) (d : EitherWorker L C U D P) → i < length (map receiving_part ws ++ map sending_part sides)
     → MayBegin tells shared limits (first + i) (get_or (map receiving_part ws ++ map sending_part sides) i d)
 may_from tells shared limits first (w ∷ ws) sides may look zero d less = may 0 w (omega arith)
 may_from tells shared limits first (w ∷ ws) sides may look (suc i) d less =
@@ -137,9 +138,9 @@ may_from tells shared limits first [] [] may look i d less = absurd (omega (arit
 -- ---- what became of them
 
 -- side workers were served, as parts
-pub sides_served : {S L C U D P : Type 0} (tells : SharedTells S U P) (shared : S) (moments : C → Option (ℕ → ℕ)) (ticks : D → Option (ℕ → ℕ)) (links : LinkTells L) (limits : Limits) (first : ℕ)
-    (sides : List (SideWorker D P)) (new : List (Part L C U D P)) → length new ≡ length sides
-    → ((i : ℕ) (d : Part L C U D P) → i < length sides → ServesPart tells shared moments ticks links limits (first + i) (get_or (map sending_part sides) i d) (get_or new i d))
+pub sides_served : {S L C U D P : Type 0} (tells : SharedTells S U P) (shared : S) (moments : C → Option (ℕ → ℕ)) (ticks : D → Option (ℕ → ℕ)) (links : LinkTells L) (limits : ServingLimits) (first : ℕ)
+    (sides : List (SideWorker D P)) (new : List (EitherWorker L C U D P)) → length new ≡ length sides
+    → ((i : ℕ) (d : EitherWorker L C U D P) → i < length sides → ServesPart tells shared moments ticks links limits (first + i) (get_or (map sending_part sides) i d) (get_or new i d))
     → (are : List (SideWorker D P)) × (new ≡ map sending_part are) × (length are ≡ length sides)
     × ((i : ℕ) (d : SideWorker D P) → i < length sides → LooksWith tells.sides shared ticks limits (first + i) (get_or sides i d) (get_or are i d))
 sides_served tells shared moments ticks links limits first [] [] same all = ([], refl, refl, λ i d less. absurd (omega (arith, less)))
@@ -157,8 +158,8 @@ sides_served {S} {L} {C} {U} {D} {P} tells shared moments ticks links limits fir
     each are more (suc i) d less = subst (λ (n : ℕ). LooksWith tells.sides shared ticks limits n (get_or sides i d) (get_or are i d)) (omega arith) (more i d (omega (arith, less)))
 
 -- what became of workers and of side workers
-pub record Served {S L C U D P : Type 0} (tells : SharedTells S U P) (shared : S) (moments : C → Option (ℕ → ℕ)) (ticks : D → Option (ℕ → ℕ)) (links : LinkTells L) (limits : Limits) (first : ℕ)
-    (ws : List (Worker L C U)) (sides : List (SideWorker D P)) (new : List (Part L C U D P)) : Type 0 where
+pub record Served {S L C U D P : Type 0} (tells : SharedTells S U P) (shared : S) (moments : C → Option (ℕ → ℕ)) (ticks : D → Option (ℕ → ℕ)) (links : LinkTells L) (limits : ServingLimits) (first : ℕ)
+    (ws : List (Worker L C U)) (sides : List (SideWorker D P)) (new : List (EitherWorker L C U D P)) : Type 0 where
   pub workers : List (Worker L C U)
   pub are : List (SideWorker D P)
   pub new_is : new ≡ map receiving_part workers ++ map sending_part are
@@ -167,9 +168,9 @@ pub record Served {S L C U D P : Type 0} (tells : SharedTells S U P) (shared : S
   pub each : (i : ℕ) (d : Worker L C U) → i < length ws → ServesWith tells shared moments links limits (first + i) (get_or ws i d) (get_or workers i d)
   pub each_side : (i : ℕ) (d : SideWorker D P) → i < length sides → LooksWith tells.sides shared ticks limits (first + length ws + i) (get_or sides i d) (get_or are i d)
 
-pub parts_served : {S L C U D P : Type 0} (tells : SharedTells S U P) (shared : S) (moments : C → Option (ℕ → ℕ)) (ticks : D → Option (ℕ → ℕ)) (links : LinkTells L) (limits : Limits) (first : ℕ)
-    (ws : List (Worker L C U)) (sides : List (SideWorker D P)) (new : List (Part L C U D P)) → length new ≡ length (map (receiving_part {L = L} {C = C} {U = U} {D = D} {P = P}) ws ++ map sending_part sides)
-    → ((i : ℕ) (d : Part L C U D P) → i < length (map receiving_part ws ++ map sending_part sides)
+pub parts_served : {S L C U D P : Type 0} (tells : SharedTells S U P) (shared : S) (moments : C → Option (ℕ → ℕ)) (ticks : D → Option (ℕ → ℕ)) (links : LinkTells L) (limits : ServingLimits) (first : ℕ)
+    (ws : List (Worker L C U)) (sides : List (SideWorker D P)) (new : List (EitherWorker L C U D P)) → length new ≡ length (map (receiving_part {L = L} {C = C} {U = U} {D = D} {P = P}) ws ++ map sending_part sides)
+    → ((i : ℕ) (d : EitherWorker L C U D P) → i < length (map receiving_part ws ++ map sending_part sides)
     → ServesPart tells shared moments ticks links limits (first + i) (get_or (map receiving_part ws ++ map sending_part sides) i d) (get_or new i d))
     → Served tells shared moments ticks links limits first ws sides new
 parts_served {S} {L} {C} {U} {D} {P} tells shared moments ticks links limits first [] sides new same all =

@@ -2,13 +2,13 @@
 use Rattle.std.proofs.Common.{◌≡◌, ◌∙◌, ℕ, zero, suc, ◌+◌, ◌<◌, Option, get_or, List, [], ◌∷◌, ◌++◌, length, map, reverse, take, drop, None, refl, ap, sym, arith}
 use Rattle.std.proofs.lemmas.List.{append-nil, append_assoc, length-drop, length-map, length-reverse, length-take-le, reverse-append}
 use Rattle.rist_desk.proofs.ListLemmas.{reverse_more}
-use Rattle.rist_gateway.specs.declared.part.Part.{Part}
-use Rattle.rist_gateway.specs.declared.part.Part.TheVariants as parts
+use Rattle.rist_gateway.specs.declared.either_worker.EitherWorker.{EitherWorker}
+use Rattle.rist_gateway.specs.declared.either_worker.EitherWorker.TheVariants as parts
 use Rattle.rist_gateway.specs.declared.side_worker.SideWorker.{SideWorker}
 use Rattle.rist_gateway.specs.Parts.{LookedAt, SidesTell, side_clock, side_workers}
 use Rattle.rist_gateway.specs.Inside.Sides.{LookedWith, seated_sides, sending_part, sending_parts, without_pass}
 use Rattle.rist_gateway.specs.Sides.{ServesSide}
-use Rattle.rist_desk.specs.declared.worker.Limits.{Limits}
+use Rattle.rist_desk.specs.declared.worker.ServingLimits.{ServingLimits}
 use Rattle.rist_gateway.proofs.GatherLemmas.{last_same, reverse_twice}
 
 -- ---- two parts of a list
@@ -41,7 +41,7 @@ reverse_first : {A : Type 0} (x : A) (xs : List A) → reverse (x ∷ xs) ≡ re
 reverse_first x xs = reverse-append (x ∷ []) xs
 
 -- one more, before those that are there
-pub side_more : {L C U D P : Type 0} (place : ℕ) (c : D) (p : P) (cs : List D) (ps : List P) (old new : List (Part L C U D P)) → old ≡ sending_parts (seated_sides (place + 1) cs ps)
+pub side_more : {L C U D P : Type 0} (place : ℕ) (c : D) (p : P) (cs : List D) (ps : List P) (old new : List (EitherWorker L C U D P)) → old ≡ sending_parts (seated_sides (place + 1) cs ps)
     → new ≡ old ++ parts.Sending (record { link = place; clock = c; pass = p; end = None }) ∷ [] → new ≡ sending_parts (seated_sides place (c ∷ cs) (p ∷ ps))
 side_more {L} {C} {U} {D} {P} place c p cs ps old new is pushed =
     let s : SideWorker D P = record { link = place; clock = c; pass = p; end = None } in
@@ -50,19 +50,19 @@ side_more {L} {C} {U} {D} {P} place c p cs ps old new is pushed =
     ∙ sym (reverse_first (sending_part {L = L} {C = C} {U = U} {D = D} {P = P} s) (map sending_part (seated_sides (place + 1) cs ps))))
 
 -- something of some side workers is in its list again, and these are left
-pub record Returned {L C U D P A : Type 0} (f : SideWorker D P → A) (parts_left : List (Part L C U D P)) (had now : List A) (sides : List (SideWorker D P)) : Type 0 where
+pub record Returned {L C U D P A : Type 0} (f : SideWorker D P → A) (parts_left : List (EitherWorker L C U D P)) (had now : List A) (sides : List (SideWorker D P)) : Type 0 where
   pub todo : List (SideWorker D P)
   pub left : parts_left ≡ sending_parts todo
   pub all : now ++ map f todo ≡ had ++ map f sides
 
-pub returned_none : {L C U D P A : Type 0} (f : SideWorker D P → A) (all : List (Part L C U D P)) (had : List A) (sides : List (SideWorker D P)) → all ≡ sending_parts sides → Returned f all had had sides
+pub returned_none : {L C U D P A : Type 0} (f : SideWorker D P → A) (all : List (EitherWorker L C U D P)) (had : List A) (sides : List (SideWorker D P)) → all ≡ sending_parts sides → Returned f all had had sides
 returned_none f all had sides is = record { todo = sides; left = is; all = refl }
 
-next_side : {L C U D P : Type 0} (todo : List (SideWorker D P)) (old new : List (Part L C U D P)) (part : Part L C U D P) → old ≡ sending_parts todo → old ≡ new ++ part ∷ []
+next_side : {L C U D P : Type 0} (todo : List (SideWorker D P)) (old new : List (EitherWorker L C U D P)) (part : EitherWorker L C U D P) → old ≡ sending_parts todo → old ≡ new ++ part ∷ []
     → (s : SideWorker D P) × (more : List (SideWorker D P)) × (todo ≡ s ∷ more) × (part ≡ parts.Sending s) × (new ≡ sending_parts more)
 next_side {L} {C} {U} {D} {P} [] old new part is popped = absurd (some new part (sym is ∙ popped))
   where
-    some : (xs : List (Part L C U D P)) (p : Part L C U D P) → [] ≡ xs ++ p ∷ [] → ⊥
+    some : (xs : List (EitherWorker L C U D P)) (p : EitherWorker L C U D P) → [] ≡ xs ++ p ∷ [] → ⊥
     some [] p e = cc (e)
     some (x ∷ xs) p e = cc (e)
 next_side {L} {C} {U} {D} {P} (s ∷ more) old new part is popped =
@@ -70,7 +70,7 @@ next_side {L} {C} {U} {D} {P} (s ∷ more) old new part is popped =
     (s, more, refl, same.1, same.0)
 
 -- one more is back
-pub returned_step : {L C U D P A : Type 0} (f : SideWorker D P → A) (old new : List (Part L C U D P)) (part : Part L C U D P) (had now more : List A) (sides : List (SideWorker D P)) → old ≡ new ++ part ∷ []
+pub returned_step : {L C U D P A : Type 0} (f : SideWorker D P → A) (old new : List (EitherWorker L C U D P)) (part : EitherWorker L C U D P) (had now more : List A) (sides : List (SideWorker D P)) → old ≡ new ++ part ∷ []
     → ((s : SideWorker D P) → part ≡ sending_part s → more ≡ now ++ f s ∷ []) → Returned f old had now sides → Returned f new had more sides
 returned_step {L} {C} {U} {D} {P} f old new part had now more sides popped gives r =
     let n = next_side r.todo old new part r.left popped in
@@ -81,10 +81,10 @@ returned_step {L} {C} {U} {D} {P} f old new part had now more sides popped gives
           ∙ (append_assoc now (f n.0 ∷ []) (map f n.1) ∙ (ap (λ l. now ++ map f l) (sym n.2) ∙ r.all));
     }
 
-pub returned_all : {L C U D P A : Type 0} (f : SideWorker D P → A) (parts_left : List (Part L C U D P)) (had now : List A) (sides : List (SideWorker D P)) → parts_left ≡ [] → Returned f parts_left had now sides → now ≡ had ++ map f sides
+pub returned_all : {L C U D P A : Type 0} (f : SideWorker D P → A) (parts_left : List (EitherWorker L C U D P)) (had now : List A) (sides : List (SideWorker D P)) → parts_left ≡ [] → Returned f parts_left had now sides → now ≡ had ++ map f sides
 returned_all {L} {C} {U} {D} {P} f parts_left had now sides none r = by_todo r.todo r.left r.all
   where
-    some : (xs : List (Part L C U D P)) (p : Part L C U D P) → [] ≡ xs ++ p ∷ [] → ⊥
+    some : (xs : List (EitherWorker L C U D P)) (p : EitherWorker L C U D P) → [] ≡ xs ++ p ∷ [] → ⊥
     some [] p e = cc (e)
     some (x ∷ xs) p e = cc (e)
 
@@ -106,10 +106,10 @@ parts_count L C U {D} {P} sides = length-reverse (map (sending_part {L = L} {C =
 pub sides_same : {L C U D P : Type 0} (xs ys : List (SideWorker D P)) → sending_parts {L = L} {C = C} {U = U} xs ≡ sending_parts ys → xs ≡ ys
 sides_same {L} {C} {U} {D} {P} xs ys e = inner xs ys (sym (reverse_twice (map sending_part xs)) ∙ (ap (λ l. reverse l) e ∙ reverse_twice (map sending_part ys)))
   where
-    same_of : (x y : SideWorker D P) (p q : List (Part L C U D P)) → parts.Sending x ∷ p ≡ parts.Sending y ∷ q → (x ≡ y) × (p ≡ q)
+    same_of : (x y : SideWorker D P) (p q : List (EitherWorker L C U D P)) → parts.Sending x ∷ p ≡ parts.Sending y ∷ q → (x ≡ y) × (p ≡ q)
     same_of x y p q e = (cc (e), cc (e))
 
-    no_first : (x : SideWorker D P) (p : List (Part L C U D P)) → [] ≡ parts.Sending x ∷ p → ⊥
+    no_first : (x : SideWorker D P) (p : List (EitherWorker L C U D P)) → [] ≡ parts.Sending x ∷ p → ⊥
     no_first x p e = cc (e)
 
     inner : (xs ys : List (SideWorker D P)) → map (sending_part {L = L} {C = C} {U = U}) xs ≡ map sending_part ys → xs ≡ ys
@@ -137,11 +137,11 @@ pub clocks_told : {D P : Type 0} (sides : List (SideWorker D P)) → map side_cl
 clocks_told [] = refl
 clocks_told (s ∷ sides) = ap (λ l. s.clock ∷ l) (clocks_told sides)
 
-side_told : {D P : Type 0} (moments : D → Option (ℕ → ℕ)) (limits : Limits) (old new : SideWorker D P) → ServesSide moments limits old new → ServesSide moments limits (without_pass old) (without_pass new)
+side_told : {D P : Type 0} (moments : D → Option (ℕ → ℕ)) (limits : ServingLimits) (old new : SideWorker D P) → ServesSide moments limits old new → ServesSide moments limits (without_pass old) (without_pass new)
 side_told moments limits old new s = record { end = s.end; ended = s.ended; link = s.link; served = s.served }
 
 -- each looked at its link, as far as they tell
-pub looked_told : {S D P : Type 0} (tells : SidesTell S P) (shared : S) (moments : D → Option (ℕ → ℕ)) (limits : Limits) (first : ℕ) (were are : List (SideWorker D P)) → LookedWith tells shared moments limits first were are
+pub looked_told : {S D P : Type 0} (tells : SidesTell S P) (shared : S) (moments : D → Option (ℕ → ℕ)) (limits : ServingLimits) (first : ℕ) (were are : List (SideWorker D P)) → LookedWith tells shared moments limits first were are
     → LookedAt moments limits (map without_pass were) (map without_pass are)
 looked_told {S} {D} {P} tells shared moments limits first were are l = record {
   count = length-map are without_pass ∙ (l.count ∙ sym (length-map were without_pass));

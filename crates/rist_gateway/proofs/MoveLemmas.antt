@@ -4,23 +4,23 @@ use Rattle.std.proofs.lemmas.List.{get_or-map}
 use Rattle.outside_net.specs.Streams.{later, IsFirst}
 use Rattle.outside_net.specs.Links.{Answer}
 use Rattle.rist_wire.specs.declared.session.Session.{Session}
-use Rattle.rist_sender.specs.Links.{Line}
+use Rattle.outside_net.specs.Links.{LinkTells}
 use Rattle.rist_sender.specs.Calls.{Work, Rules}
 use Rattle.rist_sender.specs.Sender.{SenderState, StaysSet, Does}
-use Rattle.rist_sender.specs.declared.send_bad.SendBad.{SendBad}
-use Rattle.rist_send.specs.Served.{AreServed}
-use Rattle.rist_send.specs.Inside.Moves.{ReadsAt}
-use Rattle.rist_send.proofs.ServedLemmas.{all_none, all_then, all_given, all_read, reads_given, reads_at}
+use Rattle.sender_rules.specs.declared.send_bad.SendBad.{SendBad}
+use Rattle.rist_sender.specs.Served.{AreServed}
+use Rattle.rist_sender.specs.Served.{ReadsAt}
+use Rattle.rist_sender.proofs.ServedLemmas.{all_none, all_then, all_given, all_read, reads_given, reads_at}
 use Rattle.rist_gateway.specs.Course.{Setup, Passed, Course, with_read, SendsPart, AreParts, SendsOn}
 use Rattle.rist_gateway.specs.Onward.{passed_of}
 use Rattle.rist_gateway.specs.Inside.Moves.{setup_with, IsFar, Goes, SendsBefore}
 
 -- nothing is done to sender and links
-pub goes_none : {L : Type 0} (line : Line L) (s : SenderState) (m : Passed) (ls : List L) (from : Course) (P : Course → Type 0) → IsFar line s m ls from → P from → Goes line s s m ls ls from P
+pub goes_none : {L : Type 0} (line : LinkTells L) (s : SenderState) (m : Passed) (ls : List L) (from : Course) (P : Course → Type 0) → IsFar line s m ls from → P from → Goes line s s m ls ls from P
 goes_none line s m ls from P far fact = record { to = from; fact = fact; stands = far; given = all_none line s.flow s.session from.work.history ls }
 
 -- a call of the sender; the clock gave what it did
-pub goes_call : {L : Type 0} (line : Line L) (s t : SenderState) (m n : Passed) (was is : List L) (from : Course) (P : Work → Type 0) (R : Course → Type 0)
+pub goes_call : {L : Type 0} (line : LinkTells L) (s t : SenderState) (m n : Passed) (was is : List L) (from : Course) (P : Work → Type 0) (R : Course → Type 0)
     → length is ≡ length was → IsFar line s m was from → Does line s t was is from.work P
     → ((w : Work) → P w → R (record from { work = w; passed = n })) → Goes line s t n was is from R
 goes_call line s t m n was is from P R long far d both = record {
@@ -35,7 +35,7 @@ goes_call line s t m n was is from P R long far d both = record {
 }
 
 -- a part, and then the next
-pub goes_then : {L : Type 0} (line : Line L) (r s t : SenderState) (m n : Passed) (was mid is : List L) (from : Course) (P Q R : Course → Type 0) → length mid ≡ length was → StaysSet r s
+pub goes_then : {L : Type 0} (line : LinkTells L) (r s t : SenderState) (m n : Passed) (was mid is : List L) (from : Course) (P Q R : Course → Type 0) → length mid ≡ length was → StaysSet r s
     → (d : Goes line r s m was mid from P) → Goes line s t n mid is d.to Q → ((to : Course) → Q to → R to) → Goes line r t n was is from R
 goes_then {L} line r s t m n was mid is from P Q R same stay d e both = record {
   to = e.to;
@@ -47,7 +47,7 @@ goes_then {L} line r s t m n was mid is from P Q R same stay d e both = record {
 }
 
 -- the same of which something else is said
-pub goes_as : {L : Type 0} (line : Line L) (s t : SenderState) (m : Passed) (was is : List L) (from : Course) (P R : Course → Type 0) → Goes line s t m was is from P → ((to : Course) → P to → R to) → Goes line s t m was is from R
+pub goes_as : {L : Type 0} (line : LinkTells L) (s t : SenderState) (m : Passed) (was is : List L) (from : Course) (P R : Course → Type 0) → Goes line s t m was is from P → ((to : Course) → P to → R to) → Goes line s t m was is from R
 goes_as line s t m was is from P R d both = record { to = d.to; fact = both d.to d.fact; stands = d.stands; given = d.given }
 
 pub setup_same : (s t : SenderState) (m n : ℕ) → StaysSet s t → n ≡ m → setup_with t n ≡ setup_with s m
@@ -65,14 +65,14 @@ stays_then r s t a b = record { rules = b.rules ∙ a.rules; session = b.session
 -- ---- a read of a link
 
 -- it gave the first of what it had to give
-first_at : {L : Type 0} (line : Line L) (place : ℕ) (answer : Answer) (a b : List L) → place < length a → ReadsAt line place answer a b
+first_at : {L : Type 0} (line : LinkTells L) (place : ℕ) (answer : Answer) (a b : List L) → place < length a → ReadsAt line place answer a b
     → IsFirst (get_or (map line.reads a) place None) answer
 first_at line place answer [] b inside r = absurd (omega (arith, inside))
 first_at line place answer (x ∷ a) b inside r =
     subst (λ (told : Option (ℕ → Answer)). IsFirst told answer) (sym (get_or-map line.reads (x ∷ a) place x None inside)) (r.first x)
 
 -- sender and links are as far as with that answer
-pub read_far : {L : Type 0} (line : Line L) (s : SenderState) (m : Passed) (place : ℕ) (answer : Answer) (was mid : List L) (from : Course) → length mid ≡ length was → place < length was
+pub read_far : {L : Type 0} (line : LinkTells L) (s : SenderState) (m : Passed) (place : ℕ) (answer : Answer) (was mid : List L) (from : Course) → length mid ≡ length was → place < length was
     → ReadsAt line place answer was mid → IsFar line s m was from → IsFar line s m mid (with_read place from)
 read_far line s m place answer was mid from same inside r far = record {
   sender = far.sender;
@@ -81,7 +81,7 @@ read_far line s m place answer was mid from same inside r far = record {
 }
 
 -- a link gave an answer, and then what follows
-pub reads_then : {L : Type 0} (line : Line L) (s t : SenderState) (m : Passed) (micros place puts : ℕ) (answer : Answer) (was mid is : List L) (from : Course) (P : Course → Type 0) (R : Course → Type 0)
+pub reads_then : {L : Type 0} (line : LinkTells L) (s t : SenderState) (m : Passed) (micros place puts : ℕ) (answer : Answer) (was mid is : List L) (from : Course) (P : Course → Type 0) (R : Course → Type 0)
     → length mid ≡ length was → place < length was → ReadsAt line place answer was mid → IsFar line s m was from
     → (IsFar line s m mid (with_read place from) → Goes line s t m mid is (with_read place from) P)
     → (IsFirst (get_or from.answers place None) answer → (to : Course) → P to → R to)

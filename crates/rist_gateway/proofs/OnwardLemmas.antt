@@ -6,16 +6,18 @@ use Rattle.outside_io.specs.Told.{IsPrefix}
 use Rattle.outside_net.specs.Links.{Answer, Gave, Quiet, End, Failed}
 use Rattle.rtcp_compound.specs.Compound.{Content}
 use Rattle.rist_wire.specs.declared.session.Session.{Session}
-use Rattle.rist_sender.specs.declared.send_bad.SendBad.{SendBad}
-use Rattle.rist_sender.specs.declared.send_bad.SendBad.TheVariants.{Spent, LinksDown}
-use Rattle.rist_sender.specs.Links.{Line}
+use Rattle.sender_rules.specs.declared.send_bad.SendBad.{SendBad}
+use Rattle.sender_rules.specs.declared.send_bad.SendBad.TheVariants.{Spent, LinksDown}
+use Rattle.outside_net.specs.Links.{LinkTells}
 use Rattle.rist_sender.specs.History.{Event, tried_as, tried_on}
 use Rattle.rist_sender.specs.Calls.{Rules, IfElse, AreDown}
 use Rattle.rist_sender.specs.Sender.{SenderState, rules_of, StaysSet}
-use Rattle.rist_send.specs.Served.{RisesWith, IsServed, AreServed}
-use Rattle.rist_send.specs.Turns.{compound_in}
-use Rattle.rist_send.proofs.ServedLemmas.{all_none, all_then}
-use Rattle.rist_send.proofs.DownLemmas.{down_rose}
+use Rattle.rist_sender.specs.Served.{RisesWith}
+use Rattle.rist_sender.specs.Served.{IsServed}
+use Rattle.rist_sender.specs.Served.{AreServed}
+use Rattle.rist_sender.specs.Incoming.{compound_in}
+use Rattle.rist_sender.proofs.ServedLemmas.{all_none, all_then}
+use Rattle.rist_sender.proofs.DownLemmas.{down_rose}
 use Rattle.rist_desk.specs.declared.beside.Side.{Side}
 use Rattle.rist_desk.specs.declared.beside.Side.TheVariants as sides
 use Rattle.rist_gateway.specs.Course.{Setup, Passed, Course, Deed, Sent, Looked, AreParts, SendsParts, SendsOn, TicksOnce, AnswersAndTicks, AfterRead, ReadsOnce, LooksAt, DoesAll, side_of, with_read}
@@ -25,7 +27,7 @@ use Rattle.rist_gateway.specs.Inside.Moves.{setup_with, IsFar, Goes}
 -- ---- links as they are shown
 
 -- each link was served, as it is shown
-shown_served : {L : Type 0} (line : Line L) (flow : ℕ) (session : Session) (h i : List Event) (was is : List L) → length is ≡ length was
+shown_served : {L : Type 0} (line : LinkTells L) (flow : ℕ) (session : Session) (h i : List Event) (was is : List L) → length is ≡ length was
     → AreServed line flow session h i was is → AreServed plain flow session h i (map (shown line) was) (map (shown line) is)
 shown_served line flow session h i [] is same given link d among = absurd (omega (arith, among))
 shown_served {L} line flow session h i (x ∷ was) is same given link d among =
@@ -37,20 +39,20 @@ shown_served {L} line flow session h i (x ∷ was) is same given link d among =
     (subst (λ (b : LinkState). P (shown line (get_or (x ∷ was) link x)) b) (sym (get_or-map (shown line) is link x d there))
     (record { gained = s.gained; more = s.more; taken = s.taken; faults = s.faults }))
 
-reads_shown : {L : Type 0} (line : Line L) (xs : List L) → map (λ (s : LinkState). s.reads) (map (shown line) xs) ≡ map line.reads xs
+reads_shown : {L : Type 0} (line : LinkTells L) (xs : List L) → map (λ (s : LinkState). s.reads) (map (shown line) xs) ≡ map line.reads xs
 reads_shown line [] = refl
 reads_shown line (x ∷ xs) = ap (λ l. line.reads x ∷ l) (reads_shown line xs)
 
-pub far_of : {L : Type 0} (line : Line L) (s : SenderState) (opener : Session) (links : List L) (m : Passed) (puts faults : ℕ) (put_bad aside_bad : Option SendBad) (from : Course)
+pub far_of : {L : Type 0} (line : LinkTells L) (s : SenderState) (opener : Session) (links : List L) (m : Passed) (puts faults : ℕ) (put_bad aside_bad : Option SendBad) (from : Course)
     → IsAt (onward_of line s opener links m puts faults put_bad aside_bad) from → IsFar line s m links from
 far_of line s opener links m puts faults put_bad aside_bad from at = record { sender = at.sender; passed_is = at.passed; answers = at.answers ∙ reads_shown line links }
 
-setup_shown : {L : Type 0} (line : Line L) (s : SenderState) (opener : Session) (links : List L) (m : Passed) (puts faults : ℕ) (put_bad aside_bad : Option SendBad)
+setup_shown : {L : Type 0} (line : LinkTells L) (s : SenderState) (opener : Session) (links : List L) (m : Passed) (puts faults : ℕ) (put_bad aside_bad : Option SendBad)
     → setup_with s (length links) ≡ setup_of (onward_of line s opener links m puts faults put_bad aside_bad)
 setup_shown line s opener links m puts faults put_bad aside_bad = ap (setup_with s) (sym (length-map links (shown line)))
 
 -- what a call did, as it is shown
-pub moves_of : {L : Type 0} (line : Line L) (s t : SenderState) (op oq : Session) (was is : List L) (m n : Passed) (p q f h : ℕ) (pb qb ab bb : Option SendBad) (from : Course) (P : Setup → Course → Type 0)
+pub moves_of : {L : Type 0} (line : LinkTells L) (s t : SenderState) (op oq : Session) (was is : List L) (m n : Passed) (p q f h : ℕ) (pb qb ab bb : Option SendBad) (from : Course) (P : Setup → Course → Type 0)
     → length is ≡ length was → Goes line s t n was is from (P (setup_with s (length was)))
     → Moves (onward_of line s op was m p f pb ab) (onward_of line t oq is n q h qb bb) from (P (setup_of (onward_of line s op was m p f pb ab)))
 moves_of line s t op oq was is m n p q f h pb qb ab bb from P long d = record {
@@ -290,7 +292,7 @@ front_moved first o e piece answer is work =
 
 -- ---- by the parts
 
-more_of : {L : Type 0} (line : Line L) (s t : SenderState) (op oq : Session) (was is : List L) (m n : Passed) (p q f h : ℕ) (pb qb ab bb : Option SendBad) → oq ≡ op → length is ≡ length was → StaysSet s t
+more_of : {L : Type 0} (line : LinkTells L) (s t : SenderState) (op oq : Session) (was is : List L) (m n : Passed) (p q f h : ℕ) (pb qb ab bb : Option SendBad) → oq ≡ op → length is ≡ length was → StaysSet s t
     → More (onward_of line s op was m p f pb ab) (onward_of line t oq is n q h qb bb)
 more_of line s t op oq was is m n p q f h pb qb ab bb same long stay = record {
   rules = stay.rules;
@@ -299,7 +301,7 @@ more_of line s t op oq was is m n p q f h pb qb ab bb same long stay = record {
   count = length-map is (shown line) ∙ long ∙ sym (length-map was (shown line));
 }
 
-pub aside_looks : {L : Type 0} (line : Line L) (s t : SenderState) (op oq : Session) (was items is back : List L) (m : Passed) (puts f : ℕ) (pb ab bb : Option SendBad) (us link : ℕ) (side : Side)
+pub aside_looks : {L : Type 0} (line : LinkTells L) (s t : SenderState) (op oq : Session) (was items is back : List L) (m : Passed) (puts f : ℕ) (pb ab bb : Option SendBad) (us link : ℕ) (side : Side)
     → was ≡ items → back ≡ is → length is ≡ length was
     → ((moments : Passed) (from : Course) → IsFar line s moments was from → Goes line s t moments was is from (LooksAt (setup_with s (length was)) us link puts side from))
     → Looks (onward_of line s op items m puts f pb ab) (onward_of line t oq back m puts f pb bb) us link side
@@ -308,7 +310,7 @@ aside_looks {L} line s t op oq was items is back m puts f pb ab bb us link side 
     (subst (λ (xs : List L). Looks (onward_of line s op was m puts f pb ab) (onward_of line t oq xs m puts f pb bb) us link side) (sym wrote)
     (λ from at. moves_of line s t op oq was is m m puts puts f f pb pb ab bb from (λ setup. LooksAt setup us link puts side from) long (work m from (far_of line s op was m puts f pb ab from at))))
 
-pub aside_keeps : {L : Type 0} (line : Line L) (first : OnwardState) (s t : SenderState) (op oq : Session) (was items is back : List L) (m : Passed) (puts f : ℕ) (pb ab bb : Option SendBad) (us link : ℕ) (side : Side)
+pub aside_keeps : {L : Type 0} (line : LinkTells L) (first : OnwardState) (s t : SenderState) (op oq : Session) (was items is back : List L) (m : Passed) (puts f : ℕ) (pb ab bb : Option SendBad) (us link : ℕ) (side : Side)
     → was ≡ items → back ≡ is → length is ≡ length was → oq ≡ op → StaysSet s t → bb ≡ bad_after ab side
     → ((moments : Passed) (from : Course) → IsFar line s moments was from → Goes line s t moments was is from (LooksAt (setup_with s (length was)) us link puts side from))
     → IsOnward first (onward_of line s op items m puts f pb ab) → IsOnward first (onward_of line t oq back m puts f pb bb)
@@ -319,7 +321,7 @@ aside_keeps {L} line first s t op oq was items is back m puts f pb ab bb us link
     (more_of line s t op oq was is m m puts puts f f pb pb ab bb same long stay)
     (aside_looks line s t op oq was was is is m puts f pb ab bb us link side refl refl long work) refl refl bad)
 
-pub put_works : {L E : Type 0} (line : Line L) (s t : SenderState) (op : Session) (was items is back : List L) (m n : Passed) (p q f h : ℕ) (pb qb ab : Option SendBad) (piece : List ℕ) (answer : Result Unit SendBad) (result : Result Unit E)
+pub put_works : {L E : Type 0} (line : LinkTells L) (s t : SenderState) (op : Session) (was items is back : List L) (m n : Passed) (p q f h : ℕ) (pb qb ab : Option SendBad) (piece : List ℕ) (answer : Result Unit SendBad) (result : Result Unit E)
     → was ≡ items → back ≡ is → length is ≡ length was → AnswersPut result answer pb qb
     → ((from : Course) → IsFar line s m was from → Goes line s t n was is from (SendsOn (setup_with s (length was)) piece answer from))
     → Puts (onward_of line s op items m p f pb ab) (onward_of line t op back n q h qb ab) piece result
@@ -330,7 +332,7 @@ put_works {L} {E} line s t op was items is back m n p q f h pb qb ab piece answe
     let d = moves_of line s t op op was is m n p q f h pb qb ab ab from (λ setup. SendsOn setup piece answer from) long (work from (far_of line s op was m p f pb ab from at)) in
     record { to = d.to; fact = record { answer = answer; sends = d.fact; told = told }; stands = d.stands; given = d.given }))
 
-pub put_keeps : {L : Type 0} (line : Line L) (first : OnwardState) (s t : SenderState) (op : Session) (was items is back : List L) (m n : Passed) (p q f h : ℕ) (pb qb ab : Option SendBad) (piece : List ℕ) (answer : Result Unit SendBad)
+pub put_keeps : {L : Type 0} (line : LinkTells L) (first : OnwardState) (s t : SenderState) (op : Session) (was items is back : List L) (m n : Passed) (p q f h : ℕ) (pb qb ab : Option SendBad) (piece : List ℕ) (answer : Result Unit SendBad)
     → was ≡ items → back ≡ is → length is ≡ length was → StaysSet s t
     → ((bad : SendBad) → qb ≡ Some bad → (answer ≡ Err bad) ⊎ (pb ≡ Some bad)) → (qb ≡ None → (pb ≡ None) × (h ≡ f))
     → ((from : Course) → IsFar line s m was from → Goes line s t n was is from (SendsOn (setup_with s (length was)) piece answer from))
@@ -351,7 +353,7 @@ pub same_bad : (a b : SendBad) → Some a ≡ Some b → the_error a ≡ the_err
 same_bad a b e = cc (e)
 
 -- what the parts of a put hand on
-pub put_front : {L : Type 0} (line : Line L) (first : OnwardState) (s t : SenderState) (op : Session) (was items is : List L) (m n : Passed) (p f : ℕ) (pb ab : Option SendBad) (piece : List ℕ) (answer : Result Unit SendBad)
+pub put_front : {L : Type 0} (line : LinkTells L) (first : OnwardState) (s t : SenderState) (op : Session) (was items is : List L) (m n : Passed) (p f : ℕ) (pb ab : Option SendBad) (piece : List ℕ) (answer : Result Unit SendBad)
     → was ≡ items → length is ≡ length was
     → ((from : Course) → IsFar line s m was from → Goes line s t n was is from (SendsOn (setup_with s (length was)) piece answer from))
     → IsOnward first (onward_of line s op items m p f pb ab) → Front piece answer m.sent n.sent

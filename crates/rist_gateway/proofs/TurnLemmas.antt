@@ -3,7 +3,7 @@ use Rattle.std.proofs.Common.{◌≡◌, ◌∙◌, ◌<◌, ◌≤◌, ◌+◌,
 use Rattle.std.proofs.lemmas.List.{length-map}
 use Rattle.std.proofs.lemmas.Option.{get_or_from_slice_get}
 use Rattle.rist_desk.specs.declared.step.Step.{Step}
-use Rattle.rist_desk.specs.declared.worker.Limits.{Limits}
+use Rattle.rist_desk.specs.declared.worker.ServingLimits.{ServingLimits}
 use Rattle.rist_desk.specs.declared.worker.Worker.{Worker}
 use Rattle.rist_desk.specs.Serving.{MayServe}
 use Rattle.turn_lock.specs.declared.pass.Pass.{Pass}
@@ -50,7 +50,7 @@ pub fresh_beside : {N K : Type 0} (desk : TurnDesk N K) (k : ℕ) (p : Pass Step
 fresh_beside desk k p f = record { own = f.own; number_is = f.number_is; none = f.added_nothing }
 
 -- each worker may make all its turns with the pass of its place
-pub workers_may : {N K L C : Type 0} (desk : TurnDesk N K) (limits : Limits) (n : ℕ) (passes : List (Pass Step (Shared N K))) (ws : List (Worker L C (Pass Step (Shared N K))))
+pub workers_may : {N K L C : Type 0} (desk : TurnDesk N K) (limits : ServingLimits) (n : ℕ) (passes : List (Pass Step (Shared N K))) (ws : List (Worker L C (Pass Step (Shared N K))))
     → AreFreshFor desk passes → limits.turns ≤ 2 ^ 40 → map trace_of ws ≡ take n passes
     → (i : ℕ) (d : Worker L C (Pass Step (Shared N K))) → i < length ws → MayServe IsOf turns_left desk limits i (get_or ws i d)
 workers_may desk limits n passes ws fresh few are i d less =
@@ -67,7 +67,7 @@ seated_at place (c ∷ clocks) (p ∷ passes) zero d same less = refl
 seated_at place (c ∷ clocks) (p ∷ passes) (suc k) d same less = seated_at (place + 1) clocks passes k d (omega (arith, same)) (omega (arith, less))
 
 -- and each side worker with that of its own, behind those of the workers
-pub sides_may : {N K D : Type 0} (desk : TurnDesk N K) (limits : Limits) (n : ℕ) (passes : List (Pass Step (Shared N K))) (clocks : List D) → AreFreshFor desk passes → limits.turns ≤ 2 ^ 40
+pub sides_may : {N K D : Type 0} (desk : TurnDesk N K) (limits : ServingLimits) (n : ℕ) (passes : List (Pass Step (Shared N K))) (clocks : List D) → AreFreshFor desk passes → limits.turns ≤ 2 ^ 40
     → length (drop n passes) ≡ length clocks
     → (k : ℕ) (d : SideWorker D (Pass Step (Shared N K))) → k < length (seated_sides 0 clocks (drop n passes))
     → MayLook (sides_as IsBeside turns_left) desk limits (n + k) (get_or (seated_sides 0 clocks (drop n passes)) k d)

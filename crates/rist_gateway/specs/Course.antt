@@ -6,9 +6,9 @@ use Rattle.outside_net.specs.Streams.{later, IsFirst}
 use Rattle.outside_net.specs.Links.{Answer, Gave, Quiet, End, Failed}
 use Rattle.rtcp_compound.specs.Compound.{Content}
 use Rattle.rist_wire.specs.declared.session.Session.{Session}
-use Rattle.rist_sender.specs.declared.send_bad.SendBad.{SendBad}
+use Rattle.sender_rules.specs.declared.send_bad.SendBad.{SendBad}
 use Rattle.rist_sender.specs.Calls.{Work, Rules, IfElse, Sends, FeedsBack, Ticks}
-use Rattle.rist_send.specs.Turns.{compound_in}
+use Rattle.rist_sender.specs.Incoming.{compound_in}
 use Rattle.rist_desk.specs.declared.beside.Side.{Side}
 use Rattle.rist_desk.specs.declared.beside.Side.TheVariants as sides
 

@@ -2,17 +2,17 @@
 use Rattle.std.specs.Prelude.{◌≡◌, ◌<◌, ◌≤◌, ℕ, List, [], length, map, slice_index_or, Bool, false, Option, None, Some}
 use Rattle.std.specs.Prelude.{Result, Ok, Err}
 use Rattle.outside_io.specs.Causes.{Rose}
-use Rattle.outside_io.specs.declared.channel.Channel.{Channel}
+use Rattle.link_channels.specs.declared.channel.Channel.{Channel}
 use Rattle.outside_net.specs.Links.{Answer, Datagram}
 use Rattle.sender_rules.specs.Bonding.{Duplicate, link_count}
 use Rattle.rist_wire.specs.declared.session.Session.{Session}
 use Rattle.rist_wire.specs.Session.{no_session}
-use Rattle.rist_sender.specs.declared.send_bad.SendBad.{SendBad}
-use Rattle.rist_sender.specs.declared.send_bad.SendBad.TheVariants.{LinksDown}
-use Rattle.rist_sender.specs.Links.{Line}
+use Rattle.sender_rules.specs.declared.send_bad.SendBad.{SendBad}
+use Rattle.sender_rules.specs.declared.send_bad.SendBad.TheVariants.{LinksDown}
+use Rattle.outside_net.specs.Links.{LinkTells}
 use Rattle.rist_sender.specs.Calls.{Work}
 use Rattle.rist_sender.specs.Sender.{SenderState, IsSenderAfter, rules_of}
-use Rattle.rist_send.specs.Served.{AreServed}
+use Rattle.rist_sender.specs.Served.{AreServed}
 use Rattle.rist_desk.specs.declared.beside.Side.{Side}
 use Rattle.rist_desk.specs.declared.beside.Side.TheVariants as sides
 use Rattle.rist_gateway.specs.Course.{Setup, Passed, Course, Deed, SendsOn, LooksAt, DoesAll}
@@ -26,7 +26,7 @@ pub record LinkState : Type 0 where
   pub ends : ℕ
 
 -- what a link of some kind shows
-abbrev pub shown : {L : Type 0} → Line L → L → LinkState
+abbrev pub shown : {L : Type 0} → LinkTells L → L → LinkState
 shown line link =
     record {
       taken = line.taken link;
@@ -37,7 +37,7 @@ shown line link =
     }
 
 -- the same of one that is shown
-abbrev pub plain : Line LinkState
+abbrev pub plain : LinkTells LinkState
 plain =
     record {
       taken = λ s. s.taken;
@@ -61,7 +61,7 @@ pub record OnwardState : Type 0 where
   pub aside_bad : Option SendBad
 
 -- one of these parts
-abbrev pub onward_of : {L : Type 0} → Line L → SenderState → Session → List L → Passed → ℕ → ℕ → Option SendBad
+abbrev pub onward_of : {L : Type 0} → LinkTells L → SenderState → Session → List L → Passed → ℕ → ℕ → Option SendBad
     → Option SendBad → OnwardState
 onward_of line sender opener links passed puts faults put_bad aside_bad =
     record {
@@ -92,7 +92,7 @@ abbrev pub passed_of : Option (ℕ → ℕ) → List ℕ → Passed
 passed_of moments sent = record { moments = moments; sent = sent }
 
 -- what these show
-abbrev pub shows : {L C : Type 0} → Line L → (C → Option (ℕ → ℕ)) → OnwardParts L C → OnwardState
+abbrev pub shows : {L C : Type 0} → LinkTells L → (C → Option (ℕ → ℕ)) → OnwardParts L C → OnwardState
 shows line moments p =
     onward_of line p.sender p.opener p.links (passed_of (moments p.clock) p.handed) p.puts p.faults p.put_bad
     p.aside_bad

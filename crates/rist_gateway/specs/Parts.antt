@@ -1,17 +1,18 @@
 -- What the threads of a gateway do.
 use Rattle.std.specs.Prelude.{◌≡◌, ◌<◌, ◌≤◌, ◌+◌, ℕ, List, [], ◌∷◌, length, slice_index_or, Option, None}
 use Rattle.rist_desk.specs.declared.step.Step.{Step}
-use Rattle.rist_desk.specs.declared.worker.Limits.{Limits}
+use Rattle.rist_desk.specs.declared.worker.ServingLimits.{ServingLimits}
 use Rattle.rist_desk.specs.declared.worker.Worker.{Worker}
 use Rattle.rist_desk.specs.Desk.{Given}
-use Rattle.rist_desk.specs.Serving.{LinkTells, TraceTells, ServesOn, MayServe, Leaves}
-use Rattle.rist_gateway.specs.declared.part.Part.{Part}
-use Rattle.rist_gateway.specs.declared.part.Part.TheVariants as parts
+use Rattle.outside_net.specs.Links.{LinkTells}
+use Rattle.rist_desk.specs.Serving.{TraceTells, ServesOn, MayServe, Leaves}
+use Rattle.rist_gateway.specs.declared.either_worker.EitherWorker.{EitherWorker}
+use Rattle.rist_gateway.specs.declared.either_worker.EitherWorker.TheVariants as parts
 use Rattle.rist_gateway.specs.declared.side_worker.SideWorker.{SideWorker}
 use Rattle.rist_gateway.specs.Sides.{ServesSide}
 
 -- at most sixteen links are received on, and they stand first
-abbrev pub IsPlaced : {L C U D P : Type 0} → Part L C U D P → ℕ → Type 0
+abbrev pub IsPlaced : {L C U D P : Type 0} → EitherWorker L C U D P → ℕ → Type 0
 IsPlaced (parts.Receiving worker) place = place < 16
 IsPlaced (parts.Sending side) place = Unit {0}
 
@@ -48,31 +49,32 @@ shared_as given list limit is_of left broken sides =
     }
 
 -- a side worker may make all its turns, of one look each
-pub record MayLook {S D P : Type 0} (tells : SidesTell S P) (shared : S) (limits : Limits) (number : ℕ)
+pub record MayLook {S D P : Type 0} (tells : SidesTell S P) (shared : S) (limits : ServingLimits) (number : ℕ)
     (w : SideWorker D P) : Type 0 where
   pub own : tells.is_of shared number w.pass
   pub left_is : limits.turns ≤ tells.left w.pass
 
 -- a part may make all its turns
-abbrev pub MayBegin : {S L C U D P : Type 0} → SharedTells S U P → S → Limits → ℕ → Part L C U D P → Type 0
+abbrev pub MayBegin : {S L C U D P : Type 0} → SharedTells S U P → S → ServingLimits → ℕ → EitherWorker L C U D P
+    → Type 0
 MayBegin tells shared limits place (parts.Receiving w) = MayServe tells.is_of tells.left shared limits place w
 MayBegin tells shared limits place (parts.Sending w) = MayLook tells.sides shared limits place w
 
 -- a worker served its link on what is shared
 pub record ServesWith {S L C U P : Type 0} (tells : SharedTells S U P) (shared : S) (moments : C → Option (ℕ → ℕ))
-    (links : LinkTells L) (limits : Limits) (place : ℕ) (old new : Worker L C U) : Type 0 where
+    (links : LinkTells L) (limits : ServingLimits) (place : ℕ) (old new : Worker L C U) : Type 0 where
   pub on : ServesOn tells.given moments links tells.trace limits place old new
   pub leaves : Leaves tells.is_of tells.broken shared place new
 
 -- a side worker looked at its link, and no step was made with its pass
 pub record LooksWith {S D P : Type 0} (tells : SidesTell S P) (shared : S) (moments : D → Option (ℕ → ℕ))
-    (limits : Limits) (number : ℕ) (old new : SideWorker D P) : Type 0 where
+    (limits : ServingLimits) (number : ℕ) (old new : SideWorker D P) : Type 0 where
   pub looks : ServesSide moments limits old new
   pub own : tells.is_of shared number new.pass
 
 -- a worker served its link, or a side worker looked at its own
 abbrev pub ServesPart : {S L C U D P : Type 0} → SharedTells S U P → S → (C → Option (ℕ → ℕ)) → (D → Option (ℕ → ℕ))
-    → LinkTells L → Limits → ℕ → Part L C U D P → Part L C U D P → Type 0
+    → LinkTells L → ServingLimits → ℕ → EitherWorker L C U D P → EitherWorker L C U D P → Type 0
 ServesPart tells shared moments ticks links limits place (parts.Receiving old) (parts.Receiving new) =
     ServesWith tells shared moments links limits place old new
 ServesPart tells shared moments ticks links limits place (parts.Receiving old) (parts.Sending new) = ⊥
@@ -93,7 +95,7 @@ abbrev pub side_clock : {D P : Type 0} → SideWorker D P → D
 side_clock side = side.clock
 
 -- each of the side workers looked at its link
-pub record LookedAt {D P : Type 0} (moments : D → Option (ℕ → ℕ)) (limits : Limits)
+pub record LookedAt {D P : Type 0} (moments : D → Option (ℕ → ℕ)) (limits : ServingLimits)
     (were are : List (SideWorker D P)) : Type 0 where
   pub count : length are ≡ length were
   pub looked : (place : ℕ) (d : SideWorker D P) → place < length were

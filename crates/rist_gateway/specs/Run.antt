@@ -1,13 +1,13 @@
 -- What a run of a gateway leaves, by what its objects tell. Of its links the first ones are received on and the others
 -- sent on; its clocks are those of the links, and last that of the sender.
 use Rattle.std.specs.Prelude.{◌≡◌, ℕ, List, [], map, take, drop, length, slice_get, Option, Some, None}
-use Rattle.rist_sender.specs.Links.{Line}
+use Rattle.outside_net.specs.Links.{LinkTells}
 use Rattle.rist_sender.specs.Sender.{rules_of}
-use Rattle.rist_sender.specs.declared.send_bad.SendBad.{SendBad}
-use Rattle.rist_sender.specs.declared.send_bad.SendBad.TheVariants as bads
+use Rattle.sender_rules.specs.declared.send_bad.SendBad.{SendBad}
+use Rattle.sender_rules.specs.declared.send_bad.SendBad.TheVariants as bads
 use Rattle.rist_ends.specs.declared.counts.Counts.{Counts}
-use Rattle.rist_desk.specs.declared.worker.Limits.{Limits}
-use Rattle.rist_desk.specs.Serving.{LinkTells}
+use Rattle.rist_desk.specs.declared.worker.ServingLimits.{ServingLimits}
+use Rattle.outside_net.specs.Links.{LinkTells}
 use Rattle.rist_recv.specs.declared.ending.Ending.{Ending}
 use Rattle.rist_recv.specs.declared.ending.Ending.TheVariants as endings
 use Rattle.rist_recv.specs.Run.{Receives}
@@ -48,14 +48,9 @@ EndsGate endings.Done put looked ending = ending ≡ looked_ending looked gates.
 
 -- ---- a run
 
--- what links tell, as a receiver's threads ask it
-abbrev pub tells_of : {L : Type 0} → Line L → LinkTells L
-tells_of line =
-    record { reads = line.reads; taken = line.taken; knows = line.knows; ends = line.ends; faults = line.faults }
-
 -- the clocks of the links that are sent on were those of side workers, one for each link at its place, and each looked
 -- at its link
-pub record AreLookedAt {C : Type 0} (moments : C → Option (ℕ → ℕ)) (limits : Limits)
+pub record AreLookedAt {C : Type 0} (moments : C → Option (ℕ → ℕ)) (limits : ServingLimits)
     (clocks_were clocks_are : List C) : Type 0 where
   pub are : List (SideWorker C (Unit {0}))
   pub clocks_have : map side_clock are ≡ clocks_are
@@ -64,7 +59,7 @@ pub record AreLookedAt {C : Type 0} (moments : C → Option (ℕ → ℕ)) (limi
 -- The links that are sent on were handed to a sender which had done nothing, and which did this with them: all that it
 -- did, deed by deed, was to send what was put to it, payload by payload, and to look at its links; the octets of the
 -- payloads that it took are these.
-pub record SendsOnward {L C : Type 0} (moments : C → Option (ℕ → ℕ)) (line : Line L) (s : GateSetup)
+pub record SendsOnward {L C : Type 0} (moments : C → Option (ℕ → ℕ)) (line : LinkTells L) (s : GateSetup)
     (links_were links_are : List L) (clock_was clock_is : C) (first last : OnwardState) : Type 0 where
   pub rules : rules_of first.sender ≡ s.rules
   pub session : first.sender.session ≡ s.session
@@ -80,13 +75,14 @@ pub record SendsOnward {L C : Type 0} (moments : C → Option (ℕ → ℕ)) (li
 -- A run over so many links that are received on, with the others sent on. What was received is played out to the
 -- sender: the octets that it took are those that the steps of the receiver's history release. Counts are the
 -- receiver's.
-pub record Forwards {L C : Type 0} (moments : C → Option (ℕ → ℕ)) (line : Line L) (s : GateSetup) (limits : Limits)
+pub record Forwards {L C : Type 0} (moments : C → Option (ℕ → ℕ)) (line : LinkTells L) (s : GateSetup)
+    (limits : ServingLimits)
     (inputs : ℕ) (links_were links_are : List L) (clocks_were clocks_are : List C) (counts : Counts)
     (ending : GateEnding) : Type 0 where
   pub first : OnwardState
   pub last : OnwardState
   pub ended : Ending
-  pub receives : Receives moments (tells_of line) s.receiving limits (take inputs links_were) (take inputs links_are)
+  pub receives : Receives moments line s.receiving limits (take inputs links_were) (take inputs links_are)
       (take inputs clocks_were) (take inputs clocks_are) (Some []) (Some last.passed.sent) 0 last.faults counts ended
   pub clock_was : C
   pub clock_is : C

@@ -10,7 +10,7 @@ use Rattle.rist_desk.specs.declared.step.Step.{Step}
 use Rattle.rist_recv.specs.Setup.{Setup as ReceivingSetup, IsMade as IsReceivingMade, IsMadeInTurns, setup_in_turns}
 use Rattle.rist_recv.specs.Setup.{setup_of as receiving_setup_of}
 use Rattle.rist_gateway.specs.Onward.{no_work}
-use Rattle.rist_gateway.specs.declared.making.Made.{Made}
+use Rattle.rist_gateway.specs.declared.making.GateMemory.{GateMemory}
 use Rattle.rist_gateway.specs.declared.receiving_end.KeptEnd.{KeptEnd}
 use Rattle.rist_gateway.specs.declared.receiving_end.ReceivingEnd.{ReceivingEnd}
 use Rattle.rist_gateway.specs.declared.receiving_end.ReceivingEnd.TheVariants as ends
@@ -41,7 +41,7 @@ received_setup_of limit (ends.Kept end) = receiving_setup_of limit end.made
 received_setup_of limit (ends.InTurns made) = setup_in_turns made
 
 -- what was made for a run is set to
-abbrev pub gate_setup_of : {T L C : Type 0} → (T → Option ℕ) → Made T L C → GateSetup
+abbrev pub gate_setup_of : {T L C : Type 0} → (T → Option ℕ) → GateMemory T L C → GateSetup
 gate_setup_of limit made =
     record {
       receiving = received_setup_of limit made.receiving;
@@ -68,7 +68,7 @@ IsReceivingEnd list limit inputs outputs (ends.InTurns made) = IsMadeInTurns inp
 -- all is made for so many links of each end: the receiving end; a sender that did nothing, over so many links, and an
 -- opener of its session; and room for its links and for their clocks
 pub record IsGateMade {T L C : Type 0} (list : T → Option (List Step)) (limit : T → Option ℕ) (inputs outputs : ℕ)
-    (made : Made T L C) : Type 0 where
+    (made : GateMemory T L C) : Type 0 where
   pub receiving : IsReceivingEnd list limit inputs outputs made.receiving
   pub sender : IsSenderAfter made.sender (no_work made.sender)
   pub opener : made.opener ≡ made.sender.session

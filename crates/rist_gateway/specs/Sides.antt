@@ -5,7 +5,7 @@ use Rattle.std.specs.Option.{option_map}
 use Rattle.outside_net.specs.Streams.{later, IsFirst}
 use Rattle.rist_desk.specs.declared.beside.Side.{Side}
 use Rattle.rist_desk.specs.declared.beside.Side.TheVariants as sides
-use Rattle.rist_desk.specs.declared.worker.Limits.{Limits}
+use Rattle.rist_desk.specs.declared.worker.ServingLimits.{ServingLimits}
 use Rattle.rist_desk.specs.Turns.{is_idle, from}
 use Rattle.rist_gateway.specs.declared.found.Found.{Found}
 use Rattle.rist_gateway.specs.declared.side_worker.SideEnded.{SideEnded}
@@ -33,8 +33,8 @@ is_quiet idle (Some found) moment = is_idle idle found.since moment
 
 -- why a turn is the last, if it is
 abbrev pub end_by : Side → Bool → Bool → Option SideEnded
-end_by (sides.Took puts) last quiet = if last then Some ends.Turns else if quiet then Some ends.Quiet else None
-end_by (sides.Quiet puts) last quiet = if last then Some ends.Turns else if quiet then Some ends.Quiet else None
+end_by (sides.Took puts) last quiet = if last then Some ends.Turns else if quiet then Some ends.Idle else None
+end_by (sides.Quiet puts) last quiet = if last then Some ends.Turns else if quiet then Some ends.Idle else None
 end_by sides.End last quiet = Some ends.End
 end_by sides.Failed last quiet = Some ends.Failed
 end_by (sides.Bad bad) last quiet = Some (ends.Bad bad)
@@ -47,18 +47,19 @@ found_by moments [] = None
 found_by moments (side ∷ before) = found_after (found_by moments before) (moments (length before)) side
 
 -- why the last of them is the last, if it is
-abbrev pub end_at : Limits → (ℕ → ℕ) → Side → List Side → Option SideEnded
+abbrev pub end_at : ServingLimits → (ℕ → ℕ) → Side → List Side → Option SideEnded
 end_at limits moments side before =
     end_by side (nat_le limits.turns (length before + 1))
     (is_quiet limits.idle (found_by moments (side ∷ before)) (moments (length before)))
 
 -- none of them is the last
-abbrev pub AllGoOn : Limits → (ℕ → ℕ) → List Side → Type 0
+abbrev pub AllGoOn : ServingLimits → (ℕ → ℕ) → List Side → Type 0
 AllGoOn limits moments [] = Unit {0}
 AllGoOn limits moments (side ∷ before) = AllGoOn limits moments before × (end_at limits moments side before ≡ None)
 
 -- A side worker made turns up to one that was the last, of which each took one moment and made one aside.
-pub record IsSideServed (limits : Limits) (moments : ℕ → ℕ) (end : SideEnded) (left : Option (ℕ → ℕ)) : Type 0 where
+pub record IsSideServed (limits : ServingLimits) (moments : ℕ → ℕ) (end : SideEnded)
+    (left : Option (ℕ → ℕ)) : Type 0 where
   pub before : List Side
   pub last : Side
   pub within : length before < limits.turns
@@ -67,7 +68,7 @@ pub record IsSideServed (limits : Limits) (moments : ℕ → ℕ) (end : SideEnd
   pub took : left ≡ Some (from (length before + 1) moments)
 
 -- a side worker ended
-pub record ServesSide {C P : Type 0} (moments : C → Option (ℕ → ℕ)) (limits : Limits)
+pub record ServesSide {C P : Type 0} (moments : C → Option (ℕ → ℕ)) (limits : ServingLimits)
     (old new : SideWorker C P) : Type 0 where
   pub end : SideEnded
   pub ended : new.end ≡ Some end
@@ -87,7 +88,7 @@ pub record SideTurn (m n : Option (ℕ → ℕ)) (idle : ℕ) (last : Bool) (fou
   pub result_is : result ≡ end_by side last (is_quiet idle now moment)
 
 -- after so many turns, none of which was the last
-pub record IsSideGoing (limits : Limits) (moments : ℕ → ℕ) (made : ℕ) (left : Option (ℕ → ℕ))
+pub record IsSideGoing (limits : ServingLimits) (moments : ℕ → ℕ) (made : ℕ) (left : Option (ℕ → ℕ))
     (found : Option Found) : Type 0 where
   pub sides : List Side
   pub count : length sides ≡ made

@@ -5,7 +5,7 @@ ghost use Rattle.rist_gateway.specs.Run.{EndsGate, looked_ending, refused_ending
 
 use rist_compare::Tear;
 use rist_recv::Ending;
-use rist_sender::SendBad;
+use sender_rules::SendBad;
 
 /// How a run ended: the first of these that fits. A put that was refused comes before all, and is one of `Spent` and
 /// `LinksDown`.

@@ -49,13 +49,13 @@ pub(crate) fn is_quiet(idle: u64, found: Option<Found>, us: u64) -> bool
 
 /// Why a turn is the last, if it is.
 fn end_going(last: bool, quiet: bool) -> Option<SideEnded>
-    ensures value { result ≡ (if last then Some SideEnded.Turns else if quiet then Some SideEnded.Quiet else None) }
+    ensures value { result ≡ (if last then Some SideEnded.Turns else if quiet then Some SideEnded.Idle else None) }
     ensures more { IfNone result (last ≡ false) }
 {
     if last {
         return Some(SideEnded::Turns);
     }
-    if quiet { Some(SideEnded::Quiet) } else { None }
+    if quiet { Some(SideEnded::Idle) } else { None }
 }
 
 /// The same, by what its aside came to.

@@ -3,12 +3,12 @@ ghost use Rattle.std.specs.Prelude.{◌≡◌, ◌<◌, ◌≤◌, ◌+◌, ◌^
 ghost use Rattle.rist_gateway.specs.Parts.{IsPlaced, LooksWith, MayBegin, MayLook, ServesPart, shared_as, sides_as};
 ghost use Rattle.rist_gateway.specs.Sides.{IsSideServed, SideTurn};
 
+use crate::either_worker::EitherWorker;
 use crate::found::{Found, end_by, found_after, is_quiet};
-use crate::part::Part;
 use crate::shares_beside::SharesBeside;
 use crate::side_worker::{SideEnded, SideWorker};
-use outside_net::{Clock, Link};
-use rist_desk::{Limits, Shares, serve_one};
+use outside_net::{Clock, Link, TellingLink};
+use rist_desk::{ServingLimits, Shares, serve_one};
 use std::sync::Wait;
 use std::sync::atomic::AtomicU64;
 use std::thread;
@@ -49,7 +49,7 @@ fn side_turns<S: SharesBeside<P>, P, C: Clock, R: Wait>(
     rt: &R,
     desk: &S,
     side: &mut SideWorker<C, P>,
-    limits: &Limits,
+    limits: &ServingLimits,
 ) -> SideEnded
     requires turns { (0 < limits.now.turns) × (limits.now.turns ≤ 2 ^ 40) }
     requires own { (number : ℕ) × S.is_beside desk.now number side.old.pass }
@@ -79,7 +79,7 @@ fn serve_side<S: SharesBeside<P>, P, C: Clock, R: Wait>(
     desk: &S,
     side: &mut SideWorker<C, P>,
     place: usize,
-    limits: &Limits,
+    limits: &ServingLimits,
 )
     requires turns { (0 < limits.now.turns) × (limits.now.turns ≤ 2 ^ 40) }
     requires may { MayLook (sides_as S.is_beside S.looks_left) desk.now limits.now place side.old }
@@ -95,9 +95,9 @@ fn serve_side<S: SharesBeside<P>, P, C: Clock, R: Wait>(
 fn serve_part<S: Shares<U> + SharesBeside<P>, L: Link, C: Clock, U, D: Clock, P, R: Wait>(
     rt: &R,
     desk: &S,
-    part: &mut Part<L, C, U, D, P>,
+    part: &mut EitherWorker<L, C, U, D, P>,
     place: usize,
-    limits: &Limits,
+    limits: &ServingLimits,
 )
     requires placed { IsPlaced part.old place }
     requires turns { (0 < limits.now.turns) × (limits.now.turns ≤ 2 ^ 40) }
@@ -105,12 +105,12 @@ fn serve_part<S: Shares<U> + SharesBeside<P>, L: Link, C: Clock, U, D: Clock, P,
         (sides_as S.is_beside S.looks_left)) desk.now limits.now place part.old }
     ensures { ServesPart (shared_as S.given S.list S.limit S.is_of S.left S.broken
         (sides_as S.is_beside S.looks_left)) desk.now C.moments D.moments
-        (record { reads = L.reads; taken = L.taken; knows = L.knows; ends = L.ends; faults = L.faults })
+        ⟦<L as TellingLink>⟧.tells
         limits.now place part.old part.new }
 {
     match part {
-        Part::Receiving(worker) => serve_one(rt, desk, worker, place, limits),
-        Part::Sending(side) => serve_side(rt, desk, side, place, limits),
+        EitherWorker::Receiving(worker) => serve_one(rt, desk, worker, place, limits),
+        EitherWorker::Sending(side) => serve_side(rt, desk, side, place, limits),
     }
 }
 
@@ -124,7 +124,7 @@ pub fn gate<
     D: Clock + Drop + Send,
     P: Drop + Send,
     R: Threads + Wait + Sync,
->(rt: &R, parts: &mut [Part<L, C, U, D, P>], desk: &S, limits: &Limits)
+>(rt: &R, parts: &mut [EitherWorker<L, C, U, D, P>], desk: &S, limits: &ServingLimits)
     requires some { 0 < length parts.old }
     requires placed { (i : ℕ) (d : _) → i < length parts.old → IsPlaced (slice_index_or parts.old i d) i }
     requires turns { (0 < limits.now.turns) × (limits.now.turns ≤ 2 ^ 40) }
@@ -134,7 +134,7 @@ pub fn gate<
     ensures { (i : ℕ) (d : _) → i < length parts.old → ServesPart
         (shared_as S.given S.list S.limit S.is_of S.left S.broken
         (sides_as S.is_beside S.looks_left)) desk.now C.moments D.moments
-        (record { reads = L.reads; taken = L.taken; knows = L.knows; ends = L.ends; faults = L.faults })
+        ⟦<L as TellingLink>⟧.tells
         limits.now i (slice_index_or parts.old i d) (slice_index_or parts.new i d) }
 {
     let count = parts.len();

@@ -8,11 +8,11 @@ ghost use Rattle.rist_recv.specs.Run.{Receives};
 ghost use Rattle.rist_recv.specs.Setup.{Setup, IsMadeInTurns, given_to, setup_in_turns};
 ghost use Rattle.rist_gateway.specs.Run.{AreLookedAt};
 
-use crate::part::Part;
+use crate::either_worker::EitherWorker;
 use crate::receiving::Run;
 use crate::sides::{seat_sides, serve_both, unseat_sides};
-use outside_net::{Clock, Link};
-use rist_desk::{Beside, Limits, Name, Step, Worker};
+use outside_net::{Clock, Link, TellingLink};
+use rist_desk::{Beside, DeskOrigin, ServingLimits, Step, Worker};
 use rist_recv::{
     Closed, MadeInTurns, conclude_turns, ending_after, ending_by, seated_with, unseated_with,
 };
@@ -26,7 +26,7 @@ use turn_lock::Pass;
 
 /// The run of a desk with its passes: one for each link that is received on, and then one for each that is sent on.
 fn served_in_turns<
-    N: Name + Send + Sync,
+    N: DeskOrigin + Send + Sync,
     K: Beside + Drop + Send,
     L: Link + Drop + Send,
     C: Clock + Drop + Send,
@@ -37,11 +37,11 @@ fn served_in_turns<
     mut passes: Vec<Pass<Step, Shared<N, K>>>,
     openers: Vec<Opener>,
     workers: Vec<Worker<L, C, Pass<Step, Shared<N, K>>>>,
-    mut parts: Vec<Part<L, C, Pass<Step, Shared<N, K>>, C, Pass<Step, Shared<N, K>>>>,
+    mut parts: Vec<EitherWorker<L, C, Pass<Step, Shared<N, K>>, C, Pass<Step, Shared<N, K>>>>,
     links: &mut Vec<L>,
     clocks: &mut Vec<C>,
     beside: &mut Vec<C>,
-    limits: &Limits,
+    limits: &ServingLimits,
 ) -> Run<K>
     requires some { 0 < length links.old.items }
     requires few { length links.old.items + length beside.old.items ≤ 16 }
@@ -59,7 +59,7 @@ fn served_in_turns<
         → N.given ≡ given_to s contents faults → s.limit ≡ None → s.tells ≡ true
         → 1 ≤ s.settings.limits.playout_delay → All (λ session. session ≡ s.session) openers.items
         → Receives C.moments
-        (record { reads = L.reads; taken = L.taken; knows = L.knows; ends = L.ends; faults = L.faults })
+        ⟦<L as TellingLink>⟧.tells
         s limits.now links.old.items links.new.items clocks.old.items clocks.new.items
         contents (K.contents result.sink) faults (K.faults result.sink) result.counts result.ending }
     ensures looked { AreLookedAt C.moments limits.now beside.old.items beside.new.items }
@@ -89,7 +89,7 @@ fn served_in_turns<
 
 /// The run of a desk under a name.
 fn named_in_turns<
-    N: Name + Send + Sync,
+    N: DeskOrigin + Send + Sync,
     K: Beside + Drop + Send,
     L: Link + Drop + Send,
     C: Clock + Drop + Send,
@@ -102,7 +102,7 @@ fn named_in_turns<
     clocks: &mut Vec<C>,
     sink: K,
     beside: &mut Vec<C>,
-    limits: &Limits,
+    limits: &ServingLimits,
 ) -> Result<Run<K>, K>
     requires some { 0 < length links.old.items }
     requires few { length links.old.items + length beside.old.items ≤ 16 }
@@ -112,7 +112,7 @@ fn named_in_turns<
     requires given { N.given ≡ given_to (setup_in_turns made) (K.contents sink) (K.faults sink) }
     requires fresh { IsNew N.given (state_of made.receiver (Some []) None (K.contents sink) (K.faults sink)) }
     ensures work { IfOk result (λ run. Receives C.moments
-        (record { reads = L.reads; taken = L.taken; knows = L.knows; ends = L.ends; faults = L.faults })
+        ⟦<L as TellingLink>⟧.tells
         (setup_in_turns made) limits.now links.old.items links.new.items clocks.old.items clocks.new.items
         (K.contents sink) (K.contents run.sink) (K.faults sink) (K.faults run.sink) run.counts run.ending) }
     ensures looked { IfOk result (λ run. AreLookedAt C.moments limits.now beside.old.items beside.new.items) }
@@ -157,7 +157,7 @@ pub(crate) fn receive_in_turns<
     clocks: &mut Vec<C>,
     sink: K,
     beside: &mut Vec<C>,
-    limits: &Limits,
+    limits: &ServingLimits,
 ) -> Result<Run<K>, K>
     requires some { 0 < length links.old.items }
     requires few { length links.old.items + length beside.old.items ≤ 16 }
@@ -166,7 +166,7 @@ pub(crate) fn receive_in_turns<
     requires made { IsMadeInTurns (length links.old.items) made }
     requires empty { IsEmpty (K.contents sink) }
     ensures work { IfOk result (λ run. Receives C.moments
-        (record { reads = L.reads; taken = L.taken; knows = L.knows; ends = L.ends; faults = L.faults })
+        ⟦<L as TellingLink>⟧.tells
         (setup_in_turns made) limits.now links.old.items links.new.items clocks.old.items clocks.new.items
         (K.contents sink) (K.contents run.sink) (K.faults sink) (K.faults run.sink) run.counts run.ending) }
     ensures looked { IfOk result (λ run. AreLookedAt C.moments limits.now beside.old.items beside.new.items) }

@@ -2,6 +2,7 @@
 //! sees what the sending end did, deed by deed, and what each of its links was given.
 #![tactic(auto)]
 
+mod either_worker;
 mod ending;
 mod found;
 mod gating;
@@ -12,7 +13,6 @@ mod looking;
 mod making;
 mod onward;
 mod origin;
-mod part;
 mod parts;
 mod receiving;
 mod receiving_end;
@@ -21,12 +21,12 @@ mod shares_beside;
 mod side_worker;
 mod sides;
 
+pub use either_worker::EitherWorker;
 pub use ending::GateEnding;
 pub use gating::gate;
-pub use making::{Made, make, make_in_turns};
+pub use making::{GateMemory, make, make_in_turns};
 pub use onward::Onward;
-pub use origin::Origin;
-pub use part::Part;
+pub use origin::OnwardOrigin;
 pub use receiving_end::{KeptEnd, ReceivingEnd};
 pub use running::{Gated, gate_on};
 pub use shares_beside::SharesBeside;

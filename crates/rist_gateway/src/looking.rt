@@ -3,25 +3,24 @@ ghost use Rattle.std.specs.Prelude.{◌≡◌, ◌≤◌, ◌<◌, Some, length}
 ghost use Rattle.outside_net.specs.Links.{Gave, IsWithin, answer_of};
 ghost use Rattle.sender_rules.specs.Bonding.{link_count};
 ghost use Rattle.rist_sender.specs.Sender.{StaysSet};
-ghost use Rattle.rist_send.specs.Served.{line_of};
-ghost use Rattle.rist_send.specs.Turns.{compound_in};
-ghost use Rattle.rist_send.specs.Inside.Moves.{ReadsAt};
+ghost use Rattle.rist_sender.specs.Incoming.{compound_in};
 ghost use Rattle.rist_gateway.specs.Course.{AnswersOnce, TicksOnce, AnswersAndTicks, ReadsOnce};
 ghost use Rattle.rist_gateway.specs.Course.{LooksAt, side_of};
 ghost use Rattle.rist_gateway.specs.Inside.Moves.{GoesBy};
 
-use outside_io::Channel;
-use outside_net::{Got, Link, MAX_DATAGRAM};
+use link_channels::Channel;
+use outside_net::{Got, Link, MAX_DATAGRAM, TellingLink};
 use rist_desk::Side;
-use rist_sender::{SendBad, Sender};
+use rist_sender::{Sender, read_at};
 use rist_wire::{Item, Opener};
 use rtcp_compound::Compound;
+use sender_rules::SendBad;
 
 /// Lets the sender tick.
 fn tick<L: Link>(sender: &mut Sender, links: &mut [L], us: u64) -> Result<(), SendBad>
     requires links { length links.old ≡ link_count sender.old.bonding }
     requires few { length links.old ≤ 16 }
-    ensures work { GoesBy (line_of L.taken L.knows L.faults L.reads L.ends) sender.old sender.new links.old links.new
+    ensures work { GoesBy ⟦<L as TellingLink>⟧.tells sender.old sender.new links.old links.new
         (λ setup from. TicksOnce setup us result from) }
     ensures set { StaysSet sender.old sender.new }
 {
@@ -39,7 +38,7 @@ fn feed<L: Link>(
     requires among { link < length links.old }
     requires links { length links.old ≡ link_count sender.old.bonding }
     requires few { length links.old ≤ 16 }
-    ensures work { GoesBy (line_of L.taken L.knows L.faults L.reads L.ends) sender.old sender.new links.old links.new
+    ensures work { GoesBy ⟦<L as TellingLink>⟧.tells sender.old sender.new links.old links.new
         (λ setup from. AnswersOnce setup us link compound.now result from) }
     ensures set { StaysSet sender.old sender.new }
 {
@@ -57,7 +56,7 @@ fn feed_and_tick<L: Link>(
     requires among { link < length links.old }
     requires links { length links.old ≡ link_count sender.old.bonding }
     requires few { length links.old ≤ 16 }
-    ensures work { GoesBy (line_of L.taken L.knows L.faults L.reads L.ends) sender.old sender.new links.old links.new
+    ensures work { GoesBy ⟦<L as TellingLink>⟧.tells sender.old sender.new links.old links.new
         (λ setup from. AnswersAndTicks setup us link (Some compound.now) result from) }
     ensures set { StaysSet sender.old sender.new }
 {
@@ -81,7 +80,7 @@ fn answer_and_tick<L: Link>(
     requires links { length links.old ≡ link_count sender.old.bonding }
     requires few { length links.old ≤ 16 }
     requires session { opener.old ≡ sender.old.session }
-    ensures work { GoesBy (line_of L.taken L.knows L.faults L.reads L.ends) sender.old sender.new links.old links.new
+    ensures work { GoesBy ⟦<L as TellingLink>⟧.tells sender.old sender.new links.old links.new
         (λ setup from. AnswersAndTicks setup us link
         (compound_in sender.old.session (Gave (record { channel = channel; octets = octets.old }))) result from) }
     ensures set { StaysSet sender.old sender.new }
@@ -93,16 +92,6 @@ fn answer_and_tick<L: Link>(
         Ok(Item::Keepalive(_)) => tick(sender, links, us),
         Err(_) => tick(sender, links, us),
     }
-}
-
-/// Reads a link, once.
-fn read_at<L: Link>(links: &mut [L], link: u8, block: &mut [u8; 2048]) -> Got
-    requires among { link < length links.old }
-    ensures within { IsWithin result }
-    ensures reads { ReadsAt (line_of L.taken L.knows L.faults L.reads L.ends)
-        link (answer_of result block.new) links.old links.new }
-{
-    links[usize::from(link)].read(block)
 }
 
 /// What a look came to, where a datagram came or none was there.
@@ -132,7 +121,7 @@ fn look_on<L: Link>(
     requires links { length links.old ≡ link_count sender.old.bonding }
     requires few { length links.old ≤ 16 }
     requires session { opener.old ≡ sender.old.session }
-    ensures work { GoesBy (line_of L.taken L.knows L.faults L.reads L.ends) sender.old sender.new links.old links.new
+    ensures work { GoesBy ⟦<L as TellingLink>⟧.tells sender.old sender.new links.old links.new
         (λ setup from. ReadsOnce setup us link puts result from) }
     ensures set { StaysSet sender.old sender.new }
     ensures opener { opener.new ≡ opener.old }
@@ -166,7 +155,7 @@ pub(crate) fn look<L: Link>(
     requires links { length links.old ≡ link_count sender.old.bonding }
     requires few { length links.old ≤ 16 }
     requires session { opener.old ≡ sender.old.session }
-    ensures work { GoesBy (line_of L.taken L.knows L.faults L.reads L.ends) sender.old sender.new links.old links.new
+    ensures work { GoesBy ⟦<L as TellingLink>⟧.tells sender.old sender.new links.old links.new
         (λ setup from. LooksAt setup us link puts result from) }
     ensures set { StaysSet sender.old sender.new }
     ensures opener { opener.new ≡ opener.old }

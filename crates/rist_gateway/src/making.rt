@@ -16,7 +16,7 @@ use std::alloc::Global;
 /// What a run takes memory for: its receiving end, its sender with an opener for what comes back, and room for the links
 /// that are sent on and for their clocks.
 #[derive(Drop)]
-pub struct Made<T, L, C> {
+pub struct GateMemory<T, L, C> {
     pub receiving: ReceivingEnd<T, L, C>,
     pub sender: Sender,
     pub opener: Opener,
@@ -33,7 +33,7 @@ fn made_with<T: MadeTrace + Drop, L: Drop, C: Drop>(
     session: &Session,
     sealer: Option<Sealer>,
     outputs: usize,
-) -> Result<Made<T, L, C>, NoMemory>
+) -> Result<GateMemory<T, L, C>, NoMemory>
     requires receiving { IsReceivingEnd T.list T.limit inputs outputs receiving }
     requires flow { settings.flow % 2 ≡ 0 }
     requires store { (1 ≤ settings.store) × (settings.store ≤ 65536) }
@@ -49,7 +49,7 @@ fn made_with<T: MadeTrace + Drop, L: Drop, C: Drop>(
     }) }
     ensures made { IfOk result (λ made. IsGateMade T.list T.limit inputs outputs made) }
 {
-    Ok(Made {
+    Ok(GateMemory {
         receiving,
         sender: Sender::with(alloc, settings, session, sealer)?,
         opener: Opener::with(alloc, session)?,
@@ -62,13 +62,13 @@ fn made_with<T: MadeTrace + Drop, L: Drop, C: Drop>(
 /// sealer is handed in exactly where the session has a passphrase.
 pub fn make<T: MadeTrace + Drop, L: Drop, C: Drop>(
     alloc: Global,
-    receiving: rist_recv::Made<T, L, C>,
+    receiving: rist_recv::Memory<T, L, C>,
     inputs: usize,
     settings: Settings,
     session: &Session,
     sealer: Option<Sealer>,
     outputs: usize,
-) -> Result<Made<T, L, C>, NoMemory>
+) -> Result<GateMemory<T, L, C>, NoMemory>
     requires receiving { IsMade T.list T.limit inputs receiving }
     requires few { inputs + outputs ≤ 16 }
     requires flow { settings.flow % 2 ≡ 0 }
@@ -109,7 +109,7 @@ pub fn make_in_turns<T: MadeTrace + Drop, L: Drop, C: Drop>(
     session: &Session,
     sealer: Option<Sealer>,
     outputs: usize,
-) -> Result<Made<T, L, C>, NoMemory>
+) -> Result<GateMemory<T, L, C>, NoMemory>
     requires receiving { IsMadeInTurns inputs receiving }
     requires flow { settings.flow % 2 ≡ 0 }
     requires store { (1 ≤ settings.store) × (settings.store ≤ 65536) }

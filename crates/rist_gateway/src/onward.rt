@@ -2,25 +2,25 @@
 ghost use Rattle.std.specs.Prelude.{◌≡◌, [], OnOk, OnErr, None, Some, min, ◌+◌, ◌-◌, ◌^◌};
 ghost use Rattle.outside_io.specs.Causes.{HasCause};
 ghost use Rattle.outside_io.specs.Told.{Appends, AppendsPart};
-ghost use Rattle.rist_send.specs.Served.{line_of};
 ghost use Rattle.rist_gateway.specs.Onward.{IsOnward, IsUncalled, Puts, Looks, onward_of, passed_of, shows};
 ghost use Rattle.rist_gateway.specs.Onward.{why_of, bad_after};
 
 use crate::handed::Handed;
 use crate::looking::look;
-use crate::origin::Origin;
+use crate::origin::OnwardOrigin;
 use crate::parts::send_parts;
 use outside_io::{Failed, Sink};
-use outside_net::{Clock, Link};
+use outside_net::{Clock, Link, TellingLink};
 use rist_desk::{Beside, Side};
-use rist_sender::{SendBad, Sender};
+use rist_sender::Sender;
 use rist_wire::Opener;
+use sender_rules::SendBad;
 use std::marker::{Model, PhantomData};
 
 /// A sender with its links, its clock, and an opener for what comes back. Each piece that is put to it is one payload,
 /// sent at its clock's moment. A contract sees what the sender keeps, and what the links tell.
 #[derive(Drop)]
-pub struct Onward<G: Origin, L: Link + Drop, C: Clock + Drop> {
+pub struct Onward<G: OnwardOrigin, L: Link + Drop, C: Clock + Drop> {
     sender: Sender,
     opener: Opener,
     links: Vec<L>,
@@ -33,8 +33,7 @@ pub struct Onward<G: Origin, L: Link + Drop, C: Clock + Drop> {
     of: PhantomData<G>,
 }
 
-impl<G: Origin, L: Link + Drop, C: Clock + Drop> Model for Onward<G, L, C> {
-    ghost use Rattle.rist_send.specs.Served.{line_of};
+impl<G: OnwardOrigin, L: Link + Drop, C: Clock + Drop> Model for Onward<G, L, C> {
     ghost use Rattle.rist_gateway.specs.Onward.{OnwardParts, IsOnward, onward_of, passed_of};
 
     ghost Value = { OnwardParts L C };
@@ -51,16 +50,18 @@ impl<G: Origin, L: Link + Drop, C: Clock + Drop> Model for Onward<G, L, C> {
       aside_bad = o.aside_bad;
     } };
 
-    ghost invariant = { λ o. IsOnward G.first (onward_of (line_of L.taken L.knows L.faults L.reads L.ends)
+    // An invariant can't name what `TellingLink` gives, so the record stands here.
+    ghost invariant = { λ o. IsOnward G.first (onward_of
+        (record { reads = L.reads; taken = L.taken; knows = L.knows; ends = L.ends; faults = L.faults })
         o.sender o.opener o.links.items (passed_of (C.moments o.clock) o.handed) o.puts o.faults o.put_bad o.aside_bad) };
 }
 
-impl<G: Origin, L: Link + Drop, C: Clock + Drop> Onward<G, L, C> {
+impl<G: OnwardOrigin, L: Link + Drop, C: Clock + Drop> Onward<G, L, C> {
     /// A new sender over its 1 to 16 links, with an opener of the same session and a clock.
     pub fn with(sender: Sender, opener: Opener, links: Vec<L>, clock: C) -> Onward<G, L, C>
-        requires first { G.first ≡ onward_of (line_of L.taken L.knows L.faults L.reads L.ends)
+        requires first { G.first ≡ onward_of ⟦<L as TellingLink>⟧.tells
             sender opener links.items (passed_of (C.moments clock) []) 0 0 None None }
-        requires uncalled { IsUncalled (onward_of (line_of L.taken L.knows L.faults L.reads L.ends)
+        requires uncalled { IsUncalled (onward_of ⟦<L as TellingLink>⟧.tells
             sender opener links.items (passed_of (C.moments clock) []) 0 0 None None) }
         ensures value { result ≡ record {
           sender = sender;
@@ -92,7 +93,7 @@ impl<G: Origin, L: Link + Drop, C: Clock + Drop> Onward<G, L, C> {
     /// was. What it did since it was made stands in what holds of its type.
     pub fn why(&self) -> Option<SendBad>
         ensures value { result ≡ why_of self.now.put_bad self.now.aside_bad }
-        ensures since { IsOnward G.first (shows (line_of L.taken L.knows L.faults L.reads L.ends) C.moments self.now) }
+        ensures since { IsOnward G.first (shows ⟦<L as TellingLink>⟧.tells C.moments self.now) }
     {
         match self.put_bad {
             Some(bad) => Some(bad),
@@ -103,7 +104,7 @@ impl<G: Origin, L: Link + Drop, C: Clock + Drop> Onward<G, L, C> {
     /// Why the last put that was refused was, and why the last aside, where one was.
     pub fn refusals(&self) -> (Option<SendBad>, Option<SendBad>)
         ensures value { result ≡ (self.now.put_bad, self.now.aside_bad) }
-        ensures since { IsOnward G.first (shows (line_of L.taken L.knows L.faults L.reads L.ends) C.moments self.now) }
+        ensures since { IsOnward G.first (shows ⟦<L as TellingLink>⟧.tells C.moments self.now) }
     {
         (self.put_bad, self.aside_bad)
     }
@@ -111,7 +112,7 @@ impl<G: Origin, L: Link + Drop, C: Clock + Drop> Onward<G, L, C> {
     /// Its links and its clock.
     pub fn apart(self) -> (Vec<L>, C)
         ensures parts { (result.0.items ≡ self.links) × (result.1 ≡ self.clock) }
-        ensures since { IsOnward G.first (shows (line_of L.taken L.knows L.faults L.reads L.ends) C.moments self) }
+        ensures since { IsOnward G.first (shows ⟦<L as TellingLink>⟧.tells C.moments self) }
     {
         let Onward {
             sender: _,
@@ -129,7 +130,7 @@ impl<G: Origin, L: Link + Drop, C: Clock + Drop> Onward<G, L, C> {
     }
 }
 
-impl<G: Origin, L: Link + Drop, C: Clock + Drop> Sink for Onward<G, L, C> {
+impl<G: OnwardOrigin, L: Link + Drop, C: Clock + Drop> Sink for Onward<G, L, C> {
     ghost contents = { λ o. Some o.handed };
 
     ghost faults = { λ o. o.faults };
@@ -140,8 +141,8 @@ impl<G: Origin, L: Link + Drop, C: Clock + Drop> Sink for Onward<G, L, C> {
         ensures cause { HasCause self.old.faults self.new.faults result }
         // The piece is sent on at the clock's moment, as one payload of at most 1,500 octets, and a longer one in
         // parts.
-        ensures work { Puts (shows (line_of L.taken L.knows L.faults L.reads L.ends) C.moments self.old)
-            (shows (line_of L.taken L.knows L.faults L.reads L.ends) C.moments self.new) piece.now result }
+        ensures work { Puts (shows ⟦<L as TellingLink>⟧.tells C.moments self.old)
+            (shows ⟦<L as TellingLink>⟧.tells C.moments self.new) piece.now result }
         ensures puts { self.new.puts ≡ min (self.old.puts + 1) (2 ^ 64 - 1) }
         ensures aside { self.new.aside_bad ≡ self.old.aside_bad }
     {
@@ -173,13 +174,13 @@ fn bad_after(was: Option<SendBad>, side: Side) -> Option<SendBad>
     }
 }
 
-impl<G: Origin, L: Link + Drop, C: Clock + Drop> Beside for Onward<G, L, C> {
-    ghost looks = { λ old new us link side. Looks (shows (line_of L.taken L.knows L.faults L.reads L.ends) C.moments old)
-        (shows (line_of L.taken L.knows L.faults L.reads L.ends) C.moments new) us link side };
+impl<G: OnwardOrigin, L: Link + Drop, C: Clock + Drop> Beside for Onward<G, L, C> {
+    ghost looks = { λ old new us link side. Looks (shows ⟦<L as TellingLink>⟧.tells C.moments old)
+        (shows ⟦<L as TellingLink>⟧.tells C.moments new) us link side };
 
     fn aside(&mut self, us: u64, link: u8) -> Side
-        ensures looks { Looks (shows (line_of L.taken L.knows L.faults L.reads L.ends) C.moments self.old)
-            (shows (line_of L.taken L.knows L.faults L.reads L.ends) C.moments self.new) us link result }
+        ensures looks { Looks (shows ⟦<L as TellingLink>⟧.tells C.moments self.old)
+            (shows ⟦<L as TellingLink>⟧.tells C.moments self.new) us link result }
         ensures faults { self.new.faults ≡ self.old.faults }
         ensures bad { self.new.aside_bad ≡ bad_after self.old.aside_bad result }
         ensures puts { (self.new.puts ≡ self.old.puts) × (self.new.put_bad ≡ self.old.put_bad) }

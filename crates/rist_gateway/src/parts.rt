@@ -2,14 +2,14 @@
 ghost use Rattle.std.specs.Prelude.{◌≡◌, ◌≤◌, length};
 ghost use Rattle.sender_rules.specs.Bonding.{link_count};
 ghost use Rattle.rist_sender.specs.Sender.{StaysSet};
-ghost use Rattle.rist_send.specs.Served.{line_of};
 ghost use Rattle.rist_gateway.specs.Course.{Course, SendsPart, SendsOn};
 ghost use Rattle.rist_gateway.specs.Onward.{passed_of};
 ghost use Rattle.rist_gateway.specs.Inside.Moves.{IsFar, Goes, setup_with};
 
 use crate::handed::Handed;
-use outside_net::{Clock, Link};
-use rist_sender::{SendBad, Sender};
+use outside_net::{Clock, Link, TellingLink};
+use rist_sender::Sender;
+use sender_rules::SendBad;
 
 /// How many octets a payload has at most.
 const MAX_PART: usize = 1500;
@@ -26,9 +26,9 @@ fn send_part<L: Link, C: Clock>(
     requires links { length links.old ≡ link_count sender.old.bonding }
     requires few { length links.old ≤ 16 }
     ensures work { (from : Course)
-        → IsFar (line_of L.taken L.knows L.faults L.reads L.ends) sender.old
+        → IsFar ⟦<L as TellingLink>⟧.tells sender.old
         (passed_of (C.moments clock.old) handed.old) links.old from
-        → Goes (line_of L.taken L.knows L.faults L.reads L.ends) sender.old sender.new
+        → Goes ⟦<L as TellingLink>⟧.tells sender.old sender.new
         (passed_of (C.moments clock.new) handed.new) links.old links.new from
         (SendsPart (setup_with sender.old (length links.old)) part.now result from) }
     ensures set { StaysSet sender.old sender.new }
@@ -54,9 +54,9 @@ pub(crate) fn send_parts<L: Link, C: Clock>(
     requires links { length links.old ≡ link_count sender.old.bonding }
     requires few { length links.old ≤ 16 }
     ensures work { (from : Course)
-        → IsFar (line_of L.taken L.knows L.faults L.reads L.ends) sender.old
+        → IsFar ⟦<L as TellingLink>⟧.tells sender.old
         (passed_of (C.moments clock.old) handed.old) links.old from
-        → Goes (line_of L.taken L.knows L.faults L.reads L.ends) sender.old sender.new
+        → Goes ⟦<L as TellingLink>⟧.tells sender.old sender.new
         (passed_of (C.moments clock.new) handed.new) links.old links.new from
         (SendsOn (setup_with sender.old (length links.old)) piece.now result from) }
     ensures set { StaysSet sender.old sender.new }

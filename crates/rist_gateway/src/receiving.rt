@@ -10,8 +10,8 @@ ghost use Rattle.rist_gateway.specs.Setup.{IsKeptEnd, IsReceivingEnd, received_s
 use crate::in_turns::receive_in_turns;
 use crate::receiving_end::{KeptEnd, ReceivingEnd};
 use crate::sides::{seat_sides, serve_both, unseat_sides};
-use outside_net::{Clock, Link};
-use rist_desk::{Beside, Desk, Limits, Name};
+use outside_net::{Clock, Link, TellingLink};
+use rist_desk::{Beside, Desk, DeskOrigin, ServingLimits};
 use rist_ends::Counts;
 use rist_recv::{Ending, MadeTrace, Received, conclude, seated, unseated};
 use std::alloc::Global;
@@ -30,7 +30,7 @@ pub struct Run<K> {
 
 /// The run of a desk under a name.
 fn session<
-    N: Name + Send + Sync,
+    N: DeskOrigin + Send + Sync,
     T: MadeTrace + Drop + Send,
     K: Beside + Drop + Send,
     L: Link + Drop + Send,
@@ -43,7 +43,7 @@ fn session<
     clocks: &mut Vec<C>,
     sink: K,
     beside: &mut Vec<C>,
-    limits: &Limits,
+    limits: &ServingLimits,
 ) -> Run<K>
     requires some { 0 < length links.old.items }
     requires few { length links.old.items + length beside.old.items ≤ 16 }
@@ -54,7 +54,7 @@ fn session<
     requires fresh { IsNew N.given (state_of end.made.receiver
         (T.list end.made.trace) (T.limit end.made.trace) (K.contents sink) (K.faults sink)) }
     ensures work { Receives C.moments
-        (record { reads = L.reads; taken = L.taken; knows = L.knows; ends = L.ends; faults = L.faults })
+        ⟦<L as TellingLink>⟧.tells
         (setup_of T.limit end.made) limits.now links.old.items links.new.items clocks.old.items clocks.new.items
         (K.contents sink) (K.contents result.sink) (K.faults sink) (K.faults result.sink) result.counts result.ending }
     ensures looked { AreLookedAt C.moments limits.now beside.old.items beside.new.items }
@@ -69,7 +69,7 @@ fn session<
         mut parts,
         mut passes,
     } = end;
-    let rist_recv::Made {
+    let rist_recv::Memory {
         receiver,
         trace,
         seats,
@@ -108,7 +108,7 @@ fn receive_kept<
     clocks: &mut Vec<C>,
     sink: K,
     beside: &mut Vec<C>,
-    limits: &Limits,
+    limits: &ServingLimits,
 ) -> Run<K>
     requires some { 0 < length links.old.items }
     requires few { length links.old.items + length beside.old.items ≤ 16 }
@@ -117,7 +117,7 @@ fn receive_kept<
     requires made { IsKeptEnd T.list T.limit (length links.old.items) (length beside.old.items) end }
     requires empty { IsEmpty (K.contents sink) }
     ensures work { Receives C.moments
-        (record { reads = L.reads; taken = L.taken; knows = L.knows; ends = L.ends; faults = L.faults })
+        ⟦<L as TellingLink>⟧.tells
         (setup_of T.limit end.made) limits.now links.old.items links.new.items clocks.old.items clocks.new.items
         (K.contents sink) (K.contents result.sink) (K.faults sink) (K.faults result.sink) result.counts result.ending }
     ensures looked { AreLookedAt C.moments limits.now beside.old.items beside.new.items }
@@ -147,7 +147,7 @@ pub(crate) fn receive_beside<
     clocks: &mut Vec<C>,
     sink: K,
     beside: &mut Vec<C>,
-    limits: &Limits,
+    limits: &ServingLimits,
 ) -> Result<Run<K>, K>
     requires some { 0 < length links.old.items }
     requires few { length links.old.items + length beside.old.items ≤ 16 }
@@ -156,7 +156,7 @@ pub(crate) fn receive_beside<
     requires made { IsReceivingEnd T.list T.limit (length links.old.items) (length beside.old.items) end }
     requires empty { IsEmpty (K.contents sink) }
     ensures work { IfOk result (λ run. Receives C.moments
-        (record { reads = L.reads; taken = L.taken; knows = L.knows; ends = L.ends; faults = L.faults })
+        ⟦<L as TellingLink>⟧.tells
         (received_setup_of T.limit end) limits.now links.old.items links.new.items clocks.old.items clocks.new.items
         (K.contents sink) (K.contents run.sink) (K.faults sink) (K.faults run.sink) run.counts run.ending) }
     ensures looked { IfOk result (λ run. AreLookedAt C.moments limits.now beside.old.items beside.new.items) }

@@ -3,17 +3,17 @@ ghost use Rattle.std.specs.Prelude.{◌≡◌, ◌≤◌, ◌+◌, IfOk, length}
 ghost use Rattle.rist_recv.specs.Setup.{IsMade};
 ghost use Rattle.rist_gateway.specs.Setup.{IsKeptEnd};
 
-use crate::part::Part;
+use crate::either_worker::EitherWorker;
 use outside_io::NoMemory;
-use rist_recv::{Made, MadeInTurns, MadeTrace};
+use rist_recv::{MadeInTurns, MadeTrace, Memory};
 use std::alloc::Global;
 
 /// A receiving end whose steps are kept: what was made for it, room for the parts of both ends, and what each side worker
 /// has of its own, which is nothing.
 #[derive(Drop)]
 pub struct KeptEnd<T, L, C> {
-    pub made: Made<T, L, C>,
-    pub parts: Vec<Part<L, C, T, C, ()>>,
+    pub made: Memory<T, L, C>,
+    pub parts: Vec<EitherWorker<L, C, T, C, ()>>,
     pub passes: Vec<()>,
 }
 
@@ -42,7 +42,7 @@ fn nothings(alloc: Global, count: usize) -> Result<Vec<()>, NoMemory>
 /// Takes the memory beside what was made for a receiving end of so many links whose steps are kept.
 pub(crate) fn kept_end<T: MadeTrace + Drop, L: Drop, C: Drop>(
     alloc: Global,
-    made: Made<T, L, C>,
+    made: Memory<T, L, C>,
     inputs: usize,
     outputs: usize,
 ) -> Result<KeptEnd<T, L, C>, NoMemory>

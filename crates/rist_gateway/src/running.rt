@@ -1,6 +1,5 @@
 //! A run over links and clocks.
 ghost use Rattle.std.specs.Prelude.{◌≡◌, ◌<◌, ◌≤◌, ◌^◌, ◌+◌, [], None, Some, IfOk, OnErr, length, vec_capacity};
-ghost use Rattle.rist_send.specs.Served.{line_of};
 ghost use Rattle.rist_gateway.specs.Onward.{IsUncalled, onward_of, passed_of};
 ghost use Rattle.rist_gateway.specs.Inside.Played.{PlaysOn};
 ghost use Rattle.rist_gateway.specs.Run.{AreLookedAt, Forwards};
@@ -8,14 +7,14 @@ ghost use Rattle.rist_gateway.specs.Setup.{IsGateMade, IsReceivingEnd, gate_setu
 
 use crate::ending::{GateEnding, ending_of};
 use crate::lending::{give_back, hand_on};
-use crate::making::Made;
+use crate::making::GateMemory;
 use crate::onward::Onward;
-use crate::origin::Origin;
+use crate::origin::OnwardOrigin;
 use crate::receiving::{Run, receive_beside};
 use crate::receiving_end::ReceivingEnd;
 use outside_io::NoMemory;
-use outside_net::{Clock, Link};
-use rist_desk::Limits;
+use outside_net::{Clock, Link, TellingLink};
+use rist_desk::ServingLimits;
 use rist_ends::Counts;
 use rist_recv::MadeTrace;
 use rist_sender::Sender;
@@ -52,7 +51,7 @@ struct Forwarded<L, C> {
 
 /// A run whose sending end has a name.
 fn forward<
-    G: Origin + Drop + Send,
+    G: OnwardOrigin + Drop + Send,
     T: MadeTrace + Drop + Send,
     L: Link + Drop + Send,
     C: Clock + Drop + Send,
@@ -65,18 +64,18 @@ fn forward<
     links: &mut Vec<L>,
     clocks: &mut Vec<C>,
     beside: &mut Vec<C>,
-    limits: &Limits,
+    limits: &ServingLimits,
 ) -> Forwarded<L, C>
     requires some { 0 < length links.old.items }
     requires few { length links.old.items + length beside.old.items ≤ 16 }
     requires clocks { length clocks.old.items ≡ length links.old.items }
     requires turns { (0 < limits.now.turns) × (limits.now.turns ≤ 2 ^ 40) }
     requires made { IsReceivingEnd T.list T.limit (length links.old.items) (length beside.old.items) receiving }
-    requires first { G.first ≡ onward_of (line_of L.taken L.knows L.faults L.reads L.ends)
+    requires first { G.first ≡ onward_of ⟦<L as TellingLink>⟧.tells
         end.sender end.opener end.links.items (passed_of (C.moments end.clock) []) 0 0 None None }
-    requires uncalled { IsUncalled (onward_of (line_of L.taken L.knows L.faults L.reads L.ends)
+    requires uncalled { IsUncalled (onward_of ⟦<L as TellingLink>⟧.tells
         end.sender end.opener end.links.items (passed_of (C.moments end.clock) []) 0 0 None None) }
-    ensures work { IfOk result.ended (λ gated. PlaysOn C.moments (line_of L.taken L.knows L.faults L.reads L.ends)
+    ensures work { IfOk result.ended (λ gated. PlaysOn C.moments ⟦<L as TellingLink>⟧.tells
         (received_setup_of T.limit receiving) limits.now
         links.old.items links.new.items clocks.old.items clocks.new.items
         G.first result.links.items result.clock gated.counts gated.ending) }
@@ -131,12 +130,12 @@ pub fn gate_on<
 >(
     rt: &R,
     alloc: Global,
-    made: Made<T, L, C>,
+    made: GateMemory<T, L, C>,
     links: &mut Vec<L>,
     clocks: &mut Vec<C>,
     inputs: usize,
     outputs: usize,
-    limits: &Limits,
+    limits: &ServingLimits,
 ) -> Result<Gated, NoMemory>
     requires some { (0 < inputs) × (0 < outputs) }
     requires few { inputs + outputs ≤ 16 }
@@ -144,14 +143,14 @@ pub fn gate_on<
     requires clocks { length clocks.old.items ≡ inputs + outputs + 1 }
     requires turns { (0 < limits.now.turns) × (limits.now.turns ≤ 2 ^ 40) }
     requires made { IsGateMade T.list T.limit inputs outputs made }
-    ensures work { IfOk result (λ gated. Forwards C.moments (line_of L.taken L.knows L.faults L.reads L.ends)
+    ensures work { IfOk result (λ gated. Forwards C.moments ⟦<L as TellingLink>⟧.tells
         (gate_setup_of T.limit made) limits.now inputs
         links.old.items links.new.items clocks.old.items clocks.new.items gated.counts gated.ending) }
     ensures memory { OnErr result ((links.new.items ≡ links.old.items) × (clocks.new.items ≡ clocks.old.items)) }
     ensures links { length links.new.items ≡ length links.old.items }
     ensures clocks { length clocks.new.items ≡ length clocks.old.items }
 {
-    let Made {
+    let GateMemory {
         receiving,
         sender,
         opener,

@@ -1,7 +1,7 @@
 //! What several threads look at the links of a sink on.
 ghost use Rattle.std.specs.Prelude.{◌≤◌, ◌+◌, ℕ};
 
-use rist_desk::{Beside, Desk, Name, Side, Step, StepTrace};
+use rist_desk::{Beside, Desk, DeskOrigin, Side, Step, StepTrace};
 use std::sync::{Mutex, Wait};
 use turn_desk::{Shared, TurnDesk};
 use turn_lock::Pass;
@@ -30,7 +30,8 @@ pub trait SharesBeside<P> {
         ensures looks { looks us link result };
 }
 
-impl<N: Name, T: StepTrace + Drop, K: Beside + Drop> SharesBeside<()> for Mutex<Desk<N, T, K>> {
+impl<N: DeskOrigin, T: StepTrace + Drop, K: Beside + Drop> SharesBeside<()>
+    for Mutex<Desk<N, T, K>> {
     ghost use Rattle.std.specs.Prelude.{◌^◌};
     ghost use Rattle.rist_desk.specs.Desk.{DeskState};
     ghost use Rattle.rist_desk.specs.Aside.{HandsOn};
@@ -47,7 +48,7 @@ impl<N: Name, T: StepTrace + Drop, K: Beside + Drop> SharesBeside<()> for Mutex<
     }
 }
 
-impl<N: Name, K: Beside + Drop> SharesBeside<Pass<Step, Shared<N, K>>> for TurnDesk<N, K> {
+impl<N: DeskOrigin, K: Beside + Drop> SharesBeside<Pass<Step, Shared<N, K>>> for TurnDesk<N, K> {
     ghost use Rattle.turn_lock.specs.Passes.{turns_left};
     ghost use Rattle.turn_desk.specs.Asides.{LooksAt};
     ghost use Rattle.turn_desk.specs.Own.{IsBeside};

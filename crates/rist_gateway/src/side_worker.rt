@@ -1,5 +1,5 @@
 //! What looks at one link that is sent on, and why it ends.
-use rist_sender::SendBad;
+use sender_rules::SendBad;
 
 /// Why a side worker ended.
 #[derive(Clone, Copy, Debug, PartialEq, Eq)]
@@ -9,7 +9,7 @@ pub enum SideEnded {
     /// Its turns are made.
     Turns,
     /// For the stated time the sink was put to no more.
-    Quiet,
+    Idle,
     /// A read of its link failed.
     Failed,
     /// What was to be sent is refused.

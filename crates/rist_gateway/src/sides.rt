@@ -3,18 +3,18 @@ ghost use Rattle.std.specs.Prelude.{◌≡◌, ◌<◌, ◌≤◌, ◌+◌, ◌+
 ghost use Rattle.std.specs.Prelude.{slice_index_or, vec_capacity};
 ghost use Rattle.rist_desk.specs.Serving.{MayServe};
 ghost use Rattle.rist_desk.specs.declared.worker.Worker.{Worker as ServedWorker};
-ghost use Rattle.rist_gateway.specs.declared.part.Part.{Part as ServedPart};
+ghost use Rattle.rist_gateway.specs.declared.either_worker.EitherWorker.{EitherWorker as ServedPart};
 ghost use Rattle.rist_gateway.specs.declared.side_worker.SideWorker.{SideWorker as Side};
 ghost use Rattle.rist_gateway.specs.Parts.{ServesWith, shared_as, sides_as, side_clock};
 ghost use Rattle.rist_gateway.specs.Inside.Sides.{HasRoom, LookAtLinks, MayLookAtLinks, receiving_part, sending_part};
 ghost use Rattle.rist_gateway.specs.Inside.Sides.{seated_sides, sending_parts, side_pass};
 
+use crate::either_worker::EitherWorker;
 use crate::gating::gate;
-use crate::part::Part;
 use crate::shares_beside::SharesBeside;
 use crate::side_worker::SideWorker;
-use outside_net::{Clock, Link};
-use rist_desk::{Limits, Shares, Worker};
+use outside_net::{Clock, Link, TellingLink};
+use rist_desk::{ServingLimits, Shares, Worker};
 use std::sync::Wait;
 use std::thread::Threads;
 
@@ -22,7 +22,7 @@ use std::thread::Threads;
 pub(crate) fn seat_sides<L: Drop, C: Drop, U: Drop, P: Drop>(
     clocks: &mut Vec<C>,
     passes: &mut Vec<P>,
-    parts: &mut Vec<Part<L, C, U, C, P>>,
+    parts: &mut Vec<EitherWorker<L, C, U, C, P>>,
 )
     requires few { length clocks.old.items ≤ 16 }
     requires many { length clocks.old.items ≤ length passes.old.items }
@@ -40,7 +40,7 @@ pub(crate) fn seat_sides<L: Drop, C: Drop, U: Drop, P: Drop>(
         let Some(pass) = passes.pop() else {
             unreachable!()
         };
-        let _ = parts.push(Part::Sending(SideWorker {
+        let _ = parts.push(EitherWorker::Sending(SideWorker {
             link: clocks.len() as u8,
             clock,
             pass,
@@ -51,7 +51,7 @@ pub(crate) fn seat_sides<L: Drop, C: Drop, U: Drop, P: Drop>(
 
 /// Gives the clock and the pass of a side worker back.
 fn unseat_side<L: Drop, C: Drop, U: Drop, P: Drop>(
-    part: Part<L, C, U, C, P>,
+    part: EitherWorker<L, C, U, C, P>,
     clocks: &mut Vec<C>,
     passes: &mut Vec<P>,
 )
@@ -65,17 +65,17 @@ fn unseat_side<L: Drop, C: Drop, U: Drop, P: Drop>(
         × (vec_capacity passes.old ≤ vec_capacity passes.new) }
 {
     match part {
-        Part::Sending(side) => {
+        EitherWorker::Sending(side) => {
             let _ = clocks.push(side.clock);
             let _ = passes.push(side.pass);
         }
-        Part::Receiving(_) => {}
+        EitherWorker::Receiving(_) => {}
     }
 }
 
 /// Gives the clocks and the passes of side workers back, behind those that are there.
 pub(crate) fn unseat_sides<L: Drop, C: Drop, U: Drop, P: Drop>(
-    mut parts: Vec<Part<L, C, U, C, P>>,
+    mut parts: Vec<EitherWorker<L, C, U, C, P>>,
     clocks: &mut Vec<C>,
     passes: &mut Vec<P>,
 )
@@ -95,7 +95,7 @@ pub(crate) fn unseat_sides<L: Drop, C: Drop, U: Drop, P: Drop>(
 /// Puts workers before the parts, which stand in the opposite order.
 fn gather<L: Drop, C: Drop, U: Drop, D: Drop, P: Drop>(
     workers: &mut Vec<Worker<L, C, U>>,
-    parts: &mut Vec<Part<L, C, U, D, P>>,
+    parts: &mut Vec<EitherWorker<L, C, U, D, P>>,
 )
     requires room { length workers.old.items + length parts.old.items ≤ vec_capacity parts.old }
     ensures parts { parts.new.items ≡ map receiving_part workers.old.items ++ reverse parts.old.items }
@@ -104,14 +104,14 @@ fn gather<L: Drop, C: Drop, U: Drop, D: Drop, P: Drop>(
     ensures more { vec_capacity parts.old ≤ vec_capacity parts.new }
 {
     while let Some(worker) = workers.pop() {
-        let _ = parts.push(Part::Receiving(worker));
+        let _ = parts.push(EitherWorker::Receiving(worker));
     }
     parts.reverse();
 }
 
 /// Puts the worker of a part back into its list, where it is one.
 fn put_back<L: Drop, C: Drop, U: Drop, D: Drop, P: Drop>(
-    part: Part<L, C, U, D, P>,
+    part: EitherWorker<L, C, U, D, P>,
     workers: &mut Vec<Worker<L, C, U>>,
 )
     ensures put { (w : ServedWorker L C U) → part ≡ receiving_part w
@@ -119,16 +119,16 @@ fn put_back<L: Drop, C: Drop, U: Drop, D: Drop, P: Drop>(
     ensures room { vec_capacity workers.old ≤ vec_capacity workers.new }
 {
     match part {
-        Part::Receiving(worker) => {
+        EitherWorker::Receiving(worker) => {
             let _ = workers.push(worker);
         }
-        Part::Sending(_) => {}
+        EitherWorker::Sending(_) => {}
     }
 }
 
 /// Takes the worker of the last part.
 fn take_one<L: Drop, C: Drop, U: Drop, D: Drop, P: Drop>(
-    parts: &mut Vec<Part<L, C, U, D, P>>,
+    parts: &mut Vec<EitherWorker<L, C, U, D, P>>,
     workers: &mut Vec<Worker<L, C, U>>,
 )
     ensures taken { (w : ServedWorker L C U) (left : List (ServedPart L C U D P))
@@ -145,7 +145,7 @@ fn take_one<L: Drop, C: Drop, U: Drop, D: Drop, P: Drop>(
 /// Takes so many workers from before the parts, and sets these in the opposite order again.
 fn scatter<L: Drop, C: Drop, U: Drop, D: Drop, P: Drop>(
     workers: &mut Vec<Worker<L, C, U>>,
-    parts: &mut Vec<Part<L, C, U, D, P>>,
+    parts: &mut Vec<EitherWorker<L, C, U, D, P>>,
     count: usize,
 )
     requires none { workers.old.items ≡ [] }
@@ -174,9 +174,9 @@ pub(crate) fn serve_both<
 >(
     rt: &R,
     workers: &mut Vec<Worker<L, C, U>>,
-    parts: &mut Vec<Part<L, C, U, C, P>>,
+    parts: &mut Vec<EitherWorker<L, C, U, C, P>>,
     desk: &S,
-    limits: &Limits,
+    limits: &ServingLimits,
 )
     requires some { 0 < length workers.old.items }
     requires few { length workers.old.items ≤ 16 }
@@ -190,7 +190,7 @@ pub(crate) fn serve_both<
     ensures on { (i : ℕ) (d : _) → i < length workers.old.items → ServesWith
         (shared_as S.given S.list S.limit S.is_of S.left S.broken
         (sides_as S.is_beside S.looks_left)) desk.now C.moments
-        (record { reads = L.reads; taken = L.taken; knows = L.knows; ends = L.ends; faults = L.faults })
+        ⟦<L as TellingLink>⟧.tells
         limits.now i (slice_index_or workers.old.items i d) (slice_index_or workers.new.items i d) }
     ensures looked { LookAtLinks (sides_as S.is_beside S.looks_left) desk.now C.moments limits.now
         (length workers.old.items) parts.old.items parts.new.items }

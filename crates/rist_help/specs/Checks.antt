@@ -4,8 +4,8 @@ use Rattle.std.specs.Prelude.{is_some, if◌then◌else◌, codes}
 use Rattle.std.specs.List.{find}
 use Rattle.std.specs.Str.{bytes_eq}
 use Rattle.clap.specs.Words.{Row, Text, all_of, first_of}
-use Rattle.outside_io.specs.declared.profile.Profile.{Profile}
-use Rattle.outside_io.specs.declared.profile.Profile.TheVariants.{Simple, Main}
+use Rattle.link_channels.specs.declared.profile.Profile.{Profile}
+use Rattle.link_channels.specs.declared.profile.Profile.TheVariants.{Simple, Main}
 use Rattle.outside_net.specs.declared.link_spec.LinkSpec.{LinkSpec}
 use Rattle.rist_words.specs.declared.values.Numbers.{Numbers}
 use Rattle.rist_words.specs.Commands.{SessionNames, incoming_names, session_names}

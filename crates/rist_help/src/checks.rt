@@ -8,7 +8,8 @@ ghost use Rattle.rist_help.specs.Checks.{profile_by, profile_in, shown_test};
 ghost use Rattle.rist_help.specs.Checks.{First, GateLinks, GateShare, Incoming, Inputs, Links, Outs, SendShare};
 
 use clap::ArgMatches;
-use outside_io::{NoMemory, Profile};
+use link_channels::Profile;
+use outside_io::NoMemory;
 use outside_net::LinkSpec;
 use rist_words::Refused;
 use rist_words::drilling::{COUNT, LINKS, LOSS, NUMBER};

@@ -6,7 +6,7 @@ use Rattle.std.proofs.lemmas.List.{get_or-map}
 use Rattle.std.proofs.lemmas.List.FromFn.{length-enumerate_from, get_or-enumerate_from}
 use Rattle.std.proofs.lemmas.Nat.{mul-le}
 use Rattle.std.proofs.Math.ListN.{length-map}
-use Rattle.outside_io.specs.declared.channel.Channel.TheVariants as channels
+use Rattle.link_channels.specs.declared.channel.Channel.TheVariants as channels
 use Rattle.capture_file.specs.Capture.{Record, Fits}
 use Rattle.rtp_packet.specs.Rtp as rtp
 use Rattle.rtp_packet.specs.Writing.{packet_with}
@@ -14,7 +14,7 @@ use Rattle.ts_nulls.specs.Shape.{Shape, IsShape}
 use Rattle.ts_nulls.specs.Nulls.{stripping_of, blanking_of}
 use Rattle.ts_nulls.proofs.LawLemmas.{restoring-stripped, told-stripped, stays-unstripped}
 use Rattle.psk_seal.specs.Nonces.{AreNonces}
-use Rattle.outside_io.specs.declared.profile.Profile.TheVariants.{Simple}
+use Rattle.link_channels.specs.declared.profile.Profile.TheVariants.{Simple}
 use Rattle.rist_wire.specs.declared.item.Item.TheVariants as items
 use Rattle.rist_wire.specs.declared.session.Session.{Session}
 use Rattle.rist_wire.specs.Session.{IsSession}
@@ -24,8 +24,8 @@ use Rattle.rist_wire.specs.Writing.{IsPair}
 use Rattle.rist_wire.specs.Sent.{IsMediaOut, media_channel, media_datagram}
 use Rattle.rist_wire.proofs.MediaLemmas.{media-taken}
 use Rattle.rist_wire.proofs.StripLemmas.{stripped-are}
-use Rattle.stream_pieces.specs.Pieces.{pieces_of}
-use Rattle.stream_pieces.proofs.PieceLemmas.{length-pieces_of, piece_sized}
+use Rattle.block_source.specs.Pieces.{pieces_of}
+use Rattle.block_source.proofs.PieceLemmas.{length-pieces_of, piece_sized}
 use Rattle.rist_pack.specs.Capture.{sent_with, sent_of, stamp_of, media_of, taken_of, content_for, pair_of, piece_octets, packed_record, records_of, capture_of}
 use Rattle.rist_pack.specs.declared.settings.PackSettings.{PackSettings}
 use Rattle.rist_pack.proofs.DatagramLemmas.{sent-within, piece-len}

@@ -5,14 +5,14 @@ use Rattle.std.specs.Prelude.{Option, ◌≤◌}
 use Rattle.outside_io.specs.Told.{Appends, AppendsPart, AppendsBetween}
 use Rattle.outside_io.proofs.ToldLemmas.{takes_none, takes_both, appends_both}
 use Rattle.capture_file.specs.Capture.{Record, magic}
-use Rattle.stream_pieces.specs.Pieces.{pieces_of, pieces_before_last, whole_pieces_of}
+use Rattle.block_source.specs.Pieces.{pieces_of, pieces_before_last, whole_pieces_of}
 use Rattle.rist_pack.specs.Capture.{capture_of}
 use Rattle.rist_pack.specs.Packing.{Packs}
 use Rattle.rist_pack.specs.Inside.Steps.{PacksPiece, spelled_from, Sofar}
 use Rattle.rist_pack.specs.declared.packing.Turn.TheVariants.{On, Over}
 use Rattle.rist_pack.specs.declared.bad.PackBad.{PackBad}
 use Rattle.rist_pack.specs.declared.bad.PackBad.TheVariants.{ReadFault, WriteFault, TooLong}
-use Rattle.stream_pieces.proofs.PieceLemmas.{no_piece, pieces_behind, whole_pieces_behind, no_whole_piece, all_whole, length-pieces, before_last}
+use Rattle.block_source.proofs.PieceLemmas.{no_piece, pieces_behind, whole_pieces_behind, no_whole_piece, all_whole, length-pieces, before_last}
 use Rattle.rist_pack.proofs.CaptureLemmas.{capture_behind}
 
 -- no piece is the name alone

@@ -5,9 +5,9 @@ use Rattle.std.proofs.lemmas.List.{length-take-le}
 use Rattle.outside_io.specs.Told.{Appends, AppendsPart}
 use Rattle.outside_io.proofs.ToldLemmas.{appends_none}
 use Rattle.capture_file.specs.Capture.{Record, spelling}
-use Rattle.stream_pieces.specs.Pieces.{pieces_of}
-use Rattle.stream_pieces.specs.Reading.{TakesPiece}
-use Rattle.stream_pieces.proofs.PieceLemmas.{no_piece, one_piece}
+use Rattle.block_source.specs.Pieces.{pieces_of}
+use Rattle.block_source.specs.Reading.{TakesPiece}
+use Rattle.block_source.proofs.PieceLemmas.{no_piece, one_piece}
 use Rattle.rist_pack.specs.Inside.Steps.{PacksPiece, spelled_from}
 use Rattle.rist_pack.specs.declared.packing.Turn.TheVariants.{On, Over}
 use Rattle.rist_pack.specs.declared.bad.PackBad.TheVariants.{WriteFault}

@@ -5,7 +5,7 @@ use Rattle.outside_io.specs.Causes.{Fault, NoFault, Read, Write}
 use Rattle.outside_io.specs.Told.{Passage, Takes, IsEmpty, Appends, AppendsPart, AppendsBetween}
 use Rattle.capture_file.specs.Capture.{Record, magic}
 use Rattle.capture_file.specs.Writer.{WriterState}
-use Rattle.stream_pieces.specs.Pieces.{pieces_of, pieces_before_last, whole_pieces_of}
+use Rattle.block_source.specs.Pieces.{pieces_of, pieces_before_last, whole_pieces_of}
 use Rattle.rist_pack.specs.Capture.{capture_of}
 use Rattle.rist_pack.specs.declared.bad.PackBad.{PackBad}
 use Rattle.rist_pack.specs.declared.bad.PackBad.TheVariants.{ReadFault, WriteFault, TooLong}

@@ -6,7 +6,7 @@ ghost use Rattle.rist_wire.specs.Sent.{media_channel, media_datagram};
 ghost use Rattle.rist_pack.specs.Capture.{time_of, stamp_of, media_with, piece_octets, HasGiven};
 
 use crate::PackSettings;
-use outside_io::Channel;
+use link_channels::Channel;
 use receiver_rules::tick_of;
 use rist_wire::Shutter;
 use ts_nulls::{BLOCK_LEN, Strip, strip};

@@ -1,17 +1,17 @@
 //! What the definitions of a capture that was packed mean.
 ghost use Rattle.std.specs.Prelude.{◌≡◌, ◌+◌, ◌*◌, ◌%◌, ◌^◌, ◌<◌, ◌≤◌, ℕ, List, All, Option, None, Ok, true, IfSome, is_some, length, flat_map};
-ghost use Rattle.outside_io.specs.declared.channel.Channel.TheVariants as channels;
+ghost use Rattle.link_channels.specs.declared.channel.Channel.TheVariants as channels;
 ghost use Rattle.capture_file.specs.Capture.{IsCapture};
 ghost use Rattle.rtp_packet.specs.Rtp as rtp;
 ghost use Rattle.rtp_packet.specs.Writing.{packet_with};
 ghost use Rattle.psk_seal.specs.Nonces.{AreNonces};
-ghost use Rattle.outside_io.specs.declared.profile.Profile.TheVariants.{Simple};
+ghost use Rattle.link_channels.specs.declared.profile.Profile.TheVariants.{Simple};
 ghost use Rattle.rist_wire.specs.declared.item.Item.TheVariants as items;
 ghost use Rattle.rist_wire.specs.declared.session.Session.{Session};
 ghost use Rattle.rist_wire.specs.Session.{IsSession};
 ghost use Rattle.rist_wire.specs.Media.{content_of};
 ghost use Rattle.rist_wire.specs.Item.{item_of};
-ghost use Rattle.stream_pieces.specs.Pieces.{pieces_of};
+ghost use Rattle.block_source.specs.Pieces.{pieces_of};
 ghost use Rattle.rist_pack.specs.Capture.{stamp_of, taken_of, content_for, packed_record, records_of, capture_of};
 ghost use Rattle.rist_pack.specs.declared.settings.PackSettings.{PackSettings};
 

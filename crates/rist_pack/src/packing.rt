@@ -12,11 +12,11 @@ ghost use Rattle.rist_pack.specs.Inside.Steps.{PacksPiece};
 
 use crate::datagram::{put_piece, time_of};
 use crate::{PackBad, PackSettings};
+use block_source::{PIECE_LEN, PieceFault, read_piece};
 use capture_file::{Head, WriteFault, Writer};
 use outside_io::{Sink, Source};
 use psk_seal::Sealer;
 use rist_wire::{Session, Shutter};
-use stream_pieces::{PIECE_LEN, PieceFault, read_piece};
 
 // Writes the record of piece k.
 fn write_piece<K: Sink>(

@@ -11,11 +11,12 @@ use Rattle.rist_ends.specs.Counts.{AreCountsOf}
 use Rattle.rist_ends.specs.Receiver.{settings_of}
 use Rattle.rist_desk.specs.declared.ended.Ended.{Ended}
 use Rattle.rist_desk.specs.declared.step.Step.{Step}
-use Rattle.rist_desk.specs.declared.worker.Limits.{Limits}
+use Rattle.rist_desk.specs.declared.worker.ServingLimits.{ServingLimits}
 use Rattle.rist_desk.specs.declared.worker.Worker.{Worker}
 use Rattle.rist_desk.specs.Desk.{DeskState, Given, StandsFor}
 use Rattle.rist_desk.specs.Legal.{phase_of}
-use Rattle.rist_desk.specs.Serving.{LinkTells, ServesOn, TraceTells}
+use Rattle.outside_net.specs.Links.{LinkTells}
+use Rattle.rist_desk.specs.Serving.{ServesOn, TraceTells}
 use Rattle.rist_desk.specs.Steps.{history_of}
 use Rattle.rist_desk.proofs.ListLemmas.{one_more_told, reverse_more}
 use Rattle.reorder_buffer.specs.declared.phase.Phase.TheVariants as phases
@@ -59,7 +60,7 @@ told_at {L} {C} {U} tells ws link t is = by_place (slice_get ws link) refl (sym 
     by_place None e f = absurd (cc (f))
     by_place (Some w) e f = (w, e, cc (f))
 
-serves_told : {L C U : Type 0} (given : Given) (moments : C → Option (ℕ → ℕ)) (links : LinkTells L) (tells : TraceTells U) (limits : Limits) (link : ℕ) (was is : Worker L C U)
+serves_told : {L C U : Type 0} (given : Given) (moments : C → Option (ℕ → ℕ)) (links : LinkTells L) (tells : TraceTells U) (limits : ServingLimits) (link : ℕ) (was is : Worker L C U)
     → ServesOn given moments links tells limits link was is → ServesOn given moments links told_trace limits link (told_by tells was) (told_by tells is)
 serves_told given moments links tells limits link was is s = record {
   made = record {
@@ -74,7 +75,7 @@ serves_told given moments links tells limits link was is s = record {
 }
 
 -- each worker was served, as far as it tells
-pub all_served : {L C U : Type 0} (given : Given) (moments : C → Option (ℕ → ℕ)) (links : LinkTells L) (tells : TraceTells U) (limits : Limits) (ws later : List (Worker L C U))
+pub all_served : {L C U : Type 0} (given : Given) (moments : C → Option (ℕ → ℕ)) (links : LinkTells L) (tells : TraceTells U) (limits : ServingLimits) (ws later : List (Worker L C U))
     → ((link : ℕ) (d : Worker L C U) → link < length ws → ServesOn given moments links tells limits link (slice_index_or ws link d) (slice_index_or later link d))
     → (link : ℕ) (was is : Worker L C ToldTrace) → slice_get (map (told_by tells) ws) link ≡ Some was → slice_get (map (told_by tells) later) link ≡ Some is
     → ServesOn given moments links told_trace limits link was is

@@ -15,11 +15,12 @@ use Rattle.rist_compare.specs.declared.tear.Tear.{Tear}
 use Rattle.rist_desk.specs.declared.ended.Ended.{Ended}
 use Rattle.rist_desk.specs.declared.ended.Ended.TheVariants as ends
 use Rattle.rist_desk.specs.declared.step.Step.{Step}
-use Rattle.rist_desk.specs.declared.worker.Limits.{Limits}
+use Rattle.rist_desk.specs.declared.worker.ServingLimits.{ServingLimits}
 use Rattle.rist_desk.specs.declared.worker.Worker.{Worker}
 use Rattle.rist_desk.specs.Desk.{DeskState, Given}
 use Rattle.rist_desk.specs.Sending.{LacksRoom}
-use Rattle.rist_desk.specs.Serving.{LinkTells, MayServe, ServesOn, TraceTells}
+use Rattle.outside_net.specs.Links.{LinkTells}
+use Rattle.rist_desk.specs.Serving.{MayServe, ServesOn, TraceTells}
 use Rattle.turn_lock.specs.declared.pass.Pass.{Pass}
 use Rattle.turn_lock.specs.Passes.{entries_with, turns_left}
 use Rattle.turn_desk.specs.declared.desk.TurnDesk.{TurnDesk}
@@ -84,7 +85,7 @@ with_room : (e : Option Ended) → e ≢ Some ends.TraceFull → is_without_room
 with_room None not = refl
 with_room (Some ends.End) not = refl
 with_room (Some ends.Turns) not = refl
-with_room (Some ends.Quiet) not = refl
+with_room (Some ends.Idle) not = refl
 with_room (Some ends.Failed) not = refl
 with_room (Some ends.Stopped) not = refl
 with_room (Some ends.WriteFault) not = refl
@@ -98,7 +99,7 @@ none_full (w ∷ ws) not = ap (λ b. b || any_worker is_without_room ws) (with_r
 -- ---- a run
 
 -- workers were set into their places, and served on a desk that was given this
-pub record RunsInTurns {L C X : Type 0} (given : Given) (moments : C → Option (ℕ → ℕ)) (tells : LinkTells L) (s : Setup) (limits : Limits) (ws later : List (Worker L C (Pass Step X))) (openers : List Session)
+pub record RunsInTurns {L C X : Type 0} (given : Given) (moments : C → Option (ℕ → ℕ)) (tells : LinkTells L) (s : Setup) (limits : ServingLimits) (ws later : List (Worker L C (Pass Step X))) (openers : List Session)
     (passes : List (Pass Step X)) (after : Ending) : Type 0 where
   pub openers_are : map opener_of ws ≡ openers
   pub session : All (λ session. session ≡ s.session) openers
@@ -111,7 +112,7 @@ pub record RunsInTurns {L C X : Type 0} (given : Given) (moments : C → Option 
   pub fault : (link : ℕ) (d : Worker L C (Pass Step X)) → link < length ws → (slice_index_or later link d).end ≡ Some ends.WriteFault → HasSeenFault (slice_index_or later link d).trace
   pub fits : FitsAfter later after
 
-module _ {L C X : Type 0} (moments : C → Option (ℕ → ℕ)) (tells : LinkTells L) (s : Setup) (limits : Limits) (ws later : List (Worker L C (Pass Step X))) (openers : List Session) (passes : List (Pass Step X)) (after : Ending) (contents : Option (List ℕ)) (faults : ℕ)
+module _ {L C X : Type 0} (moments : C → Option (ℕ → ℕ)) (tells : LinkTells L) (s : Setup) (limits : ServingLimits) (ws later : List (Worker L C (Pass Step X))) (openers : List Session) (passes : List (Pass Step X)) (after : Ending) (contents : Option (List ℕ)) (faults : ℕ)
     (r : RunsInTurns (given_to s contents faults) moments tells s limits ws later openers passes after) (free : s.limit ≡ None) (told : s.tells ≡ true) where
   abbrev W : Type 0
   W = Worker L C (Pass Step X)
@@ -228,7 +229,7 @@ module _ {N K L C : Type 0} (desk : TurnDesk N K) (ws : List (Worker L C (Pass S
   V = Worker L C (Pass Step (Shared N K))
 
   -- a worker with a fresh pass may make all its turns
-  pub may_serve : (passes : List (Pass Step (Shared N K))) (limits : Limits) → map trace_of ws ≡ passes → AreFreshFor desk passes → limits.turns ≤ 2 ^ 40
+  pub may_serve : (passes : List (Pass Step (Shared N K))) (limits : ServingLimits) → map trace_of ws ≡ passes → AreFreshFor desk passes → limits.turns ≤ 2 ^ 40
       → (i : ℕ) (d : V) → i < length ws → MayServe IsOf turns_left desk limits i (slice_index_or ws i d)
   may_serve passes limits are fresh few i d less =
       let w : V = slice_index_or ws i d in

@@ -17,7 +17,7 @@ abbrev pub is_spent : Option Ended → Bool
 is_spent None = false
 is_spent (Some ends.End) = false
 is_spent (Some ends.Turns) = false
-is_spent (Some ends.Quiet) = false
+is_spent (Some ends.Idle) = false
 is_spent (Some ends.Failed) = false
 is_spent (Some ends.Stopped) = false
 is_spent (Some ends.WriteFault) = false
@@ -29,7 +29,7 @@ abbrev pub is_without_room : Option Ended → Bool
 is_without_room None = false
 is_without_room (Some ends.End) = false
 is_without_room (Some ends.Turns) = false
-is_without_room (Some ends.Quiet) = false
+is_without_room (Some ends.Idle) = false
 is_without_room (Some ends.Failed) = false
 is_without_room (Some ends.Stopped) = false
 is_without_room (Some ends.WriteFault) = false
@@ -41,7 +41,7 @@ abbrev pub is_link_failed : Option Ended → Bool
 is_link_failed None = false
 is_link_failed (Some ends.End) = false
 is_link_failed (Some ends.Turns) = false
-is_link_failed (Some ends.Quiet) = false
+is_link_failed (Some ends.Idle) = false
 is_link_failed (Some ends.Failed) = true
 is_link_failed (Some ends.Stopped) = false
 is_link_failed (Some ends.WriteFault) = false

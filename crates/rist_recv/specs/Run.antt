@@ -9,10 +9,11 @@ use Rattle.rist_ends.specs.Counts.{AreCountsOf}
 use Rattle.rist_compare.specs.declared.tear.Tear.{Tear}
 use Rattle.rist_desk.specs.declared.ended.Ended.TheVariants as ends
 use Rattle.rist_desk.specs.declared.step.Step.{Step}
-use Rattle.rist_desk.specs.declared.worker.Limits.{Limits}
+use Rattle.rist_desk.specs.declared.worker.ServingLimits.{ServingLimits}
 use Rattle.rist_desk.specs.declared.worker.Worker.{Worker}
 use Rattle.rist_desk.specs.Desk.{DeskState, Given, StandsFor}
-use Rattle.rist_desk.specs.Serving.{LinkTells, ServesOn}
+use Rattle.outside_net.specs.Links.{LinkTells}
+use Rattle.rist_desk.specs.Serving.{ServesOn}
 use Rattle.rist_desk.specs.Steps.{history_of}
 use Rattle.rist_recv.specs.declared.ending.Ending.{Ending}
 use Rattle.rist_recv.specs.declared.ending.Ending.TheVariants as endings
@@ -77,7 +78,8 @@ pub record IsSure {L C : Type 0} (workers : List (Worker L C ToldTrace)) (faults
 
 -- Links and clocks were served, each by a worker, and the desk that they shared stands for its steps, where it keeps
 -- them. The sink told this before and tells that now, and so did its count of failed writes.
-pub record Receives {L C : Type 0} (moments : C → Option (ℕ → ℕ)) (tells : LinkTells L) (s : Setup) (limits : Limits)
+pub record Receives {L C : Type 0} (moments : C → Option (ℕ → ℕ)) (tells : LinkTells L) (s : Setup)
+    (limits : ServingLimits)
     (links_were links_are : List L) (clocks_were clocks_are : List C) (contents_were contents_are : Option (List ℕ))
     (faults_were faults_are : ℕ) (counts : Counts) (ending : Ending) : Type 0 where
   pub were : List (Worker L C ToldTrace)

@@ -5,14 +5,14 @@ use Rattle.std.specs.List.{All}
 use Rattle.psk_seal.specs.Sealer.{SealerState}
 use Rattle.reorder_buffer.specs.declared.phase.Phase.TheVariants.{Open}
 use Rattle.rist_wire.specs.declared.session.Session.{Session}
-use Rattle.rist_control.specs.Control.{ControlSettings}
+use Rattle.rist_reporter.specs.Control.{ControlSettings}
 use Rattle.rist_ends.specs.declared.settings.Settings.{Settings}
 use Rattle.rist_ends.specs.Settings.{control_settings}
 use Rattle.rist_ends.specs.Receiver.{IsReceiverAfter, settings_of}
 use Rattle.rist_desk.specs.declared.step.Step.{Step}
 use Rattle.rist_desk.specs.Desk.{Given}
 use Rattle.rist_recv.specs.declared.seats.Seat.{Seat}
-use Rattle.rist_recv.specs.declared.seats.Made.{Made}
+use Rattle.rist_recv.specs.declared.seats.Memory.{Memory}
 use Rattle.rist_recv.specs.declared.turn_seats.MadeInTurns.{MadeInTurns}
 
 -- the rules of its receiver; the session of its links, and what seals in it; how many steps its lists take at most,
@@ -52,7 +52,7 @@ pub record IsSeat {U : Type 0} (list : U → Option (List Step)) (limit : U → 
   pub limit_is : limit seat.trace ≡ keep
 
 -- what was made for a run is set to
-abbrev pub setup_of : {T L C : Type 0} → (T → Option ℕ) → Made T L C → Setup
+abbrev pub setup_of : {T L C : Type 0} → (T → Option ℕ) → Memory T L C → Setup
 setup_of limit made =
     record {
       settings = settings_of made.receiver;
@@ -65,7 +65,7 @@ setup_of limit made =
 -- all is made for so many links: a receiver that was told nothing, an empty trace, a seat for each link, and room for
 -- the workers
 pub record IsMade {T L C : Type 0} (list : T → Option (List Step)) (limit : T → Option ℕ) (count : ℕ)
-    (made : Made T L C) : Type 0 where
+    (made : Memory T L C) : Type 0 where
   pub running : made.receiver.buffer.phase ≡ Open
   pub told : IsReceiverAfter made.receiver []
   pub delay : 1 ≤ (settings_of made.receiver).limits.playout_delay

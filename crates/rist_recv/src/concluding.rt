@@ -8,7 +8,7 @@ ghost use Rattle.rist_recv.specs.Turns.{AreOwned, HasConcluded, FitsAfter, endin
 use crate::deciding::{Last, ending_of};
 use crate::ending::Ending;
 use outside_io::Sink;
-use rist_desk::{Name, Step, Worker};
+use rist_desk::{DeskOrigin, Step, Worker};
 use rist_ends::{Answer, Outs, Receiver};
 use turn_desk::{Parts, Shared, TurnDesk, tell_end};
 use turn_lock::Pass;
@@ -32,7 +32,7 @@ fn is_cut_off(answer: Answer) -> bool
 }
 
 /// Takes all passes back, in order, and tells the end. The history of the run is made of what the passes own.
-pub fn conclude_turns<N: Name, K: Sink + Drop>(
+pub fn conclude_turns<N: DeskOrigin, K: Sink + Drop>(
     desk: TurnDesk<N, K>,
     passes: Vec<Pass<Step, Shared<N, K>>>,
 ) -> Closed<K>

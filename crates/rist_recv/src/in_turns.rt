@@ -12,8 +12,8 @@ use crate::running::Run;
 use crate::turn_seats::MadeInTurns;
 use crate::workers::{seated_with, unseated_with};
 use outside_io::Sink;
-use outside_net::{Clock, Link};
-use rist_desk::{Limits, Name, Step, Worker, serve};
+use outside_net::{Clock, Link, TellingLink};
+use rist_desk::{DeskOrigin, ServingLimits, Step, Worker, serve};
 use rist_wire::Opener;
 use std::alloc::Global;
 use std::marker::Brand;
@@ -24,7 +24,7 @@ use turn_lock::Pass;
 
 /// The run of a desk with its passes, one for each link.
 fn served_in_turns<
-    N: Name + Send + Sync,
+    N: DeskOrigin + Send + Sync,
     K: Sink + Drop + Send,
     L: Link + Drop + Send,
     C: Clock + Drop + Send,
@@ -37,7 +37,7 @@ fn served_in_turns<
     workers: Vec<Worker<L, C, Pass<Step, Shared<N, K>>>>,
     links: &mut Vec<L>,
     clocks: &mut Vec<C>,
-    limits: &Limits,
+    limits: &ServingLimits,
 ) -> Run<K>
     requires some { 0 < length links.old.items }
     requires few { length links.old.items ≤ 16 }
@@ -53,7 +53,7 @@ fn served_in_turns<
         → N.given ≡ given_to s contents faults → s.limit ≡ None → s.tells ≡ true
         → 1 ≤ s.settings.limits.playout_delay → All (λ session. session ≡ s.session) openers.items
         → Receives C.moments
-        (record { reads = L.reads; taken = L.taken; knows = L.knows; ends = L.ends; faults = L.faults })
+        ⟦<L as TellingLink>⟧.tells
         s limits.now links.old.items links.new.items clocks.old.items clocks.new.items
         contents (K.contents result.sink) faults (K.faults result.sink) result.counts result.ending }
     ensures links { length links.new.items ≡ length links.old.items }
@@ -77,7 +77,7 @@ fn served_in_turns<
 
 /// The run of a desk under a name.
 fn named_in_turns<
-    N: Name + Send + Sync,
+    N: DeskOrigin + Send + Sync,
     K: Sink + Drop + Send,
     L: Link + Drop + Send,
     C: Clock + Drop + Send,
@@ -89,7 +89,7 @@ fn named_in_turns<
     links: &mut Vec<L>,
     clocks: &mut Vec<C>,
     sink: K,
-    limits: &Limits,
+    limits: &ServingLimits,
 ) -> Result<Run<K>, K>
     requires some { 0 < length links.old.items }
     requires few { length links.old.items ≤ 16 }
@@ -99,7 +99,7 @@ fn named_in_turns<
     requires given { N.given ≡ given_to (setup_in_turns made) (K.contents sink) (K.faults sink) }
     requires fresh { IsNew N.given (state_of made.receiver (Some []) None (K.contents sink) (K.faults sink)) }
     ensures work { IfOk result (λ run. Receives C.moments
-        (record { reads = L.reads; taken = L.taken; knows = L.knows; ends = L.ends; faults = L.faults })
+        ⟦<L as TellingLink>⟧.tells
         (setup_in_turns made) limits.now links.old.items links.new.items clocks.old.items clocks.new.items
         (K.contents sink) (K.contents run.sink) (K.faults sink) (K.faults run.sink) run.counts run.ending) }
     ensures memory { IfErr result (λ left. (left ≡ sink) × (links.new ≡ links.old) × (clocks.new ≡ clocks.old)) }
@@ -134,7 +134,7 @@ pub fn receive_in_turns<
     links: &mut Vec<L>,
     clocks: &mut Vec<C>,
     sink: K,
-    limits: &Limits,
+    limits: &ServingLimits,
 ) -> Result<Run<K>, K>
     requires some { 0 < length links.old.items }
     requires few { length links.old.items ≤ 16 }
@@ -143,7 +143,7 @@ pub fn receive_in_turns<
     requires made { IsMadeInTurns (length links.old.items) made }
     requires empty { IsEmpty (K.contents sink) }
     ensures work { IfOk result (λ run. Receives C.moments
-        (record { reads = L.reads; taken = L.taken; knows = L.knows; ends = L.ends; faults = L.faults })
+        ⟦<L as TellingLink>⟧.tells
         (setup_in_turns made) limits.now links.old.items links.new.items clocks.old.items clocks.new.items
         (K.contents sink) (K.contents run.sink) (K.faults sink) (K.faults run.sink) run.counts run.ending) }
     ensures memory { IfErr result (λ left. (left ≡ sink) × (links.new ≡ links.old) × (clocks.new ≡ clocks.old)) }

@@ -19,7 +19,7 @@ pub use ending::Ending;
 pub use in_turns::receive_in_turns;
 pub use receiving::{Received, conclude, receive};
 pub use running::{Run, receive_on};
-pub use seats::{Made, MadeTrace, Seat, make};
+pub use seats::{MadeTrace, Memory, Seat, make};
 pub use text::TearText;
 pub use turn_seats::{MadeInTurns, make_in_turns};
 pub use workers::{seated, seated_with, unseated, unseated_with};

@@ -15,9 +15,9 @@ ghost use Rattle.rist_recv.specs.Receiving.{IsUnused, given_by, own_lists, HasRe
 use crate::deciding::{ending_of, has_fault, last_of};
 use crate::ending::Ending;
 use outside_io::Sink;
-use outside_net::{Clock, Link};
+use outside_net::{Clock, Link, TellingLink};
 use rist_compare::compare;
-use rist_desk::{Desk, Limits, Name, StepTrace, Worker, serve};
+use rist_desk::{Desk, DeskOrigin, ServingLimits, StepTrace, Worker, serve};
 use rist_ends::{Outs, Receiver};
 use std::marker::Brand;
 use std::sync::{Mutex, Wait};
@@ -35,7 +35,7 @@ pub struct Received<T, K> {
 
 /// Ends a run whose workers have ended: the lists that were kept are compared, and then the end is told. The first
 /// ending that fits is answered.
-pub fn conclude<N: Name, T: StepTrace + Drop, K: Sink + Drop, L, C, U: StepTrace>(
+pub fn conclude<N: DeskOrigin, T: StepTrace + Drop, K: Sink + Drop, L, C, U: StepTrace>(
     desk: Desk<N, T, K>,
     workers: &[Worker<L, C, U>],
 ) -> Received<T, K>
@@ -76,7 +76,7 @@ pub fn conclude<N: Name, T: StepTrace + Drop, K: Sink + Drop, L, C, U: StepTrace
 
 /// The run of a desk under a name.
 fn session<
-    N: Name + Send + Sync,
+    N: DeskOrigin + Send + Sync,
     T: StepTrace + Drop + Send,
     K: Sink + Drop + Send,
     L: Link + Drop + Send,
@@ -89,7 +89,7 @@ fn session<
     trace: T,
     workers: &mut [Worker<L, C, U>],
     sink: K,
-    limits: &Limits,
+    limits: &ServingLimits,
 ) -> Received<T, K>
     requires fresh { IsNew N.given
         (state_of receiver (T.list trace) (T.limit trace) (K.contents sink) (K.faults sink)) }
@@ -97,10 +97,10 @@ fn session<
     requires few { length workers.old ≤ 16 }
     requires turns { (0 < limits.now.turns) × (limits.now.turns ≤ 2 ^ 40) }
     ensures served { (i : ℕ) (d : _) → i < length workers.old → Serves C.moments
-        (record { reads = L.reads; taken = L.taken; knows = L.knows; ends = L.ends; faults = L.faults })
+        ⟦<L as TellingLink>⟧.tells
         U.list limits.now i (slice_index_or workers.old i d) (slice_index_or workers.new i d) }
     ensures on { (i : ℕ) (d : _) → i < length workers.old → ServesOn N.given C.moments
-        (record { reads = L.reads; taken = L.taken; knows = L.knows; ends = L.ends; faults = L.faults })
+        ⟦<L as TellingLink>⟧.tells
         (record { list = U.list; limit = U.limit }) limits.now i
         (slice_index_or workers.old i d) (slice_index_or workers.new i d) }
     ensures stands { (steps : List Step) → T.list result.trace ≡ Some steps → StandsFor N.given
@@ -145,7 +145,7 @@ pub fn receive<
     trace: T,
     workers: &mut [Worker<L, C, U>],
     sink: K,
-    limits: &Limits,
+    limits: &ServingLimits,
 ) -> Received<T, K>
     requires unused { IsUnused
         (state_of receiver (T.list trace) (T.limit trace) (K.contents sink) (K.faults sink)) }
@@ -154,13 +154,13 @@ pub fn receive<
     requires turns { (0 < limits.now.turns) × (limits.now.turns ≤ 2 ^ 40) }
     // Each worker's own list and link hold its turns' steps and what these made.
     ensures served { (i : ℕ) (d : _) → i < length workers.old → Serves C.moments
-        (record { reads = L.reads; taken = L.taken; knows = L.knows; ends = L.ends; faults = L.faults })
+        ⟦<L as TellingLink>⟧.tells
         U.list limits.now i (slice_index_or workers.old i d) (slice_index_or workers.new i d) }
     // What it wrote is what its steps made by the rules, where the desk's trace tells its steps; and why a trace was
     // full is told.
     ensures on { (i : ℕ) (d : _) → i < length workers.old → ServesOn
         (given_by (state_of receiver (T.list trace) (T.limit trace) (K.contents sink) (K.faults sink))) C.moments
-        (record { reads = L.reads; taken = L.taken; knows = L.knows; ends = L.ends; faults = L.faults })
+        ⟦<L as TellingLink>⟧.tells
         (record { list = U.list; limit = U.limit }) limits.now i
         (slice_index_or workers.old i d) (slice_index_or workers.new i d) }
     // However it ends, the kept list is a legal history of the receiver, and the sink holds what it releases.

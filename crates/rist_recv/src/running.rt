@@ -6,11 +6,11 @@ ghost use Rattle.rist_recv.specs.Setup.{IsMade, setup_of};
 
 use crate::ending::Ending;
 use crate::receiving::receive;
-use crate::seats::{Made, MadeTrace};
+use crate::seats::{MadeTrace, Memory};
 use crate::workers::{seated, unseated};
 use outside_io::Sink;
-use outside_net::{Clock, Link};
-use rist_desk::Limits;
+use outside_net::{Clock, Link, TellingLink};
+use rist_desk::ServingLimits;
 use rist_ends::Counts;
 use std::sync::Wait;
 use std::thread::Threads;
@@ -34,11 +34,11 @@ pub fn receive_on<
     R: Threads + Wait + Sync,
 >(
     rt: &R,
-    made: Made<T, L, C>,
+    made: Memory<T, L, C>,
     links: &mut Vec<L>,
     clocks: &mut Vec<C>,
     sink: K,
-    limits: &Limits,
+    limits: &ServingLimits,
 ) -> Run<K>
     requires some { 0 < length links.old.items }
     requires few { length links.old.items ≤ 16 }
@@ -47,13 +47,13 @@ pub fn receive_on<
     requires made { IsMade T.list T.limit (length links.old.items) made }
     requires empty { IsEmpty (K.contents sink) }
     ensures work { Receives C.moments
-        (record { reads = L.reads; taken = L.taken; knows = L.knows; ends = L.ends; faults = L.faults })
+        ⟦<L as TellingLink>⟧.tells
         (setup_of T.limit made) limits.now links.old.items links.new.items clocks.old.items clocks.new.items
         (K.contents sink) (K.contents result.sink) (K.faults sink) (K.faults result.sink) result.counts result.ending }
     ensures links { length links.new.items ≡ length links.old.items }
     ensures clocks { length clocks.new.items ≡ length clocks.old.items }
 {
-    let Made {
+    let Memory {
         receiver,
         trace,
         seats,

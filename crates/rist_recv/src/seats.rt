@@ -7,7 +7,7 @@ ghost use Rattle.rist_ends.specs.Settings.{IsInRange};
 ghost use Rattle.rist_recv.specs.Setup.{IsSeat, IsMade, setup_kept, setup_of};
 
 use outside_io::NoMemory;
-use outside_net::Kept;
+use outside_net::ListTrace;
 use psk_seal::Sealer;
 use rist_desk::{Step, StepTrace, Worker};
 use rist_ends::{Receiver, Settings};
@@ -25,13 +25,13 @@ pub trait MadeTrace: StepTrace {
         ensures limit { IfOk result (λ trace. Self.limit trace ≡ (if told then Some room else None)) };
 }
 
-impl MadeTrace for Kept<Step> {
+impl MadeTrace for ListTrace<Step> {
     ghost use Rattle.std.specs.Prelude.{true};
 
     ghost told = { true };
 
-    fn with_room(alloc: Global, room: usize) -> Result<Kept<Step>, NoMemory> {
-        Kept::with(alloc, room)
+    fn with_room(alloc: Global, room: usize) -> Result<ListTrace<Step>, NoMemory> {
+        ListTrace::with(alloc, room)
     }
 }
 
@@ -44,7 +44,7 @@ pub struct Seat<U> {
 
 /// What a run takes memory for: its receiver, the trace of its steps, a seat for each worker, and room for the workers.
 #[derive(Drop)]
-pub struct Made<T, L, C> {
+pub struct Memory<T, L, C> {
     pub receiver: Receiver,
     pub trace: T,
     pub seats: Vec<Seat<T>>,
@@ -96,7 +96,7 @@ pub fn make<T: MadeTrace + Drop, L: Drop, C: Drop>(
     sealer: Option<Sealer>,
     count: usize,
     keep: usize,
-) -> Result<Made<T, L, C>, NoMemory>
+) -> Result<Memory<T, L, C>, NoMemory>
     requires settings { IsInRange settings.now }
     requires session { IsSession session.now }
     requires paired { IsPaired settings.now.muted (record { session = session.now; sealer = sealer }) }
@@ -104,7 +104,7 @@ pub fn make<T: MadeTrace + Drop, L: Drop, C: Drop>(
         ≡ setup_kept settings.now session.now sealer (if T.told then Some keep else None)) }
     ensures made { IfOk result (λ made. IsMade T.list T.limit count made) }
 {
-    Ok(Made {
+    Ok(Memory {
         receiver: Receiver::with(alloc, settings, session, sealer)?,
         trace: T::with_room(alloc, keep)?,
         seats: seats(alloc, session, count, keep)?,

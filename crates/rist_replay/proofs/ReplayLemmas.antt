@@ -24,7 +24,7 @@ use Rattle.std.specs.Prelude.{nat_lt, if◌then◌else◌, length, Some, None}
 use Rattle.psk_seal.specs.declared.sealer.Spent.{Spent as NoPairs}
 use Rattle.rist_wire.specs.Writing.{ShutterState, pairs_left}
 use Rattle.request_rules.specs.Steps.{effective_time}
-use Rattle.rist_control.specs.Control.{ControlSettings, Datagram, datagrams_of, input_datagrams}
+use Rattle.rist_reporter.specs.Control.{ControlSettings, Datagram, datagrams_of, input_datagrams}
 use Rattle.rist_reporter.specs.declared.out.Outs.{Outs}
 use Rattle.rist_reporter.specs.OneMore.{is_short, AnswersAfter, step_answered}
 use Rattle.rist_ends.specs.declared.outcome.Outcome.{Outcome}

@@ -1,3 +1,6 @@
+mod Rows
+pub mod LengthLemmas
+pub mod GroupLemmas
 pub mod LinksLemmas
 pub mod TickLemmas
 pub mod MediaLemmas

@@ -6,12 +6,16 @@ use Rattle.std.proofs.lemmas.Bool.Decides.{eqb_tells}
 use Rattle.std.proofs.lemmas.List.{get_or-set_same, get_or-set_other, length-set}
 use Rattle.rtcp_compound.specs.Compound.{Content}
 use Rattle.rist_rtt.specs.Echo.{EchoOf, echoes_in}
-use Rattle.request_rules.specs.Steps.{Control, Step, effective_time, rtt_of, rtt_after, longer, longest_rtt, sample_at, first_response, first_request}
+use Rattle.rist_rtt.specs.Echo.{first_response}
+use Rattle.rist_rtt.specs.Echo.{first_request}
+use Rattle.request_rules.specs.Steps.{Control, Step, effective_time, rtt_of, rtt_after, longer, longest_rtt, sample_at}
 use Rattle.request_rules.specs.Requests.{has_passed}
-use Rattle.request_rules.specs.Times.{has_passed_since}
+use Rattle.link_channels.specs.Intervals.{has_passed_since}
 use Rattle.request_rules.proofs.KeptLemmas.{passed_since}
 use Rattle.nack_timer.specs.Steps.{tick_step}
-use Rattle.rist_control.specs.When.{report_interval, keepalive_interval, is_tick, times_each}
+use Rattle.link_channels.specs.Intervals.{report_interval}
+use Rattle.link_channels.specs.Intervals.{keepalive_interval}
+use Rattle.rist_reporter.specs.When.{is_tick, times_each}
 use Rattle.rist_reporter.specs.Links.{LinksState, newest, entry_at, AreLinksAfter, longest_of}
 use Rattle.rist_reporter.specs.OneMore.{control_step}
 use Rattle.rist_reporter.specs.Inside.Noted.{noted, with_sample, sampled}

@@ -20,10 +20,11 @@ use Rattle.nack_timer.specs.State.{TimerState}
 use Rattle.nack_timer.specs.Steps.{media_step}
 use Rattle.nack_timer.specs.TimerAfter.{IsTimerAfter, highest_number}
 use Rattle.nack_timer.proofs.OtherLemmas.{media_stands}
-use Rattle.rist_control.specs.Nacks.{width_of}
+use Rattle.rist_reporter.specs.Nacks.{width_of}
 use Rattle.rtcp_compound.specs.Compound.{Content}
 use Rattle.rist_rtt.specs.Echo.{echoes_in}
-use Rattle.request_rules.specs.Steps.{first_response, control_input}
+use Rattle.rist_rtt.specs.Echo.{first_response}
+use Rattle.request_rules.specs.Steps.{control_input}
 use Rattle.nack_timer.proofs.OtherLemmas.{silent_stands}
 use Rattle.rist_reporter.specs.Links.{LinksState, AreLinksAfter}
 use Rattle.rist_reporter.specs.Inside.Due.{IsNoLowerNumber}

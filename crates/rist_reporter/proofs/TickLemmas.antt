@@ -13,13 +13,15 @@ use Rattle.psk_seal.specs.declared.sealer.Spent.{Spent}
 use Rattle.request_rules.specs.declared.word.AskWord.{AskWord}
 use Rattle.request_rules.specs.Steps.{Step, Keepalive, buffer_history, effective_time, longest_rtt}
 use Rattle.request_rules.specs.Requests.{asked_words, has_passed}
-use Rattle.request_rules.specs.Times.{has_passed_since}
+use Rattle.link_channels.specs.Intervals.{has_passed_since}
 use Rattle.request_rules.proofs.KeptLemmas.{passed_since}
 use Rattle.nack_timer.specs.Steps.{tick_step}
 use Rattle.nack_timer.specs.OneMore as timer
 use Rattle.nack_timer.proofs.OtherLemmas.{silent_stands}
-use Rattle.rist_control.specs.When.{report_interval, keepalive_interval, times_each, is_report_due, is_keepalive_due}
-use Rattle.rist_control.specs.Control.{ControlSettings, Datagram, Compound, Alive, is_any, flow_of, tick_packets, tick_compound, tick_keepalive, tick_datagrams, datagrams_of, words_made}
+use Rattle.link_channels.specs.Intervals.{report_interval}
+use Rattle.link_channels.specs.Intervals.{keepalive_interval}
+use Rattle.rist_reporter.specs.When.{times_each, is_report_due, is_keepalive_due}
+use Rattle.rist_reporter.specs.Control.{ControlSettings, Datagram, Compound, Alive, is_any, flow_of, tick_packets, tick_compound, tick_keepalive, tick_datagrams, datagrams_of, words_made}
 use Rattle.rist_reporter.specs.declared.out.Outs.{Outs}
 use Rattle.rist_reporter.specs.declared.ticking.Due.{Due}
 use Rattle.rist_reporter.specs.Links.{entry_at, longest_of}

@@ -1,3 +1,4 @@
+pub mod Groups
 pub mod Noted
 pub mod Due
 pub mod Sound

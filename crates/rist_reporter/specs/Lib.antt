@@ -1,3 +1,6 @@
+pub mod When
+pub mod Nacks
+pub mod Control
 pub mod Made
 pub mod Links
 pub mod Reporter

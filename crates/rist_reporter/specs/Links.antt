@@ -1,7 +1,9 @@
 -- What a receiver keeps of its links, against the history that it stands for.
 use Rattle.std.specs.Prelude.{◌≡◌, ℕ, zero, suc, ◌<◌, List, length, slice_get, slice_index_or, Option, None}
 use Rattle.request_rules.specs.Steps.{Step, rtt_of, longer}
-use Rattle.rist_control.specs.When.{report_interval, keepalive_interval, times_each}
+use Rattle.link_channels.specs.Intervals.{report_interval}
+use Rattle.link_channels.specs.Intervals.{keepalive_interval}
+use Rattle.rist_reporter.specs.When.{times_each}
 
 -- of each of sixteen links the smoothed round-trip time in microseconds, and when it reported last and said last that
 -- it is there, in ticks

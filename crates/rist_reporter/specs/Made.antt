@@ -1,13 +1,13 @@
 -- What was made, and what it says where it is opened in its session.
 use Rattle.std.specs.Prelude.{◌≡◌, ℕ, List, Ok}
-use Rattle.outside_io.specs.declared.channel.Channel.{Channel}
+use Rattle.link_channels.specs.declared.channel.Channel.{Channel}
 use Rattle.keepalive_msg.specs.Reading.{value_of}
 use Rattle.keepalive_msg.specs.Writing.{message_of}
 use Rattle.rist_wire.specs.declared.session.Session.{Session}
 use Rattle.rist_wire.specs.declared.item.Item.{Item}
 use Rattle.rist_wire.specs.declared.item.Item.TheVariants as items
 use Rattle.rist_wire.specs.Item.{item_of}
-use Rattle.rist_control.specs.Control.{Datagram, Compound, Alive}
+use Rattle.rist_reporter.specs.Control.{Datagram, Compound, Alive}
 
 -- a datagram that was made, and the channel on which it goes
 pub record OutOf : Type 0 where

@@ -18,7 +18,7 @@ use Rattle.request_rules.specs.Steps.{Step, Keepalive, buffer_history, effective
 use Rattle.nack_timer.specs.Steps.{tick_step, media_step}
 use Rattle.nack_timer.specs.TimerAfter.{highest_number}
 use Rattle.nack_timer.specs.OneMore.{IsOfEpoch, OpensNext}
-use Rattle.rist_control.specs.Control.{ControlSettings, Datagram, datagrams_of, words_made}
+use Rattle.rist_reporter.specs.Control.{ControlSettings, Datagram, datagrams_of, words_made}
 use Rattle.rist_reporter.specs.declared.out.Outs.{Outs}
 use Rattle.rist_reporter.specs.Made.{OutOf, IsOpened}
 use Rattle.rist_reporter.specs.Reporter.{ReporterState, IsReporterAfter, settings_with}

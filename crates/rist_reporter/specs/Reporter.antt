@@ -1,15 +1,15 @@
 -- What a contract sees of a reporter.
 use Rattle.std.specs.Prelude.{◌≡◌, ℕ, List, Bool, true, false, is_some}
 use Rattle.seq_unwrap.specs.declared.width.Width.{Width}
-use Rattle.outside_io.specs.declared.profile.Profile.{Profile}
-use Rattle.outside_io.specs.declared.profile.Profile.TheVariants.{Simple, Main}
+use Rattle.link_channels.specs.declared.profile.Profile.{Profile}
+use Rattle.link_channels.specs.declared.profile.Profile.TheVariants.{Simple, Main}
 use Rattle.receiver_rules.specs.declared.limits.Limits.{Limits}
 use Rattle.request_rules.specs.Steps.{Step}
 use Rattle.nack_timer.specs.State.{TimerState}
 use Rattle.nack_timer.specs.TimerAfter.{IsTimerAfter}
 use Rattle.rist_wire.specs.Writing.{ShutterState}
-use Rattle.rist_control.specs.Nacks.{width_of}
-use Rattle.rist_control.specs.Control.{ControlSettings}
+use Rattle.rist_reporter.specs.Nacks.{width_of}
+use Rattle.rist_reporter.specs.Control.{ControlSettings}
 use Rattle.rist_reporter.specs.Links.{LinksState, AreLinksAfter}
 
 -- its own SSRC, whether it makes nothing, what is missing and was asked for, what it keeps of its links, how many bits

@@ -2,23 +2,18 @@
 ghost use Rattle.std.specs.Prelude.{◌≡◌, ◌<◌, ◌^◌, [], None};
 ghost use Rattle.rist_rtt.specs.Echo.{echo_seen};
 ghost use Rattle.request_rules.specs.Steps.{longer};
-ghost use Rattle.request_rules.specs.Times.{has_passed_since as passed_since};
-ghost use Rattle.rist_control.specs.When.{report_interval, keepalive_interval};
+ghost use Rattle.link_channels.specs.Intervals.{has_passed_since as passed_since};
+ghost use Rattle.link_channels.specs.Intervals.{report_interval};
+ghost use Rattle.link_channels.specs.Intervals.{keepalive_interval};
 ghost use Rattle.rist_reporter.specs.Links.{entry_at, longest_of};
 ghost use Rattle.rist_reporter.specs.Inside.Noted.{noted, sampled};
 
-use request_rules::has_passed_since;
+use link_channels::{KEEPALIVE_INTERVAL, REPORT_INTERVAL, has_passed_since};
 use rist_rtt::{Echo, Rtt};
 use std::marker::Model;
 
 /// How many links there are at most.
 pub const LINKS: usize = 16;
-
-/// From one report of a link to its next: 100 ms, in ticks of 1/90,000 s.
-const REPORT_INTERVAL: u64 = 9_000;
-
-/// From one keepalive of a link to its next: a second, in ticks.
-const KEEPALIVE_INTERVAL: u64 = 90_000;
 
 /// The entries of sixteen links: the smoothed round-trip time of each, and the times of its last report and keepalive.
 #[derive(Drop)]

@@ -1,12 +1,12 @@
 //! Datagrams that were made, in memory of a fixed size.
 ghost use Rattle.std.specs.Prelude.{◌≡◌, ◌<◌, ◌≤◌, [], None, Ok, false, length, is_some};
-ghost use Rattle.outside_io.specs.declared.channel.Channel.TheVariants.{Control};
-ghost use Rattle.outside_io.specs.declared.profile.Profile.TheVariants.{Main};
+ghost use Rattle.link_channels.specs.declared.channel.Channel.TheVariants.{Control};
+ghost use Rattle.link_channels.specs.declared.profile.Profile.TheVariants.{Main};
 ghost use Rattle.rtcp_compound.specs.Compound.{Content};
 ghost use Rattle.rist_wire.specs.Writing.{is_spent, after_pair};
-ghost use Rattle.rist_control.specs.Control.{Alive, Compound};
+ghost use Rattle.rist_reporter.specs.Control.{Alive, Compound};
 
-use outside_io::Channel;
+use link_channels::Channel;
 use request_rules::Asked;
 use rist_wire::Shutter;
 use rtcp_compound::CompoundOut;

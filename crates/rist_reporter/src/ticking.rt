@@ -1,8 +1,8 @@
 //! What a tick and an RTT request make, where pairs are left for it.
 ghost use Rattle.std.specs.Prelude.{◌≡◌, [], length, is_some, is_err, true, false, IfOk, option_map};
-ghost use Rattle.outside_io.specs.declared.profile.Profile.TheVariants.{Main};
+ghost use Rattle.link_channels.specs.declared.profile.Profile.TheVariants.{Main};
 ghost use Rattle.rist_wire.specs.Writing.{is_spent, after_pair, pairs_left};
-ghost use Rattle.rist_control.specs.Control.{Compound, tick_packets, answer_datagrams};
+ghost use Rattle.rist_reporter.specs.Control.{Compound, tick_packets, answer_datagrams};
 ghost use Rattle.rist_rtt.specs.Echo.{echo_seen};
 ghost use Rattle.request_rules.specs.Near.{AreNear};
 ghost use Rattle.rist_reporter.specs.Made.{IsOpened};
@@ -10,9 +10,9 @@ ghost use Rattle.rist_reporter.specs.OneMore.{IsMade, TakesPairs, made_count, an
 ghost use Rattle.rist_reporter.specs.Inside.Due.{datagrams_due, how_many};
 
 use crate::out::{Out, Outs};
+use crate::{Report, answer_compound, tick_compound};
 use psk_seal::Spent;
 use request_rules::{Asked, NackKind};
-use rist_control::{Report, answer_compound, tick_compound};
 use rist_rtt::Echo;
 use rist_wire::Shutter;
 use seq_unwrap::Width;

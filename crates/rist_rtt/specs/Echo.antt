@@ -2,7 +2,7 @@
 -- request and 3 for a response, with a stamp, a processing delay and further words (this profile).
 use Rattle.std.specs.Prelude.{ℕ, ◌*◌, ◌/◌, ◌++◌, List, [], length, take, drop, min, Option, Some, None, Bool, not, ◌&&◌}
 use Rattle.std.specs.Prelude.{◌||◌, if◌then◌else◌, ◌==◌, nat_lt}
-use Rattle.std.specs.List.{filter_map}
+use Rattle.std.specs.List.{filter_map, find}
 use Rattle.std.specs.Int.{w32, w64, from_be_bytes, to_be_bytes}
 use Rattle.rtcp_compound.specs.Compound.{Content, sender_report, receiver_report, description, goodbye, application}
 use Rattle.rtcp_compound.specs.Compound.{feedback, other}
@@ -55,6 +55,14 @@ echo_in (other kind count body) = None
 -- the echoes of a compound, in its order
 abbrev pub echoes_in : List Content → List EchoOf
 echoes_in packets = filter_map echo_in packets
+
+-- the first response of a compound, which is the one that gives a sample
+abbrev pub first_response : List EchoOf → Option EchoOf
+first_response echoes = find (λ e. e.answer) echoes
+
+-- its first request, which is the one that is answered
+abbrev pub first_request : List EchoOf → Option EchoOf
+first_request echoes = find (λ e. not e.answer) echoes
 
 -- the body of an echo
 abbrev pub echo_words : ℕ → ℕ → List ℕ → List ℕ

@@ -3,12 +3,14 @@
 #![tactic(auto)]
 
 mod echo;
+mod first;
 mod laws;
 mod reading;
 mod rtt;
 mod writing;
 
 pub use echo::{Echo, Echoes};
+pub use first::{first_request, first_response};
 pub use laws::{written_answers_are_read, written_requests_are_read};
 pub use reading::echoes;
 pub use rtt::{Rtt, Sample};

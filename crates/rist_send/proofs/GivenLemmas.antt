@@ -6,20 +6,21 @@ use Rattle.std.proofs.lemmas.Grind.{flat_map-append}
 use mathlib.Core.Logic.{inl, inr}
 use Rattle.outside_io.specs.Told.{Takes, IsEmpty}
 use Rattle.rtcp_compound.specs.Compound.{Content}
-use Rattle.stream_pieces.specs.Pieces.{pieces_of}
-use Rattle.stream_pieces.specs.Reading.{ReadsPiece, TakesPiece}
-use Rattle.stream_pieces.specs.declared.fault.PieceFault.{PieceFault}
-use Rattle.stream_pieces.specs.declared.fault.PieceFault.TheVariants as pieces
-use Rattle.stream_pieces.proofs.PieceLemmas.{no_piece, next_piece}
+use Rattle.block_source.specs.Pieces.{pieces_of}
+use Rattle.block_source.specs.Reading.{ReadsPiece, TakesPiece}
+use Rattle.block_source.specs.declared.fault.PieceFault.{PieceFault}
+use Rattle.block_source.specs.declared.fault.PieceFault.TheVariants as pieces
+use Rattle.block_source.proofs.PieceLemmas.{no_piece, next_piece}
 use Rattle.rist_sender.specs.Calls.{Work, IfElse}
-use Rattle.rist_sender.specs.declared.send_bad.SendBad.{SendBad}
-use Rattle.rist_sender.specs.declared.send_bad.SendBad.TheVariants as refusals
+use Rattle.sender_rules.specs.declared.send_bad.SendBad.{SendBad}
+use Rattle.sender_rules.specs.declared.send_bad.SendBad.TheVariants as refusals
 use Rattle.rist_send.specs.declared.fault.SendFault.{SendFault}
 use Rattle.rist_send.specs.declared.fault.SendFault.TheVariants as faults
 use Rattle.rist_send.specs.declared.progress.Stage.{Stage}
 use Rattle.rist_send.specs.declared.progress.Stage.TheVariants.{Reading, Ended}
 use Rattle.rist_send.specs.Run.{Setup, Run, is_due, is_over_at, has_ended, outcome}
-use Rattle.rist_send.specs.Turns.{Stays, GoesOn, SendsRead, BringsPiece, BringsNext, AnswersIf, ReadsOn, ReadsInTurn, TicksOnce, ReadsAndTicks, Turn, sent_with, stage_after, with_piece, is_read, with_answer, compound_in, with_moment}
+use Rattle.rist_sender.specs.Incoming.{compound_in}
+use Rattle.rist_send.specs.Turns.{Stays, GoesOn, SendsRead, BringsPiece, BringsNext, AnswersIf, ReadsOn, ReadsInTurn, TicksOnce, ReadsAndTicks, Turn, sent_with, stage_after, with_piece, is_read, with_answer, with_moment}
 use Rattle.rist_send.specs.Given.{joined, Drops, GivesFirst, GivesAll, Gives}
 use Rattle.rist_send.specs.Sending.{TurnsOn, StopsWith, Stops, IsSpent, SendsSource, result_at_last}
 use Rattle.rist_send.specs.Served.{Outside, new_run}

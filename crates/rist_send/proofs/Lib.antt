@@ -1,4 +1,3 @@
-pub mod ServedLemmas
 pub mod MoveLemmas
 pub mod PieceLemmas
 pub mod GivenLemmas

@@ -7,12 +7,12 @@ use mathlib.Core.Logic.{inl, inr}
 use Rattle.rtcp_compound.specs.Compound.{Content}
 use Rattle.psk_seal.specs.declared.sealer.Pair.{Pair}
 use Rattle.psk_seal.specs.Sealer.{SealerState}
-use Rattle.stream_pieces.specs.declared.fault.PieceFault.{PieceFault}
-use Rattle.stream_pieces.specs.declared.fault.PieceFault.TheVariants as pieces
+use Rattle.block_source.specs.declared.fault.PieceFault.{PieceFault}
+use Rattle.block_source.specs.declared.fault.PieceFault.TheVariants as pieces
 use Rattle.rist_wire.specs.Writing.{is_spent, after_pair}
 use Rattle.rist_sender.specs.declared.answer.Answer.{Answer}
-use Rattle.rist_sender.specs.declared.send_bad.SendBad.{SendBad}
-use Rattle.rist_sender.specs.declared.send_bad.SendBad.TheVariants as refusals
+use Rattle.sender_rules.specs.declared.send_bad.SendBad.{SendBad}
+use Rattle.sender_rules.specs.declared.send_bad.SendBad.TheVariants as refusals
 use Rattle.rist_sender.specs.Messages.{Message, Original}
 use Rattle.rist_sender.specs.History.{Wrote, packet_count, effective_time, is_down}
 use Rattle.rist_sender.specs.Calls.{Work, Due, IfElse, WritesInTurn, Spreads, SendsPacket, IsAnswer, TicksInTurn, after_due, after_write, without_pair, called_at, written_as, with_event, after_copy, after_sent, is_settled, is_ended, packet_for, is_sharing, links_tried}
@@ -21,7 +21,8 @@ use Rattle.rist_send.specs.declared.fault.SendFault.TheVariants as faults
 use Rattle.rist_send.specs.declared.progress.Stage.{Stage}
 use Rattle.rist_send.specs.declared.progress.Stage.TheVariants.{Reading, Ended}
 use Rattle.rist_send.specs.Run.{Setup, Run, is_due, has_ended, outcome}
-use Rattle.rist_send.specs.Turns.{Stays, GoesOn, SendsRead, BringsPiece, BringsNext, AnswersIf, ReadsOn, ReadsInTurn, TicksOnce, ReadsAndTicks, Turn, is_read, with_answer, compound_in, with_moment}
+use Rattle.rist_sender.specs.Incoming.{compound_in}
+use Rattle.rist_send.specs.Turns.{Stays, GoesOn, SendsRead, BringsPiece, BringsNext, AnswersIf, ReadsOn, ReadsInTurn, TicksOnce, ReadsAndTicks, Turn, is_read, with_answer, with_moment}
 use Rattle.rist_send.specs.Sending.{TurnsOn, Stops, IsSpent, SendsSource}
 
 -- ---- calls that want no pair

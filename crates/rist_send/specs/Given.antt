@@ -1,7 +1,7 @@
 -- What a run gave its sender of the octets that its source had: the first of their pieces, in order, each once.
 use Rattle.std.specs.Prelude.{◌≡◌, ◌⊎◌, ◌+◌, ◌^◌, ◌<◌, ◌≤◌, ℕ, List, [], ◌∷◌, ◌++◌, length, flat_map, Option, Some}
 use Rattle.std.specs.Prelude.{Result, Ok, Err}
-use Rattle.stream_pieces.specs.Pieces.{pieces_of}
+use Rattle.block_source.specs.Pieces.{pieces_of}
 use Rattle.rist_send.specs.declared.fault.SendFault.{SendFault}
 use Rattle.rist_send.specs.declared.fault.SendFault.TheVariants.{ReadFault, LinksDown, Spent, TooLong, TurnsSpent}
 

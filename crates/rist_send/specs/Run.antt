@@ -2,13 +2,13 @@
 use Rattle.std.specs.Prelude.{ℕ, ◌+◌, ◌*◌, nat_le, List, replicate, Bool, true, false, Option, None, Some, Result, Ok}
 use Rattle.std.specs.Prelude.{Err}
 use Rattle.outside_net.specs.Links.{Answer}
-use Rattle.stream_pieces.specs.declared.fault.PieceFault.{PieceFault}
-use Rattle.stream_pieces.specs.declared.fault.PieceFault.TheVariants as pieces
+use Rattle.block_source.specs.declared.fault.PieceFault.{PieceFault}
+use Rattle.block_source.specs.declared.fault.PieceFault.TheVariants as pieces
 use Rattle.rist_wire.specs.declared.session.Session.{Session}
 use Rattle.rist_sender.specs.Calls.{Work, Rules}
 use Rattle.rist_sender.specs.Sender.{SenderState, rules_of}
-use Rattle.rist_sender.specs.declared.send_bad.SendBad.{SendBad}
-use Rattle.rist_sender.specs.declared.send_bad.SendBad.TheVariants as refusals
+use Rattle.sender_rules.specs.declared.send_bad.SendBad.{SendBad}
+use Rattle.sender_rules.specs.declared.send_bad.SendBad.TheVariants as refusals
 use Rattle.rist_send.specs.declared.fault.SendFault.{SendFault}
 use Rattle.rist_send.specs.declared.fault.SendFault.TheVariants as faults
 use Rattle.rist_send.specs.declared.settings.SendSettings.{SendSettings}

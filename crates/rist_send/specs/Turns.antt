@@ -7,17 +7,14 @@ use Rattle.std.specs.Option.{option_map}
 use Rattle.outside_net.specs.Streams.{later, IsFirst}
 use Rattle.outside_net.specs.Links.{Answer, Gave, Quiet, End, Failed}
 use Rattle.rtcp_compound.specs.Compound.{Content}
-use Rattle.rist_wire.specs.declared.session.Session.{Session}
-use Rattle.rist_wire.specs.declared.bad.WireBad.{WireBad}
-use Rattle.rist_wire.specs.declared.item.Item.{Item}
 use Rattle.rist_wire.specs.declared.item.Item.TheVariants as items
-use Rattle.rist_wire.specs.Item.{item_of}
-use Rattle.rist_sender.specs.declared.send_bad.SendBad.{SendBad}
-use Rattle.rist_sender.specs.declared.send_bad.SendBad.TheVariants.{Spent, LinksDown}
+use Rattle.sender_rules.specs.declared.send_bad.SendBad.{SendBad}
+use Rattle.sender_rules.specs.declared.send_bad.SendBad.TheVariants.{Spent, LinksDown}
 use Rattle.rist_sender.specs.History.{is_down}
 use Rattle.rist_sender.specs.Calls.{IfElse, Sends, FeedsBack, Ticks}
-use Rattle.stream_pieces.specs.declared.fault.PieceFault.{PieceFault}
-use Rattle.stream_pieces.specs.Reading.{ReadsPiece}
+use Rattle.block_source.specs.declared.fault.PieceFault.{PieceFault}
+use Rattle.block_source.specs.Reading.{ReadsPiece}
+use Rattle.rist_sender.specs.Incoming.{compound_in}
 use Rattle.rist_send.specs.declared.fault.SendFault.{SendFault}
 use Rattle.rist_send.specs.declared.progress.Stage.{Stage}
 use Rattle.rist_send.specs.declared.progress.Stage.TheVariants.{Reading, Ended}
@@ -110,20 +107,6 @@ with_answer link answer run = record run {
       };
   answers = set run.answers link (option_map later (slice_index_or run.answers link None));
 }
-
--- the compound that an item is, if it is one
-abbrev pub compound_of : Result Item WireBad → Option (List Content)
-compound_of (Ok (items.Media media)) = None
-compound_of (Ok (items.Control compound)) = Some compound
-compound_of (Ok (items.Keepalive message)) = None
-compound_of (Err bad) = None
-
--- the compound that came in the session, if one did
-abbrev pub compound_in : Session → Answer → Option (List Content)
-compound_in session (Gave datagram) = compound_of (item_of session datagram.channel datagram.octets)
-compound_in session Quiet = None
-compound_in session End = None
-compound_in session Failed = None
 
 -- a compound is answered
 pub record AnswersTo (setup : Setup) (link : ℕ) (compound : List Content) (result : Result Unit SendFault)

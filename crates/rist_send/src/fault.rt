@@ -1,13 +1,13 @@
 //! Why a source is not sent to its end.
 ghost use Rattle.std.specs.Prelude.{◌≡◌};
 ghost use Rattle.outside_io.specs.Causes.{NoFault};
-ghost use Rattle.stream_pieces.specs.Reading.{piece_fault};
+ghost use Rattle.block_source.specs.Reading.{piece_fault};
 ghost use Rattle.rist_send.specs.Run.{fault_of, refusal as refusal_of};
 ghost use Rattle.rist_send.specs.Sending.{read_fault};
 
-use rist_sender::SendBad;
+use block_source::PieceFault;
+use sender_rules::SendBad;
 use std::fmt::{self, Display, Formatter, Write};
-use stream_pieces::PieceFault;
 
 /// Why a source is not sent to its end.
 #[derive(Clone, Copy, Debug, PartialEq, Eq)]

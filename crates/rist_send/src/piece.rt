@@ -7,7 +7,6 @@ ghost use Rattle.rist_sender.specs.Sender.{StaysSet};
 ghost use Rattle.rist_send.specs.Run.{Run, setup_of};
 ghost use Rattle.rist_send.specs.Turns.{BringsPiece, BringsNext, stage_after};
 ghost use Rattle.rist_send.specs.Sending.{read_fault};
-ghost use Rattle.rist_send.specs.Served.{line_of};
 ghost use Rattle.rist_send.specs.Inside.Moves.{IsAt, Moves, IsPlace, with_source};
 ghost use Rattle.rist_send.specs.declared.settings.SendSettings.{SendSettings as Settings};
 ghost use Rattle.rist_send.specs.declared.progress.Stage.TheVariants as Stage;
@@ -15,10 +14,10 @@ ghost use Rattle.rist_send.specs.declared.progress.Stage.TheVariants as Stage;
 use crate::fault::{refusal, unread};
 use crate::progress::{Progress, Stage};
 use crate::{SendFault, SendSettings};
+use block_source::{PIECE_LEN, read_piece};
 use outside_io::Source;
-use outside_net::Link;
+use outside_net::{Link, TellingLink};
 use rist_sender::Sender;
-use stream_pieces::{PIECE_LEN, read_piece};
 
 // What the source is at after piece k, of so many octets.
 fn stage_after(moment: u64, k: u64, count: usize) -> Stage
@@ -47,7 +46,7 @@ fn bring_piece<S: Source, L: Link>(
     requires few { length links.old ≤ MAX_LINKS }
     ensures work { (settings : Settings) (from : Run)
         → IsAt sender.old progress.old (with_source from (S.remaining source.old) (map L.reads links.old)) from
-        → Moves (line_of L.taken L.knows L.faults L.reads L.ends)
+        → Moves ⟦<L as TellingLink>⟧.tells
         sender.old sender.new progress.new (with_source from (S.remaining source.new) (map L.reads links.new))
         links.old links.new from
         (BringsPiece (setup_of settings sender.old (length links.old)) k result from) }
@@ -87,7 +86,7 @@ fn bring_due<S: Source, L: Link>(
     requires few { length links.old ≤ MAX_LINKS }
     ensures work { (from : Run)
         → IsAt sender.old progress.old (with_source from (S.remaining source.old) (map L.reads links.old)) from
-        → Moves (line_of L.taken L.knows L.faults L.reads L.ends)
+        → Moves ⟦<L as TellingLink>⟧.tells
         sender.old sender.new progress.new (with_source from (S.remaining source.new) (map L.reads links.new))
         links.old links.new from
         (BringsNext (setup_of settings.now sender.old (length links.old)) (Stage.Reading k) result from) }
@@ -117,7 +116,7 @@ pub(crate) fn bring_next<S: Source, L: Link>(
     requires few { length links.old ≤ MAX_LINKS }
     ensures work { (from : Run)
         → IsAt sender.old progress.old (with_source from (S.remaining source.old) (map L.reads links.old)) from
-        → Moves (line_of L.taken L.knows L.faults L.reads L.ends)
+        → Moves ⟦<L as TellingLink>⟧.tells
         sender.old sender.new progress.new (with_source from (S.remaining source.new) (map L.reads links.new))
         links.old links.new from
         (BringsNext (setup_of settings.now sender.old (length links.old)) from.progress.stage result from) }

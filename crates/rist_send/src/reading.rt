@@ -7,29 +7,19 @@ ghost use Rattle.sender_rules.specs.Bonding.{link_count};
 ghost use Rattle.sender_rules.specs.declared.bounds.TheConstants.{MAX_LINKS};
 ghost use Rattle.rist_sender.specs.Sender.{IsSenderAfter, StaysSet};
 ghost use Rattle.rist_send.specs.Run.{Run};
-ghost use Rattle.rist_send.specs.Turns.{AnswersTo, AnswersIf, ReadsOn, ReadsLink, ReadsInTurn, compound_in, is_read};
+ghost use Rattle.rist_sender.specs.Incoming.{compound_in};
+ghost use Rattle.rist_send.specs.Turns.{AnswersTo, AnswersIf, ReadsOn, ReadsLink, ReadsInTurn, is_read};
 ghost use Rattle.rist_send.specs.Sending.{read_fault};
-ghost use Rattle.rist_send.specs.Served.{line_of};
-ghost use Rattle.rist_send.specs.Inside.Moves.{MovesBy, ReadsAt};
+ghost use Rattle.rist_send.specs.Inside.Moves.{MovesBy};
 
 use crate::SendFault;
 use crate::fault::refusal;
 use crate::progress::Progress;
-use outside_io::Channel;
-use outside_net::{Got, Link, MAX_DATAGRAM};
-use rist_sender::Sender;
+use link_channels::Channel;
+use outside_net::{Got, Link, MAX_DATAGRAM, TellingLink};
+use rist_sender::{Sender, read_at};
 use rist_wire::{Item, Opener};
 use rtcp_compound::Compound;
-
-// Reads a link, once.
-fn read_at<L: Link>(links: &mut [L], link: u8, block: &mut [u8; 2048]) -> Got
-    requires among { link < length links.old }
-    ensures within { IsWithin result }
-    ensures reads { ReadsAt (line_of L.taken L.knows L.faults L.reads L.ends)
-        link (answer_of result block.new) links.old links.new }
-{
-    links[usize::from(link)].read(block)
-}
 
 // Answers a compound that came on a link.
 fn feed<L: Link>(
@@ -42,7 +32,7 @@ fn feed<L: Link>(
     requires among { link < length links.old }
     requires links { length links.old ≡ link_count sender.old.bonding }
     requires few { length links.old ≤ MAX_LINKS }
-    ensures work { MovesBy (line_of L.taken L.knows L.faults L.reads L.ends)
+    ensures work { MovesBy ⟦<L as TellingLink>⟧.tells
         sender.old sender.new progress.now progress.now links.old links.new
         (λ setup from. AnswersTo setup link compound.now result from) }
     ensures set { StaysSet sender.old sender.new }
@@ -68,7 +58,7 @@ fn answer<L: Link>(
     requires links { length links.old ≡ link_count sender.old.bonding }
     requires few { length links.old ≤ MAX_LINKS }
     requires session { opener.old ≡ sender.old.session }
-    ensures work { MovesBy (line_of L.taken L.knows L.faults L.reads L.ends)
+    ensures work { MovesBy ⟦<L as TellingLink>⟧.tells
         sender.old sender.new progress.now progress.now links.old links.new
         (λ setup from. AnswersIf setup link
         (compound_in sender.old.session (Gave (record { channel = channel; octets = octets.old }))) result from) }
@@ -105,7 +95,7 @@ fn read_on<L: Link>(
     requires links { length links.old ≡ link_count sender.old.bonding }
     requires few { length links.old ≤ MAX_LINKS }
     requires session { opener.old ≡ sender.old.session }
-    ensures work { MovesBy (line_of L.taken L.knows L.faults L.reads L.ends)
+    ensures work { MovesBy ⟦<L as TellingLink>⟧.tells
         sender.old sender.new progress.old progress.new links.old links.new
         (λ setup from. ReadsOn setup link result from) }
     ensures set { StaysSet sender.old sender.new }
@@ -143,7 +133,7 @@ fn read_link<L: Link>(
     requires links { length links.old ≡ link_count sender.old.bonding }
     requires few { length links.old ≤ MAX_LINKS }
     requires session { opener.old ≡ sender.old.session }
-    ensures work { MovesBy (line_of L.taken L.knows L.faults L.reads L.ends)
+    ensures work { MovesBy ⟦<L as TellingLink>⟧.tells
         sender.old sender.new progress.old progress.new links.old links.new
         (λ setup from. ReadsLink setup link result from) }
     ensures set { StaysSet sender.old sender.new }
@@ -180,7 +170,7 @@ pub(crate) fn read_links<L: Link>(
     requires links { length links.old ≡ link_count sender.old.bonding }
     requires few { length links.old ≤ MAX_LINKS }
     requires session { opener.old ≡ sender.old.session }
-    ensures work { MovesBy (line_of L.taken L.knows L.faults L.reads L.ends)
+    ensures work { MovesBy ⟦<L as TellingLink>⟧.tells
         sender.old sender.new progress.old progress.new links.old links.new
         (λ setup from. ReadsInTurn setup (range_with_len 0 (length links.old)) result from) }
     ensures set { StaysSet sender.old sender.new }

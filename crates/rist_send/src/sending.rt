@@ -8,7 +8,7 @@ ghost use Rattle.rist_sender.specs.Sender.{IsSenderAfter, StaysSet};
 ghost use Rattle.rist_send.specs.Run.{Run, setup_of};
 ghost use Rattle.rist_send.specs.Turns.{TicksOnce, ReadsAndTicks, Turn};
 ghost use Rattle.rist_send.specs.Sending.{SendsSource, read_fault};
-ghost use Rattle.rist_send.specs.Served.{Runs, line_of, new_run};
+ghost use Rattle.rist_send.specs.Served.{Runs, new_run};
 ghost use Rattle.rist_send.specs.Inside.Moves.{IsAt, Moves, MovesBy, IsPlace};
 
 use crate::fault::refusal;
@@ -17,7 +17,7 @@ use crate::progress::Progress;
 use crate::reading::{read_links, rest};
 use crate::{SendFault, SendSettings};
 use outside_io::Source;
-use outside_net::{Clock, Link};
+use outside_net::{Clock, Link, TellingLink};
 use rist_sender::Sender;
 use rist_wire::Opener;
 
@@ -25,7 +25,7 @@ use rist_wire::Opener;
 fn tick<L: Link>(sender: &mut Sender, links: &mut [L], progress: &Progress) -> Result<(), SendFault>
     requires links { length links.old ≡ link_count sender.old.bonding }
     requires few { length links.old ≤ MAX_LINKS }
-    ensures work { MovesBy (line_of L.taken L.knows L.faults L.reads L.ends)
+    ensures work { MovesBy ⟦<L as TellingLink>⟧.tells
         sender.old sender.new progress.now progress.now links.old links.new
         (λ setup from. TicksOnce setup result from) }
     ensures set { StaysSet sender.old sender.new }
@@ -47,7 +47,7 @@ fn read_and_tick<L: Link>(
     requires links { length links.old ≡ link_count sender.old.bonding }
     requires few { length links.old ≤ MAX_LINKS }
     requires session { opener.old ≡ sender.old.session }
-    ensures work { MovesBy (line_of L.taken L.knows L.faults L.reads L.ends)
+    ensures work { MovesBy ⟦<L as TellingLink>⟧.tells
         sender.old sender.new progress.old progress.new links.old links.new
         (λ setup from. ReadsAndTicks setup result from) }
     ensures set { StaysSet sender.old sender.new }
@@ -81,7 +81,7 @@ fn turn<S: Source, L: Link, C: Clock>(
       octets = S.remaining source.old;
       answers = map L.reads links.old;
     }) from
-        → Moves (line_of L.taken L.knows L.faults L.reads L.ends)
+        → Moves ⟦<L as TellingLink>⟧.tells
         sender.old sender.new progress.new (record {
           moments = C.moments clock.new;
           octets = S.remaining source.new;
@@ -122,7 +122,7 @@ pub fn send<S: Source, L: Link, C: Clock>(
     requires few { length links.old ≤ MAX_LINKS }
     requires session { opener.old ≡ sender.old.session }
     ensures work { (from : Work) → IsSenderAfter sender.old from
-        → Runs (line_of L.taken L.knows L.faults L.reads L.ends)
+        → Runs ⟦<L as TellingLink>⟧.tells
         sender.old sender.new (record {
           moments = C.moments clock.new;
           octets = S.remaining source.new;

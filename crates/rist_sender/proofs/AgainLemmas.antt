@@ -13,7 +13,8 @@ use Rattle.rist_sender.specs.declared.answer.Answer.{Answer}
 use Rattle.rtcp_compound.specs.Compound.{Content}
 use Rattle.rist_rtt.specs.Echo.{EchoOf}
 use Rattle.rist_sender.specs.Links.{is_failed}
-use Rattle.sender_rules.specs.Retransmissions.{AskedNumber, has_passed, each_once}
+use Rattle.link_channels.specs.Intervals.{has_passed_since}
+use Rattle.sender_rules.specs.Retransmissions.{AskedNumber, each_once}
 use Rattle.rist_sender.specs.declared.answer.Answer.TheVariants.{Took}
 use Rattle.rist_sender.specs.Messages.{Message, Status, Retransmission, RttAnswer}
 use Rattle.rist_sender.specs.History.{is_down, effective_time, sendings_of, again_count}
@@ -24,7 +25,7 @@ use Rattle.rist_sender.proofs.TurnLemmas.{writes_short}
 
 -- its hold time has passed
 abbrev has_rested : ℕ → ℕ → List Sending → Packet → Bool
-has_rested hold tick history packet = has_passed hold tick (last_sent_again history packet.number)
+has_rested hold tick history packet = has_passed_since hold tick (last_sent_again history packet.number)
 
 -- the packets but one
 abbrev without : ℕ → List Packet → List Packet
@@ -35,7 +36,7 @@ step f q ps true is = rw is refl
 step f q ps false is = rw is refl
 
 -- a packet that hasn't rested may be left out first
-left_out : (hold tick : ℕ) (history : List Sending) (number : ℕ) (ps : List Packet) → has_passed hold tick (last_sent_again history number) ≡ false
+left_out : (hold tick : ℕ) (history : List Sending) (number : ℕ) (ps : List Packet) → has_passed_since hold tick (last_sent_again history number) ≡ false
     → filter (has_rested hold tick history) (without number ps) ≡ filter (has_rested hold tick history) ps
 left_out hold tick history number [] tired = refl
 left_out hold tick history number (q ∷ ps) tired =
@@ -43,7 +44,7 @@ left_out hold tick history number (q ∷ ps) tired =
     elim (q.number == number) as (λ (x : Bool). (q.number == number) ≡ x
     → filter f (if not x then q ∷ without number ps else without number ps) ≡ filter f (q ∷ ps)) [
       | true ↦ λ yes.
-          let rests : f q ≡ false = ap (λ (n : ℕ). has_passed hold tick (last_sent_again history n)) (eqb-true q.number number yes) ∙ tired in
+          let rests : f q ≡ false = ap (λ (n : ℕ). has_passed_since hold tick (last_sent_again history n)) (eqb-true q.number number yes) ∙ tired in
           left_out hold tick history number ps tired ∙ sym (step f q ps false rests)
       | false ↦ λ other.
           elim (f q) as (λ (y : Bool). f q ≡ y → filter f (q ∷ without number ps) ≡ filter f (q ∷ ps)) [
@@ -52,7 +53,7 @@ left_out hold tick history number (q ∷ ps) tired =
           ] refl
     ] refl
 
-just_sent : (hold tick : ℕ) → 1 ≤ hold → has_passed hold tick (Some tick) ≡ false
+just_sent : (hold tick : ℕ) → 1 ≤ hold → has_passed_since hold tick (Some tick) ≡ false
 just_sent hold tick some = grind (arith, nat_tests, common_steps)
 
 unrested : (hold tick : ℕ) (history : List Sending) (p : Packet) → number_again hold tick history (Some p) ≡ None → has_rested hold tick history p ≡ false
@@ -74,11 +75,11 @@ now_left_out hold tick history number (q ∷ ps) some =
       | true ↦ λ yes.
           let e : q.number ≡ number = eqb-true q.number number yes in
           let same : (number == q.number) ≡ true = eq-eqb number q.number (sym e) in
-          let rests : g q ≡ false = ap (λ (b : Bool). has_passed hold tick (if b then Some tick else last_sent_again history q.number)) same ∙ just_sent hold tick some in
+          let rests : g q ≡ false = ap (λ (b : Bool). has_passed_since hold tick (if b then Some tick else last_sent_again history q.number)) same ∙ just_sent hold tick some in
           now_left_out hold tick history number ps some ∙ sym (step g q ps false rests)
       | false ↦ λ other.
           let differ : (number == q.number) ≡ false = ne_eqb number q.number (λ (e : number ≡ q.number). cc (eq-eqb q.number number (sym e))) in
-          let on : g q ≡ f q = ap (λ (b : Bool). has_passed hold tick (if b then Some tick else last_sent_again history q.number)) differ in
+          let on : g q ≡ f q = ap (λ (b : Bool). has_passed_since hold tick (if b then Some tick else last_sent_again history q.number)) differ in
           elim (f q) as (λ (y : Bool). f q ≡ y → filter f (q ∷ without number ps) ≡ filter g (q ∷ ps)) [
             | true ↦ λ is. step f q (without number ps) true is ∙ ap (λ qs. q ∷ qs) (now_left_out hold tick history number ps some) ∙ sym (step g q ps true (on ∙ is))
             | false ↦ λ is. step f q (without number ps) false is ∙ now_left_out hold tick history number ps some ∙ sym (step g q ps false (on ∙ is))
@@ -113,7 +114,7 @@ again_none stored hold tick most history n ns none = by (found_by stored n) refl
 
 -- a packet that is sent again
 pub again_some : (stored : List Packet) (hold tick most : ℕ) (history : List Sending) (n : AskedNumber) (ns : List AskedNumber) (p : Packet) → 1 ≤ hold
-    → packet_for stored n.width n.word ≡ Some p → has_passed hold tick (last_sent_again history p.number) ≡ true
+    → packet_for stored n.width n.word ≡ Some p → has_passed_since hold tick (last_sent_again history p.number) ≡ true
     → again_among stored hold tick (suc most) history (n ∷ ns) ≡ p ∷ again_among stored hold tick most (Again p.number tick ∷ history) ns
 again_some stored hold tick most history n ns p some is rested =
     let f = has_rested hold tick history in
@@ -186,7 +187,7 @@ made tick due a from to up is long =
 -- what a retransmission that was written leaves
 wrote_again : (size hold tick link count left : ℕ) (asked all : List AskedNumber) (from to : Work) (p : Packet) (a : Answer) (n : AskedNumber) → 1 ≤ hold
     → AnswersBefore size hold tick link count (suc left) (n ∷ asked) all from to
-    → packet_for (stored_packets size (sendings_of to.history)) n.width n.word ≡ Some p → has_passed hold tick (last_sent_again (sendings_of to.history) p.number) ≡ true
+    → packet_for (stored_packets size (sendings_of to.history)) n.width n.word ≡ Some p → has_passed_since hold tick (last_sent_again (sendings_of to.history) p.number) ≡ true
     → (last : Work) → WritesInTurn tick (again_dues link (stored_packets size (sendings_of from.history)) hold tick left (Again p.number tick ∷ sendings_of to.history) asked)
     (after_due tick (record { link = link; message = Retransmission p }) a to) last
     → Ends size hold tick link all from last

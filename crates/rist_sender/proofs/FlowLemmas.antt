@@ -5,7 +5,8 @@ use Rattle.std.specs.List.{filter, filter_map}
 use Rattle.receiver_rules.specs.Steps.{tick_of}
 use Rattle.sender_rules.specs.Sendings.{Packet, Sending, First, sent_packets}
 use Rattle.sender_rules.specs.Stored.{packet_for}
-use Rattle.sender_rules.specs.Retransmissions.{AskedNumber, has_passed, each_once, packets_to_send_again}
+use Rattle.link_channels.specs.Intervals.{has_passed_since}
+use Rattle.sender_rules.specs.Retransmissions.{AskedNumber, each_once, packets_to_send_again}
 use Rattle.sender_rules.specs.declared.bounds.TheConstants.{MAX_LOOKED_AT, MAX_SENT_AGAIN}
 use Rattle.rist_sender.specs.Links.{is_failed}
 use Rattle.rist_sender.specs.Messages.{Message}
@@ -68,7 +69,7 @@ none_found (n ∷ asked) = none_found asked
 
 pub none_again : (size hold tick : ℕ) (asked : List AskedNumber) → packets_to_send_again size hold [] tick asked ≡ []
 none_again size hold tick asked =
-    ap (λ (stored : List Packet). take MAX_SENT_AGAIN (filter (λ packet. has_passed hold tick None)
+    ap (λ (stored : List Packet). take MAX_SENT_AGAIN (filter (λ packet. has_passed_since hold tick None)
     (each_once (filter_map (λ n. packet_for stored n.width n.word) (take MAX_LOOKED_AT asked))))) (none_stored size)
-    ∙ ap (λ (found : List Packet). take MAX_SENT_AGAIN (filter (λ packet. has_passed hold tick None) (each_once found))) (none_found (take MAX_LOOKED_AT asked))
+    ∙ ap (λ (found : List Packet). take MAX_SENT_AGAIN (filter (λ packet. has_passed_since hold tick None) (each_once found))) (none_found (take MAX_LOOKED_AT asked))
     ∙ none_stored MAX_SENT_AGAIN

@@ -5,12 +5,13 @@ use Rattle.std.specs.List.{AllByRecursion, list_any}
 use Rattle.std.proofs.lemmas.List.Folds.{list_any-append}
 use Rattle.std.proofs.lemmas.Bool.{eq-eqb, eqb-true}
 use Rattle.outside_io.specs.Causes.{RoseWhere}
-use Rattle.outside_io.specs.declared.channel.Channel.{Channel}
+use Rattle.link_channels.specs.declared.channel.Channel.{Channel}
 use Rattle.outside_net.specs.Links.{Datagram}
 use Rattle.rist_wire.specs.declared.session.Session.{Session}
 use Rattle.rist_sender.specs.declared.answer.Answer.{Answer}
 use Rattle.rist_sender.specs.declared.answer.Answer.TheVariants.{Took, NoPeer, Failed}
-use Rattle.rist_sender.specs.Links.{Line, Tried, taken_as, datagrams_taken, is_failed, IsBy, Delivers, WritesOn}
+use Rattle.outside_net.specs.Links.{LinkTells}
+use Rattle.rist_sender.specs.Links.{Tried, taken_as, datagrams_taken, is_failed, IsBy, Delivers, WritesOn}
 use Rattle.rist_sender.specs.History.{Write, Event, Wrote, tried_as, tried_on}
 use Rattle.rist_sender.specs.Sender.{IsGiven, AreGiven}
 
@@ -20,7 +21,7 @@ told_none : (told : Option (List Datagram)) → told ≡ option_map (λ had. had
 told_none None = refl
 told_none (Some had) = ap Some (sym (append-nil had))
 
-pub delivers_none : {L : Type 0} (line : Line L) (was : L) → Delivers line [] was was
+pub delivers_none : {L : Type 0} (line : LinkTells L) (was : L) → Delivers line [] was was
 delivers_none line was = record {
   taken = told_none (line.taken was);
   answers = tt;
@@ -62,7 +63,7 @@ rose_both true false a b c r s = omega (arith, r, s)
 rose_both false true a b c r s = omega (arith, r, s)
 rose_both false false a b c r s = s ∙ r
 
-pub delivers_then : {L : Type 0} (line : Line L) (xs ys : List Tried) (a b c : L) → Delivers line xs a b → Delivers line ys b c → Delivers line (xs ++ ys) a c
+pub delivers_then : {L : Type 0} (line : LinkTells L) (xs ys : List Tried) (a b c : L) → Delivers line xs a b → Delivers line ys b c → Delivers line (xs ++ ys) a c
 delivers_then line xs ys a b c d e = record {
   taken = told_both (datagrams_taken xs) (datagrams_taken ys) (datagrams_taken (xs ++ ys)) (line.taken a) (line.taken b) (line.taken c) (taken_both xs ys) d.taken e.taken;
   answers = all_both (line.knows a) xs ys d.answers (by_same (line.knows a) (line.knows b) d.knows ys e.answers);
@@ -75,10 +76,10 @@ delivers_then line xs ys a b c d e = record {
 
 -- ---- all links
 
-pub given_none : {L : Type 0} (line : Line L) (flow : ℕ) (session : Session) (history : List Event) (was : List L) → AreGiven line flow session history history was was
+pub given_none : {L : Type 0} (line : LinkTells L) (flow : ℕ) (session : Session) (history : List Event) (was : List L) → AreGiven line flow session history history was was
 given_none line flow session history was link d among = record { gained = []; more = sym (append-nil _); delivers = delivers_none line (get_or was link d) }
 
-pub given_then : {L : Type 0} (line : Line L) (flow : ℕ) (session : Session) (h i j : List Event) (a b c : List L) → length b ≡ length a
+pub given_then : {L : Type 0} (line : LinkTells L) (flow : ℕ) (session : Session) (h i j : List Event) (a b c : List L) → length b ≡ length a
     → AreGiven line flow session h i a b → AreGiven line flow session i j b c → AreGiven line flow session h j a c
 given_then line flow session h i j a b c same f g link d among =
     let x = f link d among in
@@ -90,7 +91,7 @@ given_then line flow session h i j a b c same f g link d among =
     }
 
 -- one datagram on one link
-pub given_one : {L : Type 0} (line : Line L) (flow : ℕ) (session : Session) (history : List Event) (w : Write) (tried : Tried) (was is : List L)
+pub given_one : {L : Type 0} (line : LinkTells L) (flow : ℕ) (session : Session) (history : List Event) (w : Write) (tried : Tried) (was is : List L)
     → tried ≡ tried_as flow session w → WritesOn line w.link tried was is → AreGiven line flow session history (Wrote w ∷ history) was is
 given_one {L} line flow session history w tried was is seen writes link d among =
     elim (w.link == link) as (λ (x : Bool). (w.link == link) ≡ x → IsGiven line (tried_on (tried_as flow session) link history)

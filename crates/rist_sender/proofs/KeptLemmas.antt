@@ -5,7 +5,7 @@ use Rattle.std.specs.List.{AllByRecursion}
 use Rattle.std.proofs.lemmas.Bool.{eq-eqb, eqb-true}
 use Rattle.std.proofs.lemmas.Bool.Decides.{nat_tests}
 use Rattle.std.proofs.lemmas.Grind.{common_steps}
-use Rattle.sender_rules.specs.Retransmissions.{has_passed}
+use Rattle.link_channels.specs.Intervals.{has_passed_since}
 use Rattle.seq_unwrap.specs.declared.width.Width.{Width}
 use Rattle.seq_unwrap.specs.Nearest.{cycle_of}
 use Rattle.sender_rules.specs.Sendings.{Packet, Sending, last_sent_again}
@@ -71,28 +71,28 @@ found_stored ps width word number is =
 -- whether it is sent again, by its mark
 pub again_is : (hold tick number : ℕ) (history : List Sending) (ps : List Packet) (width : Width) (word : ℕ) (mark : Option ℕ)
     → Some number ≡ option_map (λ (p : Packet). p.number) (packet_for ps width word) → mark ≡ stored_mark history (packet_with ps number)
-    → number_again hold tick history (packet_for ps width word) ≡ (if has_passed hold tick mark then Some number else None)
+    → number_again hold tick history (packet_for ps width word) ≡ (if has_passed_since hold tick mark then Some number else None)
 again_is hold tick number history ps width word mark is marked =
     let p = some_number (packet_for ps width word) number is in
     let last : last_sent_again history p.0.number ≡ mark = sym (word_found history ps width word p.0 p.1).1 ∙ ap (λ n. stored_mark history (packet_with ps n)) p.2 ∙ sym marked in
     ap (number_again hold tick history) p.1
-    ∙ ap (λ m. if has_passed hold tick m then Some p.0.number else None) last
-    ∙ ap (λ n. if has_passed hold tick mark then Some n else None) p.2
+    ∙ ap (λ m. if has_passed_since hold tick m then Some p.0.number else None) last
+    ∙ ap (λ n. if has_passed_since hold tick mark then Some n else None) p.2
 
-pub not_passed : (hold tick at number : ℕ) → tick < at + hold → (if has_passed hold tick (Some at) then Some number else None) ≡ None
+pub not_passed : (hold tick at number : ℕ) → tick < at + hold → (if has_passed_since hold tick (Some at) then Some number else None) ≡ None
 not_passed hold tick at number lt = grind (arith, nat_tests, common_steps)
 
-pub passed : (hold tick at number : ℕ) → at + hold ≤ tick → (if has_passed hold tick (Some at) then Some number else None) ≡ Some number
+pub passed : (hold tick at number : ℕ) → at + hold ≤ tick → (if has_passed_since hold tick (Some at) then Some number else None) ≡ Some number
 passed hold tick at number le = grind (arith, nat_tests, common_steps)
 
 -- a packet that is sent again was found, and its hold time has passed
 pub again_found : (hold tick number : ℕ) (history : List Sending) (found : Option Packet) → Some number ≡ number_again hold tick history found
-    → (p : Packet) × (found ≡ Some p) × (has_passed hold tick (last_sent_again history p.number) ≡ true) × (p.number ≡ number)
+    → (p : Packet) × (found ≡ Some p) × (has_passed_since hold tick (last_sent_again history p.number) ≡ true) × (p.number ≡ number)
 again_found hold tick number history None is = cc
 again_found hold tick number history (Some p) is =
-    elim (has_passed hold tick (last_sent_again history p.number)) as (λ (x : Bool). has_passed hold tick (last_sent_again history p.number) ≡ x
+    elim (has_passed_since hold tick (last_sent_again history p.number)) as (λ (x : Bool). has_passed_since hold tick (last_sent_again history p.number) ≡ x
     → Some number ≡ (if x then Some p.number else None)
-    → (q : Packet) × (Some p ≡ Some q) × (has_passed hold tick (last_sent_again history q.number) ≡ true) × (q.number ≡ number)) [
+    → (q : Packet) × (Some p ≡ Some q) × (has_passed_since hold tick (last_sent_again history q.number) ≡ true) × (q.number ≡ number)) [
       | true ↦ λ rested here. (p, refl, rested, cc)
       | false ↦ λ held there. cc
     ] refl is

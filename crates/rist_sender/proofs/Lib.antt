@@ -8,3 +8,5 @@ pub mod TurnLemmas
 pub mod LawLemmas
 pub mod FlowLemmas
 mod Rows
+pub mod ServedLemmas
+pub mod DownLemmas

@@ -1,6 +1,6 @@
 -- One datagram that was due, on a link that is up.
 use Rattle.std.proofs.Common.{◌≡◌, ◌∙◌, ℕ, ◌%◌, ◌^◌, ◌<◌, Bool, true, false, List, ◌∷◌, ◌++◌, set, Option, Some, refl, sym, ap, subst, arith}
-use Rattle.outside_io.specs.declared.channel.Channel.{Channel}
+use Rattle.link_channels.specs.declared.channel.Channel.{Channel}
 use Rattle.rtcp_compound.specs.Writing.{sr_octets, sdes_octets}
 use Rattle.rist_rtt.specs.Echo.{request_octets}
 use Rattle.psk_seal.specs.declared.sealer.Pair.{Pair}
@@ -10,7 +10,8 @@ use Rattle.rist_wire.specs.Writing.{next_pair, after_pair, is_spent}
 use Rattle.rist_sender.specs.declared.answer.Answer.{Answer}
 use Rattle.rist_sender.specs.declared.answer.Answer.TheVariants.{Took}
 use Rattle.rist_wire.specs.declared.session.Session.{Session}
-use Rattle.rist_sender.specs.Links.{Line, Tried, WritesOn, is_failed}
+use Rattle.outside_net.specs.Links.{LinkTells}
+use Rattle.rist_sender.specs.Links.{Tried, WritesOn, is_failed}
 use Rattle.rist_sender.specs.Messages.{Message, Original, message_channel, message_datagram, report_octets, told_octets, seconds_of, fraction_of, rtp_time_of}
 use Rattle.rist_sender.specs.History.{Wrote, is_down, tried_as}
 use Rattle.rist_sender.specs.Calls.{Work, Due, Rules, with_event, without_pair, written_as, after_write, after_due, after_copy, is_settled, IfElse, Spreads}
@@ -41,7 +42,7 @@ as_seen flow session tick pair link message a channel octets on spelled =
     ∙ ap (λ (x : List ℕ). record { channel = message_channel session message; octets = x; answer = a }) spelled
 
 -- no pair was left
-pub put_short : {L : Type 0} (line : Line L) (old new : SenderState) (was is : List L) (from : Work) (tick link : ℕ) (message : Message)
+pub put_short : {L : Type 0} (line : LinkTells L) (old new : SenderState) (was is : List L) (from : Work) (tick link : ℕ) (message : Message)
     → IsSenderAfter old from → is_down from.history link ≡ false → is_spent from.sealer ≡ true → new ≡ old → is ≡ was
     → Does line old new was is from (PutsWith tick link message Took true from)
 put_short {L} line old new was is from tick link message stands up spent same kept = record {
@@ -52,7 +53,7 @@ put_short {L} line old new was is from tick link message stands up spent same ke
 }
 
 -- it was made and written
-pub put_made : {L : Type 0} (line : Line L) (old new : SenderState) (was is : List L) (from : Work) (tick link : ℕ) (message : Message) (a : Answer)
+pub put_made : {L : Type 0} (line : LinkTells L) (old new : SenderState) (was is : List L) (from : Work) (tick link : ℕ) (message : Message) (a : Answer)
     (channel : Channel) (octets : List ℕ)
     → is_down from.history link ≡ false → is_spent from.sealer ≡ false → from.is_short ≡ false
     → IsSenderAfter new (after_write tick (record { link = link; message = message }) a from)
@@ -104,7 +105,7 @@ told_same false flow micros packets count octets total e f = status_same flow mi
 told_same true flow micros packets count octets total e f = ap (λ (xs : List ℕ). xs ++ request_octets flow micros) (status_same flow micros packets count octets total e f)
 
 -- whatever its link answered
-pub does_some : {L : Type 0} (line : Line L) (old new : SenderState) (was is : List L) (from : Work) (tick link : ℕ) (message : Message) (a : Answer) (short : Bool)
+pub does_some : {L : Type 0} (line : LinkTells L) (old new : SenderState) (was is : List L) (from : Work) (tick link : ℕ) (message : Message) (a : Answer) (short : Bool)
     → Does line old new was is from (PutsWith tick link message a short from) → Does line old new was is from (PutsOn tick link message short from)
 does_some line old new was is from tick link message a short d =
     record { to = d.to; fact = record { answer = a; with_answer = d.fact }; stands = d.stands; given = d.given }
@@ -112,7 +113,7 @@ does_some line old new was is from tick link message a short d =
 -- ---- the datagram of a payload
 
 -- one copy of it
-pub copy_made : {L : Type 0} (line : Line L) (old new : SenderState) (was is : List L) (from : Work) (one : Bool) (pair : Option Pair) (packet : Packet) (link : ℕ) (a : Answer)
+pub copy_made : {L : Type 0} (line : LinkTells L) (old new : SenderState) (was is : List L) (from : Work) (one : Bool) (pair : Option Pair) (packet : Packet) (link : ℕ) (a : Answer)
     (channel : Channel) (octets : List ℕ) (settled : Bool)
     → IsSenderAfter old from → link < 16 → is_down from.history link ≡ false → IsPacketIn old pair packet channel octets
     → new ≡ record old { down = down_with link a old.down }

@@ -9,9 +9,9 @@ use Rattle.bond_links.specs.declared.plan.Plan.TheVariants.{All, One}
 use Rattle.bond_links.specs.Plans.{plan_of}
 use Rattle.rist_wire.specs.declared.session.Session.{Session}
 use Rattle.rist_wire.specs.Writing.{next_pair, after_pair, is_spent}
-use Rattle.rist_sender.specs.declared.send_bad.SendBad.{SendBad}
-use Rattle.rist_sender.specs.declared.send_bad.SendBad.TheVariants.{Spent, LinksDown}
-use Rattle.rist_sender.specs.Links.{Line}
+use Rattle.sender_rules.specs.declared.send_bad.SendBad.{SendBad}
+use Rattle.sender_rules.specs.declared.send_bad.SendBad.TheVariants.{Spent, LinksDown}
+use Rattle.outside_net.specs.Links.{LinkTells}
 use Rattle.rist_sender.specs.Messages.{Message, Original}
 use Rattle.rist_sender.specs.History.{packet_count, effective_time}
 use Rattle.rist_sender.specs.Calls.{Work, Rules, without_pair, after_sent, is_ended, is_sharing, links_tried, packet_for, IfElse, Spreads, SendsPacket, SendsNext, IsAnswer}
@@ -86,7 +86,7 @@ sends_one rules payload from to packet pair tick k bonding on is paired timed co
     subst (λ (b : Bool). IfElse b (to ≡ without_pair from) (SendsPacket rules (packet_count from.history) (effective_time from.history) p from to)) (sym on) e
 
 -- a payload took its number, and its datagram is written
-pub does_sent : {L : Type 0} (line : Line L) (a b c : SenderState) (ls ns : List L) (from : Work) (packet : Packet) (Q R : Work → Type 0)
+pub does_sent : {L : Type 0} (line : LinkTells L) (a b c : SenderState) (ls ns : List L) (from : Work) (packet : Packet) (Q R : Work → Type 0)
     → b.flow ≡ a.flow → b.session ≡ a.session
     → Does line b c ls ns (after_sent packet from) Q → ((to : Work) → Q to → R to) → Does line a c ls ns from R
 does_sent line a b c ls ns from packet Q R flow session e both = record {

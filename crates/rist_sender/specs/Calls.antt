@@ -8,20 +8,21 @@ use Rattle.ts_nulls.specs.Nulls.{stripping_of}
 use Rattle.seq_unwrap.specs.Nearest.{cycle_of}
 use Rattle.sender_rules.specs.Sendings.{Packet}
 use Rattle.sender_rules.specs.Bonding.{Bonding, Duplicate, Share, link_for, links_from}
-use Rattle.sender_rules.specs.Retransmissions.{AskedNumber, has_passed, packets_to_send_again}
+use Rattle.link_channels.specs.Intervals.{has_passed_since, report_interval, keepalive_interval}
+use Rattle.sender_rules.specs.Retransmissions.{AskedNumber, packets_to_send_again}
 use Rattle.rtcp_compound.specs.Compound.{Content}
 use Rattle.rist_nack.specs.declared.ask.Ask.{Ask}
 use Rattle.rist_nack.specs.Asked.{asks_in, following}
-use Rattle.rist_rtt.specs.Echo.{EchoOf}
+use Rattle.rist_rtt.specs.Echo.{EchoOf, echoes_in}
 use Rattle.psk_seal.specs.declared.sealer.Pair.{Pair}
 use Rattle.psk_seal.specs.Sealer.{SealerState}
 use Rattle.rist_wire.specs.Writing.{next_pair, after_pair, is_spent}
 use Rattle.rist_sender.specs.declared.answer.Answer.{Answer}
-use Rattle.rist_sender.specs.declared.send_bad.SendBad.{SendBad}
-use Rattle.rist_sender.specs.declared.send_bad.SendBad.TheVariants.{Spent, LinksDown}
+use Rattle.sender_rules.specs.declared.send_bad.SendBad.{SendBad}
+use Rattle.sender_rules.specs.declared.send_bad.SendBad.TheVariants.{Spent, LinksDown}
 use Rattle.rist_sender.specs.Links.{is_failed}
 use Rattle.rist_sender.specs.Messages.{Message, Original, Retransmission, Report, RttAnswer, Alive, Status}
-use Rattle.rist_sender.specs.Messages.{first_request}
+use Rattle.rist_rtt.specs.Echo.{first_request}
 use Rattle.rist_sender.specs.History.{Write, Event, Called, Sent, Wrote, Renewed, effective_time, sendings_of}
 use Rattle.rist_sender.specs.History.{packet_count, octet_count, again_count, is_down, is_report, is_alive, last_time}
 
@@ -200,30 +201,22 @@ packets_again rules history compound =
 pub record AnswersOn (rules : Rules) (micros link : ℕ) (compound : List Content) (from to : Work) : Type 0 where
   pub between : Work
   pub request : WritesInTurn (effective_time from.history)
-      (on_link link (rtt_answer (status_at micros from.history) (first_request compound))) from between
+      (on_link link (rtt_answer (status_at micros from.history) (first_request (echoes_in compound)))) from between
   pub again : WritesInTurn (effective_time between.history)
       (on_link link (map Retransmission (packets_again rules between.history compound))) between to
 
 -- ---- ticks
 
--- a report each 100 ms, in ticks of 1/90,000 s
-abbrev pub report_interval : ℕ
-report_interval = 9000
-
--- a keepalive each second
-abbrev pub keepalive_interval : ℕ
-keepalive_interval = 90000
-
 -- the report of a link, where it is due
 abbrev pub report_due : ℕ → List Event → ℕ → List Message
 report_due micros history link =
-    if has_passed report_interval (effective_time history) (last_time is_report history link)
+    if has_passed_since report_interval (effective_time history) (last_time is_report history link)
     then Report (status_at micros history) ∷ [] else []
 
 -- its keepalive, where it is due
 abbrev pub keepalive_due : Bool → List Event → ℕ → List Message
 keepalive_due keepalives history link =
-    if keepalives && has_passed keepalive_interval (effective_time history) (last_time is_alive history link)
+    if keepalives && has_passed_since keepalive_interval (effective_time history) (last_time is_alive history link)
     then Alive ∷ [] else []
 
 -- a tick on one link: its report, and then its keepalive

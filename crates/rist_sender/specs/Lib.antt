@@ -3,5 +3,7 @@ pub mod Messages
 pub mod History
 pub mod Calls
 pub mod Sender
+pub mod Served
+pub mod Incoming
 pub mod Inside
 pub mod Rows

@@ -1,21 +1,12 @@
 -- What links took, datagram by datagram.
-use Rattle.std.specs.Prelude.{◌≡◌, ◌≢◌, ℕ, List, [], ◌∷◌, ◌++◌, slice_index_or, Option, Bool, true, false}
+use Rattle.std.specs.Prelude.{◌≡◌, ◌≢◌, ℕ, List, [], ◌∷◌, ◌++◌, slice_index_or, Bool, true, false}
 use Rattle.std.specs.Option.{option_map}
 use Rattle.std.specs.List.{AllByRecursion, list_any}
 use Rattle.outside_io.specs.Causes.{RoseWhere}
-use Rattle.outside_io.specs.declared.channel.Channel.{Channel}
-use Rattle.outside_net.specs.Links.{Datagram, Answer as ReadAnswer}
+use Rattle.link_channels.specs.declared.channel.Channel.{Channel}
+use Rattle.outside_net.specs.Links.{Datagram, LinkTells}
 use Rattle.rist_sender.specs.declared.answer.Answer.{Answer}
 use Rattle.rist_sender.specs.declared.answer.Answer.TheVariants.{Took, NoPeer, Failed}
-
--- what a link tells, and its counts: the datagrams that it took, which channels' peers it knows, how many calls failed,
--- the answers that its reads have still to give, and how many reads came to an end
-pub record Line (L : Type 0) : Type 0 where
-  pub taken : L → Option (List Datagram)
-  pub knows : L → Channel → Bool
-  pub faults : L → ℕ
-  pub reads : L → Option (ℕ → ReadAnswer)
-  pub ends : L → ℕ
 
 -- a datagram as it was written, and what became of it
 pub record Tried : Type 0 where
@@ -48,7 +39,7 @@ IsBy knows channel Failed = Unit {0}
 
 -- These datagrams were written on a link, in order, and nothing else: it took those that it took behind what it had
 -- taken, where it tells that, and its count of faults rose exactly where a write failed.
-pub record Delivers {L : Type 0} (line : Line L) (tried : List Tried) (was is : L) : Type 0 where
+pub record Delivers {L : Type 0} (line : LinkTells L) (tried : List Tried) (was is : L) : Type 0 where
   pub taken : line.taken is ≡ option_map (λ had. had ++ datagrams_taken tried) (line.taken was)
   pub answers : AllByRecursion (λ t. IsBy (line.knows was) t.channel t.answer) tried
   pub faults : RoseWhere (list_any (λ t. is_failed t.answer) tried) (line.faults was) (line.faults is)
@@ -57,6 +48,6 @@ pub record Delivers {L : Type 0} (line : Line L) (tried : List Tried) (was is : 
   pub ends : line.ends is ≡ line.ends was
 
 -- one datagram was written on one link, and the others stay
-pub record WritesOn {L : Type 0} (line : Line L) (link : ℕ) (tried : Tried) (old new : List L) : Type 0 where
+pub record WritesOn {L : Type 0} (line : LinkTells L) (link : ℕ) (tried : Tried) (old new : List L) : Type 0 where
   pub here : (d : L) → Delivers line (tried ∷ []) (slice_index_or old link d) (slice_index_or new link d)
   pub others : (k : ℕ) (d : L) → k ≢ link → slice_index_or new k d ≡ slice_index_or old k d

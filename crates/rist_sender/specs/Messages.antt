@@ -1,15 +1,14 @@
 -- What a sender's datagrams say (RFC 3550, sections 5.1 and 6.4.1; VSF TR-06-1 for retransmissions; the answer to an
 -- RTT request and the keepalive are this profile's).
-use Rattle.std.specs.Prelude.{ℕ, ◌*◌, ◌/◌, ◌%◌, ◌^◌, Bool, true, false, not, List, [], ◌∷◌, ◌++◌, Option}
-use Rattle.std.specs.List.{find}
+use Rattle.std.specs.Prelude.{ℕ, ◌*◌, ◌/◌, ◌%◌, ◌^◌, Bool, true, false, List, [], ◌∷◌, ◌++◌, Option}
 use Rattle.std.specs.Int.{w32, to_be_bytes}
-use Rattle.outside_io.specs.declared.channel.Channel.{Channel}
+use Rattle.link_channels.specs.declared.channel.Channel.{Channel}
 use Rattle.seq_unwrap.specs.declared.width.Width.{Width}
 use Rattle.receiver_rules.specs.Steps.{tick_of}
 use Rattle.sender_rules.specs.Sendings.{Packet}
 use Rattle.rtcp_compound.specs.Compound.{Content, sender_report, description}
 use Rattle.rtcp_compound.specs.Writing.{name_item, sr_octets, sdes_octets}
-use Rattle.rist_rtt.specs.Echo.{EchoOf, echoes_in, request, response, request_octets, response_octets}
+use Rattle.rist_rtt.specs.Echo.{EchoOf, request, response, request_octets, response_octets}
 use Rattle.keepalive_msg.specs.Keepalive.{spelling as keepalive_spelling}
 use Rattle.keepalive_msg.specs.Writing.{message_of as keepalive_of}
 use Rattle.psk_seal.specs.declared.sealer.Pair.{Pair}
@@ -75,11 +74,7 @@ abbrev pub told_octets : Bool → ℕ → Status → List ℕ
 told_octets false flow status = report_octets flow status
 told_octets true flow status = report_octets flow status ++ request_octets flow status.micros
 
--- the first RTT request of a compound
-abbrev pub first_request : List Content → Option EchoOf
-first_request compound = find (λ echo. not echo.answer) (echoes_in compound)
-
--- it is answered without delay
+-- an RTT request is answered without delay
 abbrev pub answer_packets : ℕ → Status → EchoOf → List Content
 answer_packets flow status echo = report_packets flow status ++ response echo 0 ∷ []
 

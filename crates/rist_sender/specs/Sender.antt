@@ -1,13 +1,14 @@
 -- What a contract sees of a sender.
 use Rattle.std.specs.Prelude.{◌≡◌, ◌<◌, ℕ, ◌%◌, ◌^◌, List, ◌++◌, slice_index_or, length, Option, None, Bool, true}
 use Rattle.std.specs.Prelude.{false}
-use Rattle.outside_io.specs.declared.profile.Profile.{Profile}
-use Rattle.outside_io.specs.declared.profile.Profile.TheVariants as profiles
+use Rattle.link_channels.specs.declared.profile.Profile.{Profile}
+use Rattle.link_channels.specs.declared.profile.Profile.TheVariants as profiles
 use Rattle.sender_rules.specs.Bonding.{Bonding}
 use Rattle.retransmit_store.specs.State.{StoreState, IsStoreAfter}
 use Rattle.psk_seal.specs.Sealer.{SealerState}
 use Rattle.rist_wire.specs.declared.session.Session.{Session}
-use Rattle.rist_sender.specs.Links.{Line, Tried, Delivers}
+use Rattle.outside_net.specs.Links.{LinkTells}
+use Rattle.rist_sender.specs.Links.{Tried, Delivers}
 use Rattle.rist_sender.specs.History.{Event, effective_time, sendings_of, packet_count, octet_count, is_down, is_report}
 use Rattle.rist_sender.specs.History.{is_alive, last_time, tried_as, tried_on}
 use Rattle.rist_sender.specs.Calls.{Work, Rules}
@@ -67,13 +68,13 @@ pub record StaysSet (old new : SenderState) : Type 0 where
 -- ---- one call
 
 -- one link was given the datagrams that its history gained, and no others
-pub record IsGiven {L : Type 0} (line : Line L) (had has : List Tried) (was is : L) : Type 0 where
+pub record IsGiven {L : Type 0} (line : LinkTells L) (had has : List Tried) (was is : L) : Type 0 where
   pub gained : List Tried
   pub more : has ≡ had ++ gained
   pub delivers : Delivers line gained was is
 
 -- each link was
-abbrev pub AreGiven : {L : Type 0} → Line L → ℕ → Session → List Event → List Event → List L → List L → Type 0
+abbrev pub AreGiven : {L : Type 0} → LinkTells L → ℕ → Session → List Event → List Event → List L → List L → Type 0
 AreGiven {L} line flow session old new was is =
     (link : ℕ) (d : L) → link < length was
     → IsGiven line (tried_on (tried_as flow session) link old) (tried_on (tried_as flow session) link new)
@@ -81,7 +82,7 @@ AreGiven {L} line flow session old new was is =
 
 -- A call: there is work after it of which this holds. The sender stands for that work, and each link was given just its
 -- datagrams.
-pub record Does {L : Type 0} (line : Line L) (old new : SenderState) (was is : List L) (from : Work)
+pub record Does {L : Type 0} (line : LinkTells L) (old new : SenderState) (was is : List L) (from : Work)
     (P : Work → Type 0) : Type 0 where
   pub to : Work
   pub fact : P to

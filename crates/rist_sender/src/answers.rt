@@ -3,15 +3,14 @@ ghost use Rattle.std.specs.Prelude.{◌≡◌, if◌then◌else◌};
 ghost use Rattle.rist_sender.specs.Links.{is_failed};
 
 use crate::answer::{Answer, is_failed};
-use crate::control::{answer_of, first_request};
+use crate::control::answer_of;
 use crate::numbers::{Number, Numbers};
-use crate::send_bad::SendBad;
 use crate::sender::Sender;
-use outside_net::Link;
+use outside_net::{Link, TellingLink};
 use psk_seal::Spent;
-use rist_rtt::Echo;
+use rist_rtt::{Echo, first_request};
 use rtcp_compound::Compound;
-use sender_rules::MAX_SENT_AGAIN;
+use sender_rules::{MAX_SENT_AGAIN, SendBad};
 
 impl Sender {
     ghost use Rattle.std.specs.Prelude.{◌≡◌, ◌≤◌, ◌<◌, length, map, slice_index_or, is_err, List, ◌∷◌, IsSome, IfSome};
@@ -21,10 +20,10 @@ impl Sender {
     ghost use Rattle.rist_sender.specs.Calls.{Work, status_at, on_link, rtt_answer, packets_again, FeedsBack};
     ghost use Rattle.rist_sender.specs.History.{effective_time};
     ghost use Rattle.sender_rules.specs.Bonding.{link_count};
-    ghost use Rattle.rist_rtt.specs.Echo.{echo_seen};
+    ghost use Rattle.rist_rtt.specs.Echo.{echo_seen, echoes_in, first_request};
     ghost use Rattle.rist_sender.specs.Inside.Puts.{PutsOn, PutsAgain, WritesDues, AnswersNumber, SendsAll, AnswersAll};
     ghost use Rattle.rist_sender.specs.Inside.Numbers.{number_again, number_seen};
-    ghost use Rattle.rist_sender.specs.Messages.{first_request, RttAnswer, Retransmission};
+    ghost use Rattle.rist_sender.specs.Messages.{RttAnswer, Retransmission};
     ghost use Rattle.sender_rules.specs.Sendings.{Packet, Sending, Again};
     ghost use Rattle.sender_rules.specs.Stored.{stored_packets, packet_with, packet_for};
     ghost use Rattle.retransmit_store.specs.State.{packets_in, IsStoreAfter};
@@ -67,7 +66,7 @@ impl Sender {
         requires up { slice_index_or self.old.down link false ≡ false }
         ensures set { StaysSet self.old self.new }
         ensures does { (from : Work) → IsSenderAfter self.old from → from.is_short ≡ false → Does
-            (record { taken = L.taken; knows = L.knows; faults = L.faults; reads = L.reads; ends = L.ends })
+            ⟦<L as TellingLink>⟧.tells
             self.old self.new links.old links.new from (PutsOn self.old.time link
             (RttAnswer (status_at us from.history) (echo_seen echo.now)) (is_err result) from) }
     {
@@ -95,7 +94,7 @@ impl Sender {
         ensures set { StaysSet self.old self.new }
         ensures does { (from : Work) (packet : Packet) → IsSenderAfter self.old from → from.is_short ≡ false
             → packet_with (packets_in self.old.store) number ≡ Some packet → packet.number ≡ number → Does
-            (record { taken = L.taken; knows = L.knows; faults = L.faults; reads = L.reads; ends = L.ends })
+            ⟦<L as TellingLink>⟧.tells
             self.old self.new links.old links.new from (PutsAgain self.old.time link packet result from) }
     {
         let mut out = [0; 2048];
@@ -120,9 +119,9 @@ impl Sender {
         requires few { length links.old ≤ 16 }
         ensures set { StaysSet self.old self.new }
         ensures does { (from : Work) → IsSenderAfter self.old from → from.is_short ≡ false → Does
-            (record { taken = L.taken; knows = L.knows; faults = L.faults; reads = L.reads; ends = L.ends })
+            ⟦<L as TellingLink>⟧.tells
             self.old self.new links.old links.new from (WritesDues (effective_time from.history)
-            (on_link link (rtt_answer (status_at us from.history) (first_request compound.now))) (is_err result) from) }
+            (on_link link (rtt_answer (status_at us from.history) (first_request (echoes_in compound.now)))) (is_err result) from) }
     {
         if self.is_down(link) {
             return Ok(());
@@ -146,7 +145,7 @@ impl Sender {
         requires up { slice_index_or self.old.down link false ≡ false }
         ensures set { StaysSet self.old self.new }
         ensures does { (from : Work) → IsSenderAfter self.old from → from.is_short ≡ false → Does
-            (record { taken = L.taken; knows = L.knows; faults = L.faults; reads = L.reads; ends = L.ends })
+            ⟦<L as TellingLink>⟧.tells
             self.old self.new links.old links.new from (AnswersNumber self.old.store.size self.old.hold
             (effective_time from.history) link (number_seen asked) result from) }
     {
@@ -170,7 +169,7 @@ impl Sender {
         requires few { length links.old ≤ 16 }
         ensures set { StaysSet self.old self.new }
         ensures does { (from : Work) → IsSenderAfter self.old from → from.is_short ≡ false → Does
-            (record { taken = L.taken; knows = L.knows; faults = L.faults; reads = L.reads; ends = L.ends })
+            ⟦<L as TellingLink>⟧.tells
             self.old self.new links.old links.new from (SendsAll (effective_time from.history)
             (on_link link (map Retransmission (packets_again (rules_of self.old) from.history compound.now)))
             result (is_err result) from) }
@@ -206,7 +205,7 @@ impl Sender {
         requires few { length links.old ≤ 16 }
         ensures set { StaysSet self.old self.new }
         ensures does { (from : Work) → IsSenderAfter self.old from → from.is_short ≡ false → Does
-            (record { taken = L.taken; knows = L.knows; faults = L.faults; reads = L.reads; ends = L.ends })
+            ⟦<L as TellingLink>⟧.tells
             self.old self.new links.old links.new from (AnswersAll (rules_of self.old) us link compound.now
             result (is_err result) from) }
     {
@@ -232,7 +231,7 @@ impl Sender {
         requires links { length links.old ≡ link_count self.old.bonding }
         requires few { length links.old ≤ MAX_LINKS }
         ensures work { (from : Work) → IsSenderAfter self.old from → Does
-            (record { taken = L.taken; knows = L.knows; faults = L.faults; reads = L.reads; ends = L.ends })
+            ⟦<L as TellingLink>⟧.tells
             self.old self.new links.old links.new from
             (FeedsBack (rules_of self.old) (length links.old) us link compound.now result from) }
         ensures set { StaysSet self.old self.new }

@@ -4,11 +4,11 @@ ghost use Rattle.std.specs.Prelude.{◌≡◌, ◌<◌, ◌%◌, ◌^◌, length
 ghost use Rattle.std.specs.List.{find};
 ghost use Rattle.rist_rtt.specs.Echo.{echo_seen};
 ghost use Rattle.rist_sender.specs.Messages.{Status, report_packets, report_octets, told_packets, told_octets, answer_packets, answer_octets};
-ghost use Rattle.rist_sender.specs.Messages.{first_request, seconds_of, fraction_of, rtp_time_of};
+ghost use Rattle.rist_sender.specs.Messages.{seconds_of, fraction_of, rtp_time_of};
 
 use receiver_rules::tick_of;
-use rist_rtt::{Echo, echoes, put_answer, put_request};
-use rtcp_compound::{Compound, CompoundOut};
+use rist_rtt::{Echo, put_answer, put_request};
+use rtcp_compound::CompoundOut;
 
 fn seconds_of(micros: u64) -> u32
     ensures { result ≡ seconds_of micros }
@@ -89,17 +89,4 @@ pub(crate) fn answer_of(
         unreachable!();
     }
     out
-}
-
-/// The first RTT request of a compound.
-pub(crate) fn first_request<'a>(compound: &Compound<'a>) -> Option<Echo<'a>>
-    ensures value { option_map echo_seen result ≡ first_request compound.now }
-{
-    let mut found = echoes(compound);
-    while let Some(echo) = found.next() {
-        if !echo.answer {
-            return Some(echo);
-        }
-    }
-    None
 }

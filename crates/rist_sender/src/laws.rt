@@ -6,7 +6,7 @@ ghost use Rattle.std.specs.Prelude.{length, if◌then◌else◌};
 ghost use Rattle.ts_nulls.specs.Nulls.{blanking_of};
 ghost use Rattle.seq_unwrap.specs.declared.width.Width.{Width};
 ghost use Rattle.psk_seal.specs.declared.sealer.Pair.{Pair};
-ghost use Rattle.outside_io.specs.declared.profile.Profile.TheVariants.{Main};
+ghost use Rattle.link_channels.specs.declared.profile.Profile.TheVariants.{Main};
 ghost use Rattle.rist_wire.specs.declared.session.Session.{Session};
 ghost use Rattle.rist_wire.specs.declared.item.Item.TheVariants as items;
 ghost use Rattle.rist_wire.specs.Session.{IsSession};

@@ -10,13 +10,13 @@ mod media;
 mod numbers;
 mod on_link;
 mod payloads;
+mod read;
 mod sealing;
-mod send_bad;
 mod sender;
 mod settings;
 mod ticks;
 
 pub use answer::Answer;
-pub use send_bad::SendBad;
+pub use read::read_at;
 pub use sender::Sender;
 pub use settings::Settings;

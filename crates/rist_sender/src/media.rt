@@ -8,7 +8,7 @@ ghost use Rattle.rist_sender.specs.Messages.{media_of};
 ghost use Rattle.rist_sender.specs.Calls.{packet_for};
 ghost use Rattle.rist_sender.specs.Inside.Kept.{IsSendable};
 
-use outside_io::Channel;
+use link_channels::Channel;
 use psk_seal::Spent;
 use retransmit_store::Sent;
 use rist_wire::Shutter;

@@ -3,7 +3,7 @@ ghost use Rattle.std.specs.Prelude.{◌<◌, length};
 ghost use Rattle.rist_sender.specs.Links.{WritesOn};
 
 use crate::answer::Answer;
-use outside_io::Channel;
+use link_channels::Channel;
 use outside_net::Link;
 
 /// Writes a datagram on a link, and says what became of it.

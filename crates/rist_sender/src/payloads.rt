@@ -2,13 +2,13 @@
 
 use crate::answer::is_failed;
 use crate::media::sent_as;
-use crate::send_bad::SendBad;
 use crate::sender::Sender;
 use bond_links::Plan;
-use outside_io::Channel;
-use outside_net::Link;
+use link_channels::Channel;
+use outside_net::{Link, TellingLink};
 use psk_seal::Spent;
 use retransmit_store::Sent;
+use sender_rules::SendBad;
 
 /// Sequence numbers end here (this profile).
 const NUMBERS: u64 = 1 << 62;
@@ -62,7 +62,7 @@ impl Sender {
         ensures time { self.new.time ≡ self.old.time }
         ensures does { (from : Work) (packet : Packet) (pair : Option Pair) → IsSenderAfter self.old from
             → IsPacketIn self.old pair packet channel octets.now → Does
-            (record { taken = L.taken; knows = L.knows; faults = L.faults; reads = L.reads; ends = L.ends })
+            ⟦<L as TellingLink>⟧.tells
             self.old self.new links.old links.new from
             (CopiesOn one self.old.time pair (Original packet) link result from) }
     {
@@ -90,7 +90,7 @@ impl Sender {
         ensures time { self.new.time ≡ self.old.time }
         ensures does { (from : Work) (packet : Packet) (pair : Option Pair) → IsSenderAfter self.old from
             → IsPacketIn self.old pair packet channel octets.now → Does
-            (record { taken = L.taken; knows = L.knows; faults = L.faults; reads = L.reads; ends = L.ends })
+            ⟦<L as TellingLink>⟧.tells
             self.old self.new links.old links.new from (SpreadsPart one self.old.time pair (Original packet)
             (range_with_len start (end - start)) result from) }
     {
@@ -109,7 +109,7 @@ impl Sender {
         ensures set { StaysSet self.old self.new }
         ensures does { (from : Work) (packet : Packet) (pair : Option Pair) → IsSenderAfter self.old from
             → IsPacketIn self.old pair packet channel octets.now → Does
-            (record { taken = L.taken; knows = L.knows; faults = L.faults; reads = L.reads; ends = L.ends })
+            ⟦<L as TellingLink>⟧.tells
             self.old self.new links.old links.new from (SpreadsAll (is_sharing self.old.bonding) self.old.time pair
             (Original packet) (links_tried self.old.bonding k) from) }
     {
@@ -133,7 +133,7 @@ impl Sender {
         requires few { length links.old ≤ 16 }
         ensures set { StaysSet self.old self.new }
         ensures does { (from : Work) → IsSenderAfter self.old from → from.is_short ≡ false → Does
-            (record { taken = L.taken; knows = L.knows; faults = L.faults; reads = L.reads; ends = L.ends })
+            ⟦<L as TellingLink>⟧.tells
             self.old self.new links.old links.new from (SendsOne (rules_of self.old) payload.now (is_err result) from) }
     {
         let k = self.count;
@@ -162,7 +162,7 @@ impl Sender {
         requires links { length links.old ≡ link_count self.old.bonding }
         requires few { length links.old ≤ MAX_LINKS }
         ensures work { (from : Work) → IsSenderAfter self.old from → Does
-            (record { taken = L.taken; knows = L.knows; faults = L.faults; reads = L.reads; ends = L.ends })
+            ⟦<L as TellingLink>⟧.tells
             self.old self.new links.old links.new from
             (Sends (rules_of self.old) (length links.old) us payload.now result from) }
         ensures set { StaysSet self.old self.new }

@@ -4,7 +4,7 @@ use crate::answer::Answer;
 use crate::media::seal_packet;
 use crate::on_link::write_on;
 use crate::sender::Sender;
-use outside_io::Channel;
+use link_channels::Channel;
 use outside_net::Link;
 use psk_seal::Spent;
 use retransmit_store::Sent;

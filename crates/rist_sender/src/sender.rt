@@ -1,12 +1,12 @@
 //! The sender: what it keeps, and what each of its calls begins and ends with.
-use crate::send_bad::SendBad;
 use crate::settings::Settings;
 use bond_links::Bond;
-use outside_io::Profile;
+use link_channels::Profile;
 use psk_seal::Sealer;
 use receiver_rules::tick_of;
 use retransmit_store::Store;
 use rist_wire::{Session, Shutter};
+use sender_rules::SendBad;
 use std::alloc::{AllocError, Global};
 use std::marker::Model;
 

@@ -1,18 +1,12 @@
 //! What a tick of the sender's clock writes: reports and keepalives.
 ghost use Rattle.std.specs.Prelude.{◌≡◌, ◌≤◌, ◌<◌, ◌^◌};
-ghost use Rattle.sender_rules.specs.Retransmissions.{has_passed};
 
 use crate::control::told_of;
-use crate::send_bad::SendBad;
 use crate::sender::Sender;
-use outside_net::Link;
+use link_channels::{KEEPALIVE_INTERVAL, REPORT_INTERVAL, has_passed_since};
+use outside_net::{Link, TellingLink};
 use psk_seal::Spent;
-
-/// Ticks of 1/90,000 s from one report of a link to the next.
-const REPORT_INTERVAL: u64 = 9_000;
-
-/// Ticks of 1/90,000 s from one keepalive of a link to the next.
-const KEEPALIVE_INTERVAL: u64 = 90_000;
+use sender_rules::SendBad;
 
 impl Sender {
     ghost use Rattle.std.specs.Prelude.{◌≡◌, ◌≤◌, ◌<◌, length, set, slice_index_or, is_err, Some, true, false};
@@ -48,7 +42,7 @@ impl Sender {
         requires up { slice_index_or self.old.down link false ≡ false }
         ensures set { StaysSet self.old self.new }
         ensures does { (from : Work) → IsSenderAfter self.old from → from.is_short ≡ false → Does
-            (record { taken = L.taken; knows = L.knows; faults = L.faults; reads = L.reads; ends = L.ends })
+            ⟦<L as TellingLink>⟧.tells
             self.old self.new links.old links.new from (PutsOn self.old.time link
             (Report (status_at us from.history)) (is_err result) from) }
     {
@@ -72,7 +66,7 @@ impl Sender {
         requires main { has_keepalives self.old.session.profile ≡ true }
         ensures set { StaysSet self.old self.new }
         ensures does { (from : Work) → IsSenderAfter self.old from → from.is_short ≡ false → Does
-            (record { taken = L.taken; knows = L.knows; faults = L.faults; reads = L.reads; ends = L.ends })
+            ⟦<L as TellingLink>⟧.tells
             self.old self.new links.old links.new from (PutsOn self.old.time link Alive (is_err result) from) }
     {
         let mut out = [0; 2048];
@@ -91,12 +85,12 @@ impl Sender {
         requires few { length links.old ≤ 16 }
         ensures set { StaysSet self.old self.new }
         ensures does { (from : Work) → IsSenderAfter self.old from → from.is_short ≡ false → Does
-            (record { taken = L.taken; knows = L.knows; faults = L.faults; reads = L.reads; ends = L.ends })
+            ⟦<L as TellingLink>⟧.tells
             self.old self.new links.old links.new from (WritesDues (effective_time from.history)
             (on_link link (report_due us from.history link)) (is_err result) from) }
     {
         if self.is_down(link)
-            || !has_passed(REPORT_INTERVAL, self.time, self.reports[usize::from(link)])
+            || !has_passed_since(REPORT_INTERVAL, self.time, self.reports[usize::from(link)])
         {
             return Ok(());
         }
@@ -109,14 +103,14 @@ impl Sender {
         requires few { length links.old ≤ 16 }
         ensures set { StaysSet self.old self.new }
         ensures does { (from : Work) → IsSenderAfter self.old from → from.is_short ≡ false → Does
-            (record { taken = L.taken; knows = L.knows; faults = L.faults; reads = L.reads; ends = L.ends })
+            ⟦<L as TellingLink>⟧.tells
             self.old self.new links.old links.new from (WritesDues (effective_time from.history)
             (on_link link (keepalive_due (has_keepalives self.old.session.profile) from.history link))
             (is_err result) from) }
     {
         if !self.alive
             || self.is_down(link)
-            || !has_passed(
+            || !has_passed_since(
                 KEEPALIVE_INTERVAL,
                 self.time,
                 self.keepalives[usize::from(link)],
@@ -133,7 +127,7 @@ impl Sender {
         requires few { length links.old ≤ 16 }
         ensures set { StaysSet self.old self.new }
         ensures does { (from : Work) → IsSenderAfter self.old from → from.is_short ≡ false → Does
-            (record { taken = L.taken; knows = L.knows; faults = L.faults; reads = L.reads; ends = L.ends })
+            ⟦<L as TellingLink>⟧.tells
             self.old self.new links.old links.new from
             (TicksLink (has_keepalives self.old.session.profile) us link (is_err result) from) }
     {
@@ -148,7 +142,7 @@ impl Sender {
         requires few { length links.old ≤ 16 }
         ensures set { StaysSet self.old self.new }
         ensures does { (from : Work) → IsSenderAfter self.old from → from.is_short ≡ false → Does
-            (record { taken = L.taken; knows = L.knows; faults = L.faults; reads = L.reads; ends = L.ends })
+            ⟦<L as TellingLink>⟧.tells
             self.old self.new links.old links.new from (TicksLinks (has_keepalives self.old.session.profile) us
             (range_with_len 0 (length links.old)) (is_err result) from) }
     {
@@ -168,7 +162,7 @@ impl Sender {
         requires links { length links.old ≡ link_count self.old.bonding }
         requires few { length links.old ≤ MAX_LINKS }
         ensures work { (from : Work) → IsSenderAfter self.old from → Does
-            (record { taken = L.taken; knows = L.knows; faults = L.faults; reads = L.reads; ends = L.ends })
+            ⟦<L as TellingLink>⟧.tells
             self.old self.new links.old links.new from (Ticks (rules_of self.old) (length links.old) us result from) }
         ensures set { StaysSet self.old self.new }
     {
@@ -177,17 +171,5 @@ impl Sender {
             Ok(()) => self.check_up(links.len()),
             Err(_) => Err(SendBad::Spent),
         }
-    }
-}
-
-// Whether so many ticks have passed since the last time, if there was one.
-fn has_passed(interval: u64, now: u64, last: Option<u64>) -> bool
-    requires small { interval ≤ 90000 }
-    requires now { now < 2 ^ 61 }
-    ensures value { result ≡ has_passed interval now last }
-{
-    match last {
-        None => true,
-        Some(at) => at.saturating_add(interval) <= now,
     }
 }

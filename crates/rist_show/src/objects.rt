@@ -7,7 +7,7 @@ ghost use Rattle.rist_show.specs.Origins.{origin_in};
 
 use capture_file::Head;
 use keepalive_msg::Keepalive;
-use outside_io::Channel;
+use link_channels::Channel;
 use rist_nack::{Ask, asks};
 use rist_wire::{Item, Media, WireBad};
 use rtcp_compound::Compound;

@@ -21,7 +21,7 @@ use Rattle.receiver_rules.specs.History.{played_out_packets, released_bytes}
 use Rattle.receiver_rules.proofs.HistoryLemmas.{played_out_grows}
 use Rattle.reorder_buffer.specs.declared.phase.Phase.TheVariants.{Open, Failed}
 use Rattle.request_rules.specs.Steps.{Step as ReceiverStep, buffer_history}
-use Rattle.rist_control.specs.Control.{ControlSettings}
+use Rattle.rist_reporter.specs.Control.{ControlSettings}
 use Rattle.rist_reporter.specs.declared.out.Outs.{Outs}
 use Rattle.rist_ends.specs.declared.told.Told.{Told}
 use Rattle.rist_ends.specs.declared.told.What.{What}

@@ -15,10 +15,10 @@ use Rattle.rist_wire.specs.declared.session.Session.{Session}
 use Rattle.rist_wire.specs.Among.{session_at}
 use Rattle.rist_replay.specs.Replay.{replayed}
 use Rattle.rist_split.specs.Split.{IsFresh}
-use Rattle.rist_split.specs.declared.made.Made.{Made}
+use Rattle.rist_split.specs.declared.made.SplitMemory.{SplitMemory}
 
 -- memory for a split into so many outputs, whose receivers have these limits and were told nothing
-pub record IsMade {K : Type 0} (limits : Limits) (count : ℕ) (made : Made K) : Type 0 where
+pub record IsMade {K : Type 0} (limits : Limits) (count : ℕ) (made : SplitMemory K) : Type 0 where
   pub each : All (IsFresh limits) made.receivers.items
   pub many : length made.receivers.items ≡ count
   pub came : vec_len made.came ≡ count

@@ -10,7 +10,7 @@ mod splitter;
 mod splitting;
 mod start;
 
-pub use made::{Made, make};
+pub use made::{SplitMemory, make};
 pub use outputs::split_into;
 pub use splitting::{SplitEnd, split};
 pub use start::Start;

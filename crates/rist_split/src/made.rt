@@ -15,7 +15,7 @@ use std::alloc::Global;
 
 /// What a split takes memory for: an opener, a receiver for each output, and room for what comes of a step and for the flows.
 #[derive(Drop)]
-pub struct Made<K> {
+pub struct SplitMemory<K> {
     /// Opens the tunnel's datagrams.
     pub opener: Opener,
     /// The receiver of each output.
@@ -76,7 +76,7 @@ pub fn make<K: Drop>(
     session: &Session,
     settings: &Settings,
     count: usize,
-) -> Result<Made<K>, NoMemory>
+) -> Result<SplitMemory<K>, NoMemory>
     requires session { IsSession session.now }
     requires settings { AreSettings settings.now }
     ensures made { IfOk result (λ made. IsMade (limits_of settings.now) count made) }
@@ -86,7 +86,7 @@ pub fn make<K: Drop>(
     let receivers = receivers(alloc, session, settings, count)?;
     let came = room(alloc, count)?;
     match Vec::with_capacity(alloc, count) {
-        Ok(flows) => Ok(Made {
+        Ok(flows) => Ok(SplitMemory {
             opener,
             receivers,
             came,

@@ -1,14 +1,14 @@
 //! A split of a capture into outputs.
 ghost use Rattle.std.specs.Prelude.{◌≡◌, [], false, length};
 ghost use Rattle.std.specs.List.{list_any};
-ghost use Rattle.outside_io.specs.declared.profile.Profile.TheVariants.{Main};
+ghost use Rattle.link_channels.specs.declared.profile.Profile.TheVariants.{Main};
 ghost use Rattle.receiver_rules.specs.declared.limits.Limits.{Limits};
 ghost use Rattle.rist_wire.specs.Among.{ArePorts};
 ghost use Rattle.rist_desk.specs.Desk.{is_cut_off};
 ghost use Rattle.rist_split.specs.Outputs.{IsMade, SplitsInto};
 ghost use Rattle.rist_split.specs.Inside.Making.{is_cut};
 
-use crate::made::Made;
+use crate::made::SplitMemory;
 use crate::seating::{seated, unseated};
 use crate::splitting::{SplitEnd, split};
 use capture_walk::{Records, WalkBad};
@@ -20,7 +20,7 @@ use rist_fan::{Came, Fan};
 /// the answer exactly where a write to some output failed, which ends that output alone: the others go on to the end of the
 /// records. Else the answer is how the records ended. The sinks stand in their list again. No memory is taken.
 pub fn split_into<R: Records, K: Sink + Drop>(
-    made: Made<K>,
+    made: SplitMemory<K>,
     ports: &[u16],
     reader: &mut R,
     sinks: &mut Vec<K>,
@@ -39,7 +39,7 @@ pub fn split_into<R: Records, K: Sink + Drop>(
         sinks.old.items sinks.new.items result }
     ensures places { length sinks.new.items ≡ length sinks.old.items }
 {
-    let Made {
+    let SplitMemory {
         opener,
         receivers,
         came,

@@ -1,7 +1,7 @@
 //! The split: a walk whose visitor holds the receivers of several flows.
 ghost use Rattle.std.specs.Prelude.{◌≡◌, ◌∷◌, [], false, length, vec_len, Err, IsErrOf};
 ghost use Rattle.outside_io.specs.Causes.{HasReadCause, fault_by};
-ghost use Rattle.outside_io.specs.declared.profile.Profile.TheVariants.{Main};
+ghost use Rattle.link_channels.specs.declared.profile.Profile.TheVariants.{Main};
 ghost use Rattle.capture_walk.specs.Causes.{walk_fault};
 ghost use Rattle.capture_walk.specs.Leaves.{Brought};
 ghost use Rattle.capture_walk.specs.declared.walk_bad.WalkBad.TheVariants.{ReadFault, WriteFault, Memory};

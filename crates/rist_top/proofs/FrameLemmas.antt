@@ -1,15 +1,15 @@
 -- What a sending leaves as it stood, part by part.
 use Rattle.std.proofs.Common.{◌≡◌, ◌∙◌, ◌⊎◌, ◌<◌, ◌≤◌, ℕ, List, [], ◌∷◌, length, map, get_or, Bool, is_some, sym, ap, subst, arith}
 use mathlib.Core.Logic.{inl, inr}
-use Rattle.outside_io.specs.declared.profile.Profile.{Profile}
+use Rattle.link_channels.specs.declared.profile.Profile.{Profile}
 use Rattle.outside_net.specs.declared.link_spec.LinkSpec.{LinkSpec}
 use Rattle.outside_net.specs.declared.link_spec.Role.TheVariants.{Sends}
 use Rattle.outside_host.specs.declared.host.Opened.{Opened}
 use Rattle.outside_host.specs.Shelf.{Shelf, HandsOut, TakesBack, ChangesSources}
 use Rattle.outside_host.specs.declared.host.Place.{Place}
 use Rattle.outside_host.specs.declared.host.Place.TheVariants.{Here, Back}
-use Rattle.host_links.specs.Opening.{AreOut, AreBack, AreAsTheyWere}
-use Rattle.host_links.proofs.OpeningLemmas.{below}
+use Rattle.outside_host.specs.Links.{AreOut, AreBack, AreAsTheyWere}
+use Rattle.outside_host.proofs.LinkOpeningLemmas.{below}
 use Rattle.rist_words.specs.CommandLine.{SendCommand}
 use Rattle.rist_top.specs.Places.{CameBack, IsAsItWas}
 use Rattle.rist_top.specs.Inside.Answers.{KeepsFiles}

@@ -7,13 +7,13 @@ use Rattle.outside_io.specs.Causes.{Rose}
 use Rattle.outside_host.specs.Shelf.{Shelf, ChangesLinks, ChangesOpening}
 use Rattle.outside_host.specs.declared.host.Place.{Place}
 use Rattle.outside_host.specs.declared.host.Place.TheVariants.{Here, Back}
-use Rattle.host_links.specs.Opening.{AreAsTheyWere}
+use Rattle.outside_host.specs.Links.{AreAsTheyWere}
 use Rattle.psk_seal.specs.Sealer.{SealerState}
 use Rattle.rist_wire.specs.declared.session.Session.{Session}
-use Rattle.rist_sender.specs.Links.{Line}
+use Rattle.outside_net.specs.Links.{LinkTells}
 use Rattle.rist_sender.specs.declared.settings.Settings.{Settings as SenderSettings}
-use Rattle.rist_sender.specs.declared.send_bad.SendBad.{SendBad}
-use Rattle.rist_sender.specs.declared.send_bad.SendBad.TheVariants as bads
+use Rattle.sender_rules.specs.declared.send_bad.SendBad.{SendBad}
+use Rattle.sender_rules.specs.declared.send_bad.SendBad.TheVariants as bads
 use Rattle.rist_ends.specs.declared.counts.Counts.{Counts}
 use Rattle.rist_ends.specs.declared.settings.Settings.{Settings as ReceiverSettings}
 use Rattle.rist_compare.specs.declared.tear.Tear.{Tear}
@@ -214,13 +214,13 @@ torn_by tear endings.Done put (Some bads.Spent) ends = absurd (cc (ends))
 torn_by tear endings.Done put (Some bads.LinksDown) ends = absurd (cc (ends))
 
 -- one of the links behind the first ones, as it shows itself
-shown_at : {L : Type 0} (line : Line L) (xs : List L) (n k : ℕ) (x : L) (d : LinkState) → slice_get xs (n + k) ≡ Some x → k < length (drop n xs)
+shown_at : {L : Type 0} (line : LinkTells L) (xs : List L) (n k : ℕ) (x : L) (d : LinkState) → slice_get xs (n + k) ≡ Some x → k < length (drop n xs)
     → slice_index_or (map (shown line) (drop n xs)) k d ≡ shown line x
 shown_at line xs n k x d here less =
     get_or-map (shown line) (drop n xs) k x d less ∙ ap (shown line) (get_or-drop n xs k x ∙ get_or_from_slice_get xs (n + k) x x here)
 
 -- where all of them are down, the count of each rose
-rose_behind : {L : Type 0} (line : Line L) (why : Option SendBad) (first now : List LinkState) (were are : List L) (n k : ℕ) (was is : L) → why ≡ Some bads.LinksDown → HasRisen why first now
+rose_behind : {L : Type 0} (line : LinkTells L) (why : Option SendBad) (first now : List LinkState) (were are : List L) (n k : ℕ) (was is : L) → why ≡ Some bads.LinksDown → HasRisen why first now
     → first ≡ map (shown line) (drop n were) → now ≡ map (shown line) (drop n are) → k < length (drop n were) → k < length (drop n are)
     → slice_get were (n + k) ≡ Some was → slice_get are (n + k) ≡ Some is → Rose (line.faults was) (line.faults is)
 rose_behind line why first now were are n k was is down risen a b less later here there =
@@ -317,6 +317,6 @@ pub gated_same : {I O E L C : Type 0} (tells : Tells I O E) (live : TellsLive L 
     → Gated tells live old new c status → Gated tells live old new d status
 gated_same tells live old new c d status same gated = subst (λ x. Gated tells live old new x status) same gated
 
-pub gating_same : {I O E L C : Type 0} (tells : Tells I O E) (line : Line L) (old new : Shelf I O E L C) (c d : GateCommand) (status : Status) → c ≡ d
+pub gating_same : {I O E L C : Type 0} (tells : Tells I O E) (line : LinkTells L) (old new : Shelf I O E L C) (c d : GateCommand) (status : Status) → c ≡ d
     → CompletesGating tells line old new c status → CompletesGating tells line old new d status
 gating_same tells line old new c d status same completes = subst (λ x. CompletesGating tells line old new x status) same completes

@@ -13,19 +13,19 @@ use Rattle.rist_desk.specs.declared.worker.Worker.{Worker}
 use Rattle.rist_desk.specs.Serving.{ServesOn}
 use Rattle.rist_desk.specs.Inside.Going.{is_link_failure}
 use Rattle.rist_recv.specs.declared.ending.Ending.{Ending}
-use Rattle.rist_sender.specs.Links.{Line}
+use Rattle.outside_net.specs.Links.{LinkTells}
 use Rattle.rist_recv.specs.declared.ending.Ending.TheVariants as endings
 use Rattle.rist_recv.specs.Endings.{all_workers, is_link_failed, is_write_fault}
 use Rattle.rist_recv.specs.Run.{EndsAs, Receives}
 use Rattle.rist_recv.specs.Setup.{Setup as ReceiveSetup, given_to}
-use Rattle.rist_desk.specs.declared.worker.Limits.{Limits as WorkerLimits}
+use Rattle.rist_desk.specs.declared.worker.ServingLimits.{ServingLimits as WorkerLimits}
 use Rattle.rist_ends.specs.declared.counts.Counts.{Counts}
 use Rattle.rist_recv.specs.Workers.{ToldTrace, link_of, told_trace}
 use Rattle.rist_words.specs.CommandLine.{RecvCommand}
 use Rattle.rist_top.specs.Causes.{CanRefuse}
 use Rattle.rist_top.specs.Complete.{CompletesReceiving, IsHeard, NoWriteFailed, StaysUp}
 use Rattle.rist_top.specs.Objects.{Tells}
-use Rattle.rist_top.specs.Received.{Received, receive_status, link_tells}
+use Rattle.rist_top.specs.Received.{Received, receive_status}
 use Rattle.rist_top.specs.Sealing.{FailedAt}
 use Rattle.rist_top.specs.Sent.{TellsLive}
 use Rattle.rist_top.specs.Sessions.{setup_received, limits_received}
@@ -36,7 +36,7 @@ use Rattle.rist_top.proofs.WholeLemmas.{is_refused}
 same_failure : (e : Ended) → is_link_failed (Some e) ≡ is_link_failure (Some e)
 same_failure ends.End = refl
 same_failure ends.Turns = refl
-same_failure ends.Quiet = refl
+same_failure ends.Idle = refl
 same_failure ends.Failed = refl
 same_failure ends.Stopped = refl
 same_failure ends.WriteFault = refl
@@ -58,9 +58,9 @@ link_at ws links i w are less here =
     ap (λ l. get_or l i w.link) (sym are) ∙ (get_or-map link_of ws i w w.link less ∙ ap link_of (get_or_from_slice_get ws i w w here))
 
 -- where each link failed, the count of each rose
-pub failed_at : {L C : Type 0} (moments : C → Option (ℕ → ℕ)) (line : Line L) (s : ReceiveSetup) (limits : WorkerLimits) (links_were links_are : List L) (clocks_were clocks_are : List C)
+pub failed_at : {L C : Type 0} (moments : C → Option (ℕ → ℕ)) (line : LinkTells L) (s : ReceiveSetup) (limits : WorkerLimits) (links_were links_are : List L) (clocks_were clocks_are : List C)
     (contents_were contents_are : Option (List ℕ)) (faults_were faults_are : ℕ) (counts : Counts) (ending : Ending)
-    (run : Receives moments (link_tells line) s limits links_were links_are clocks_were clocks_are contents_were contents_are faults_were faults_are counts ending)
+    (run : Receives moments line s limits links_were links_are clocks_were clocks_are contents_were contents_are faults_were faults_are counts ending)
     → all_workers is_link_failed run.are ≡ true → (place : ℕ) → place < length links_were
     → (was : L) × (is : L) × (get_or links_were place was ≡ was) × (get_or links_are place is ≡ is) × Rose (line.faults was) (line.faults is)
 failed_at {L} {C} moments line s limits links_were links_are clocks_were clocks_are contents_were contents_are faults_were faults_are counts ending run failed place among =
@@ -69,7 +69,7 @@ failed_at {L} {C} moments line s limits links_were links_are clocks_were clocks_
     let later : place < length run.are = subst (λ n. place < n) (sym run.as_many) less in
     let was = at_place run.were place less in
     let is = at_place run.are place later in
-    let served : ServesOn (given_to s contents_were faults_were) moments (link_tells line) told_trace limits place was.0 is.0 = run.served place was.0 is.0 was.1 is.1 in
+    let served : ServesOn (given_to s contents_were faults_were) moments line told_trace limits place was.0 is.0 = run.served place was.0 is.0 was.1 is.1 in
     let end : is_link_failed (Some served.made.end) ≡ true =
     ap is_link_failed (sym served.made.ended) ∙ (ap (λ (w : Worker L C ToldTrace). is_link_failed w.end) (sym (get_or_from_slice_get run.are place is.0 is.0 is.1))
     ∙ AllPass-from_list_all (λ (w : Worker L C ToldTrace). is_link_failed w.end) run.are failed place is.0 later) in
@@ -128,6 +128,6 @@ pub received_same : {I O E L C : Type 0} (tells : Tells I O E) (live : TellsLive
     → Received tells live old new c status → Received tells live old new d status
 received_same tells live old new c d status same received = subst (λ x. Received tells live old new x status) same received
 
-pub completes_same : {I O E L C : Type 0} (tells : Tells I O E) (line : Line L) (old new : Shelf I O E L C) (c d : RecvCommand) (status : Status) → c ≡ d
+pub completes_same : {I O E L C : Type 0} (tells : Tells I O E) (line : LinkTells L) (old new : Shelf I O E L C) (c d : RecvCommand) (status : Status) → c ≡ d
     → CompletesReceiving tells line old new c status → CompletesReceiving tells line old new d status
 completes_same tells line old new c d status same completes = subst (λ x. CompletesReceiving tells line old new x status) same completes

@@ -10,7 +10,7 @@ use Rattle.outside_host.specs.Shelf.{Shelf}
 use Rattle.outside_host.specs.declared.host.Place.TheVariants.{Here}
 use Rattle.rist_ends.specs.declared.counts.Counts.{Counts}
 use Rattle.rist_desk.specs.declared.step.Step.{Step}
-use Rattle.rist_desk.specs.declared.worker.Limits.{Limits as WorkerLimits}
+use Rattle.rist_desk.specs.declared.worker.ServingLimits.{ServingLimits as WorkerLimits}
 use Rattle.rist_desk.specs.declared.worker.Worker.{Worker}
 use Rattle.rist_desk.specs.Desk.{DeskState, Given}
 use Rattle.rist_desk.specs.Items.{Planned, erased}
@@ -25,14 +25,14 @@ use Rattle.rist_recv.specs.Workers.{ToldTrace, clock_of, link_of, told_trace}
 use Rattle.rist_compare.specs.Tears.{Agree}
 use Rattle.rist_gateway.specs.declared.ending.GateEnding.{GateEnding}
 use Rattle.rist_gateway.specs.Run.{EndsGate}
-use Rattle.rist_sender.specs.declared.send_bad.SendBad.{SendBad}
-use Rattle.rist_sender.specs.declared.send_bad.SendBad.TheVariants as bads
+use Rattle.sender_rules.specs.declared.send_bad.SendBad.{SendBad}
+use Rattle.sender_rules.specs.declared.send_bad.SendBad.TheVariants as bads
 use Rattle.rist_words.specs.CommandLine.{GateCommand, RecvCommand}
 use Rattle.rist_top.specs.Causes.{CanRefuse}
 use Rattle.rist_top.specs.Objects.{Tells}
 use Rattle.rist_top.specs.Gated.{Gated, gate_status}
 use Rattle.rist_top.specs.Reached.{AreOfLink, GatesReached, IsBrought, IsPlayedOut, ReceivesReached}
-use Rattle.rist_top.specs.Received.{Received, link_tells, receive_status}
+use Rattle.rist_top.specs.Received.{Received, receive_status}
 use Rattle.rist_top.specs.Sent.{TellsLive}
 use Rattle.rist_top.specs.Sessions.{limits_received, limits_served, setup_gated, setup_received}
 use Rattle.rist_top.specs.declared.status.Status.{Status}
@@ -85,7 +85,7 @@ part_at part ws xs place w x are here is =
 
 module _ {L C : Type 0} (live : TellsLive L C) (s : ReceiveSetup) (limits : WorkerLimits) (links_were links_are : List L) (clocks_were clocks_are : List C)
     (contents_were contents_are : Option (List ℕ)) (faults_were faults_are : ℕ) (counts : Counts) (ending : Ending)
-    (run : Receives live.moments (link_tells live.line) s limits links_were links_are clocks_were clocks_are contents_were contents_are faults_were faults_are counts ending)
+    (run : Receives live.moments live.line s limits links_were links_are clocks_were clocks_are contents_were contents_are faults_were faults_are counts ending)
     (tells_it : s.tells ≡ true) where
   -- the list of a worker is what its link brought
   pub brought : (place : ℕ) (link : L) (clock : C) (steps : List Step) → slice_index_or links_were place link ≡ link → slice_index_or clocks_were place clock ≡ clock
@@ -100,7 +100,7 @@ module _ {L C : Type 0} (live : TellsLive L C) (s : ReceiveSetup) (limits : Work
       let old : Worker L C ToldTrace = was.0 in
       let begun : IsNewWorker s old =
       subst (λ w. IsNewWorker s w) (get_or_from_slice_get run.were place old old was.1) (All-get_or (IsNewWorker s) run.were place old before run.begun) in
-      let served : ServesOn (given_to s contents_were faults_were) live.moments (link_tells live.line) told_trace limits place old new = run.served place old new was.1 is.1 in
+      let served : ServesOn (given_to s contents_were faults_were) live.moments live.line told_trace limits place old new = run.served place old new was.1 is.1 in
       let same_link : old.link ≡ link = part_at link_of run.were links_were place old link run.links_had was.1 link_is in
       let same_clock : old.clock ≡ clock = part_at clock_of run.were clocks_were place old clock run.clocks_had was.1 clock_is in
       let fed : IsFeed f old.opener place limits (live.moments old.clock) (live.line.reads old.link) =

@@ -5,14 +5,15 @@ use Rattle.std.specs.Prelude.{Result, Ok, Err, Bool}
 use Rattle.outside_host.specs.Shelf.{Shelf}
 use Rattle.outside_host.specs.declared.host.Place.{Place}
 use Rattle.outside_host.specs.declared.host.Place.TheVariants.{Here, Back}
-use Rattle.host_links.specs.Opening.{AreOut, AreBack, AreAsTheyWere}
-use Rattle.host_links.proofs.OpeningLemmas.{all_as_they_were}
+use Rattle.outside_host.specs.Links.{AreOut, AreBack, AreAsTheyWere}
+use Rattle.outside_host.proofs.LinkOpeningLemmas.{all_as_they_were}
 use Rattle.psk_seal.specs.Sealer.{SealerState}
-use Rattle.rist_sender.specs.Links.{Line}
+use Rattle.outside_net.specs.Links.{LinkTells}
 use Rattle.rist_sender.specs.Sender.{SenderState}
 use Rattle.rist_send.specs.Run.{setup_of}
 use Rattle.rist_send.specs.Sending.{SendsSource}
-use Rattle.rist_send.specs.Served.{Outside, AreServed, Runs, new_run}
+use Rattle.rist_sender.specs.Served.{AreServed}
+use Rattle.rist_send.specs.Served.{Outside, Runs, new_run}
 use Rattle.rist_send.specs.declared.fault.SendFault.{SendFault}
 use Rattle.rist_send.specs.declared.fault.SendFault.TheVariants as faults
 use Rattle.rist_send.specs.declared.settings.SendSettings.{SendSettings}
@@ -42,7 +43,7 @@ same_setup : (c : SendCommand) (s : SenderState) (links : ℕ) → IsSetTo s c �
 same_setup c s links set is = rw (set.flow, set.first, set.hold, set.size, set.bonding, set.session, is) refl
 
 -- what a run left is what the line asks for
-pub sends_as : {L : Type 0} (line : Line L) (c : SendCommand) (sealer : Option SealerState) (pace : SendSettings) (s after : SenderState) (had has : Outside) (was is : List L) (end : Result Unit SendFault) (status : Status)
+pub sends_as : {L : Type 0} (line : LinkTells L) (c : SendCommand) (sealer : Option SealerState) (pace : SendSettings) (s after : SenderState) (had has : Outside) (was is : List L) (end : Result Unit SendFault) (status : Status)
     → pace ≡ pace_with c → IsSetTo s c → length was ≡ length c.links → status ≡ send_status end
     → Runs line s after has was is (no_work sealer) (SendsSource (setup_of pace s (length was)) end (new_run (no_work sealer) had))
     → SendsAs line c sealer had has was is status
@@ -166,7 +167,7 @@ drawn_between tells sealer old mid later new e f drawn =
     subst (λ x. IfSome sealer (DrawnFirst tells x new)) e (subst (λ x. IfSome sealer (DrawnFirst tells mid x)) (sym f) drawn)
 
 -- what a run left, under the names of its caller
-pub sends_same : {I L C : Type 0} (line : Line L) (moments : C → Option (ℕ → ℕ)) (remaining : I → Option (List ℕ)) (c : SendCommand) (sealer : Option SealerState) (had : Outside) (was : List L)
+pub sends_same : {I L C : Type 0} (line : LinkTells L) (moments : C → Option (ℕ → ℕ)) (remaining : I → Option (List ℕ)) (c : SendCommand) (sealer : Option SealerState) (had : Outside) (was : List L)
     (clock clock' : C) (source source' : I) (links links' : List L) (status status' : Status) → clock' ≡ clock → source' ≡ source → links' ≡ links → status' ≡ status
     → SendsAs line c sealer had (record { moments = moments clock; octets = remaining source; answers = map line.reads links }) was links status
     → SendsAs line c sealer had (record { moments = moments clock'; octets = remaining source'; answers = map line.reads links' }) was links' status'

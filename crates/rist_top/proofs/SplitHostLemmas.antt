@@ -10,7 +10,7 @@ use Rattle.outside_io.specs.Told.{IsEmpty}
 use Rattle.outside_host.specs.Shelf.{ChangesSinks, ChangesSources, HandsOut, Shelf, TakesBack}
 use Rattle.outside_host.specs.declared.host.Place.TheVariants.{Here, Out, Back}
 use Rattle.capture_walk.specs.Leaves.{passage as passed}
-use Rattle.host_sinks.specs.Sinks.{AreBack, AreOut}
+use Rattle.outside_host.specs.Sinks.{AreBack, AreOut}
 use Rattle.rist_words.specs.CommandLine.{Replay, SplitCommand, replay_at}
 use Rattle.rist_words.specs.Ranges.{IsInSplit}
 use Rattle.rist_top.specs.Causes.{fault_of}

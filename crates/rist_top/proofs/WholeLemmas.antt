@@ -8,12 +8,13 @@ use Rattle.outside_host.specs.declared.host.Place.{Place}
 use Rattle.outside_host.specs.declared.host.Place.TheVariants.{Here, Back}
 use Rattle.psk_seal.specs.Sealer.{SealerState}
 use Rattle.sender_rules.specs.Sendings.{sent_packets}
-use Rattle.rist_sender.specs.Links.{Line}
+use Rattle.outside_net.specs.Links.{LinkTells}
 use Rattle.rist_sender.specs.History.{Event, packet_count, sendings_of}
 use Rattle.rist_send.specs.Given.{joined, GivesFirst, Gives}
 use Rattle.rist_send.specs.declared.fault.SendFault.{SendFault}
 use Rattle.rist_send.specs.declared.fault.SendFault.TheVariants as faults
-use Rattle.rist_send.proofs.DownLemmas.{down_at_end, down_rose}
+use Rattle.rist_sender.proofs.DownLemmas.{down_rose}
+use Rattle.rist_send.proofs.DownLemmas.{down_at_end}
 use Rattle.rist_send.proofs.PacketLemmas.{sent_as_packets, as_many, few_given}
 use Rattle.rist_send.proofs.UnsealedLemmas.{far_at_end}
 use Rattle.rist_words.specs.CommandLine.{Send, SendCommand}
@@ -55,7 +56,7 @@ not_long b left given bound g =
     omega (arith, bound, g.drops.1, ap length g.whole, length-append (joined given) (g.dropped ++ g.rest), length-append g.dropped g.rest)
 
 -- a link that stays up isn't one whose count rose
-not_up : {L : Type 0} (line : Line L) (old new : ℕ → Place L) (was is : List L) (place : ℕ) → place < length was
+not_up : {L : Type 0} (line : LinkTells L) (old new : ℕ → Place L) (was is : List L) (place : ℕ) → place < length was
     → ((d : L) → old place ≡ Here (get_or was place d)) → ((d : L) → new place ≡ Back (get_or is place d))
     → ((d : L) → Rose (line.faults (get_or was place d)) (line.faults (get_or is place d)))
     → ((x y : L) → old place ≡ Here x → new place ≡ Back y → Rose (line.faults x) (line.faults y) → ⊥) → ⊥

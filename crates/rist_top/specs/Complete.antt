@@ -6,7 +6,7 @@ use Rattle.outside_host.specs.declared.host.Place.{Place}
 use Rattle.outside_host.specs.declared.host.Place.TheVariants.{Here, Back}
 use Rattle.capture_file.specs.Capture.{Record}
 use Rattle.capture_walk.specs.Form.{Form, IsFile}
-use Rattle.rist_sender.specs.Links.{Line}
+use Rattle.outside_net.specs.Links.{LinkTells}
 use Rattle.rist_words.specs.CommandLine.{CommandLine, Replay, Show, Count, Pack, Split, Send, Recv, Gate, Drill}
 use Rattle.rist_words.specs.CommandLine.{SendCommand, RecvCommand, GateCommand}
 use Rattle.rist_compare.specs.declared.tear.Tear.{Tear}
@@ -52,7 +52,7 @@ Completes {I} tells old new c status =
     → NoneFailed tells old new c → (status ≡ statuses.Done) ⊎ (status ≡ statuses.Memory)
 
 -- one of so many links stays up: the count of its failed calls didn't rise
-pub record StaysUp {L : Type 0} (line : Line L) (old new : ℕ → Place L) (count : ℕ) : Type 0 where
+pub record StaysUp {L : Type 0} (line : LinkTells L) (old new : ℕ → Place L) (count : ℕ) : Type 0 where
   pub place : ℕ
   pub among : place < count
   pub up : (was is : L) → old place ≡ Here was → new place ≡ Back is → Rose (line.faults was) (line.faults is) → ⊥
@@ -66,7 +66,7 @@ IsWhole c status =
     ⊎ (((status ≡ statuses.Spent) × (is_some c.session.pass ≡ true)) ⊎ (status ≡ statuses.Memory)))
 
 -- a sending of such a source in which nothing failed but links, of which one stays up, ends so
-abbrev pub CompletesSending : {I O E L C : Type 0} → Tells I O E → Line L → Shelf I O E L C → Shelf I O E L C
+abbrev pub CompletesSending : {I O E L C : Type 0} → Tells I O E → LinkTells L → Shelf I O E L C → Shelf I O E L C
     → SendCommand → Status → Type 0
 CompletesSending {I} tells line old new c status =
     (source : I) (b : List ℕ) → old.sources c.source ≡ Here source → tells.remaining source ≡ Some b → length b ≤ 2 ^ 40
@@ -91,13 +91,13 @@ IsHeard c status =
     ⊎ ((status ≡ statuses.Spent) ⊎ ((status ≡ statuses.Memory) ⊎ ((c.serving.keep ≢ 0) × IsKeptBadly status)))
 
 -- a receiving in which nothing failed but links, of which one stays up, ends so
-abbrev pub CompletesReceiving : {I O E L C : Type 0} → Tells I O E → Line L → Shelf I O E L C → Shelf I O E L C
+abbrev pub CompletesReceiving : {I O E L C : Type 0} → Tells I O E → LinkTells L → Shelf I O E L C → Shelf I O E L C
     → RecvCommand → Status → Type 0
 CompletesReceiving tells line old new c status =
     NoWriteFailed tells old new c → StaysUp line old.links new.links (length c.links) → IsHeard c status
 
 -- of so many links behind the first ones one stays up
-pub record StaysUpBehind {L : Type 0} (line : Line L) (old new : ℕ → Place L) (first count : ℕ) : Type 0 where
+pub record StaysUpBehind {L : Type 0} (line : LinkTells L) (old new : ℕ → Place L) (first count : ℕ) : Type 0 where
   pub place : ℕ
   pub among : place < count
   pub up : (was is : L) → old (first + place) ≡ Here was → new (first + place) ≡ Back is
@@ -110,9 +110,9 @@ IsGateWhole c status =
     (status ≡ statuses.Done)
     ⊎ ((status ≡ statuses.Spent) ⊎ ((status ≡ statuses.Memory) ⊎ ((c.serving.keep ≢ 0) × IsKeptBadly status)))
 
--- a gateway in which nothing failed but links, of which one that is received on and one that is sent on stay up, ends
--- so
-abbrev pub CompletesGating : {I O E L C : Type 0} → Tells I O E → Line L → Shelf I O E L C → Shelf I O E L C
+-- a gateway in which nothing failed but links, of which one that is received on and one that is sent on stay up, comes
+-- to a whole end
+abbrev pub CompletesGating : {I O E L C : Type 0} → Tells I O E → LinkTells L → Shelf I O E L C → Shelf I O E L C
     → GateCommand → Status → Type 0
 CompletesGating tells line old new c status =
     (FailedAt tells old new → ⊥) → StaysUp line old.links new.links (length c.inputs)

@@ -18,7 +18,8 @@ use Rattle.rist_top.specs.Untouched.{LeavesAtMemory, Untouched}
 use Rattle.rist_top.specs.declared.status.Status.{Status}
 use Rattle.rist_top.specs.declared.status.Status.TheVariants as statuses
 
--- these words did this to a host that tells, whose count of failed calls stood so before and after
+-- What a command over files or a sending did to a host that tells, whose count of failed calls stood so before and
+-- after.
 pub record Does {A I O E L C : Type 0} (told : Bool) (tells : Tells I O E) (live : TellsLive L C)
     (words : List (String A)) (faults_were faults_are : ℕ) (old new : Shelf I O E L C) (status : Status) : Type 0 where
   -- a line touches only what it speaks of
@@ -35,7 +36,7 @@ pub record Does {A I O E L C : Type 0} (told : Bool) (tells : Tells I O E) (live
   -- what a replay leaves is the exact release set, in sent numbers
   pub reached : (c : ReplayCommand) → IsLine words (Replay c) → IsFresh told old → status ≡ statuses.Done
       → WritesReached tells old new c
-  -- and where flows restart that of one epoch after another
+  -- where flows restart, what a replay leaves is the exact release set of one epoch after another
   pub epochs : (c : ReplayCommand) → IsLine words (Replay c) → IsFresh told old → status ≡ statuses.Done
       → WritesEpochs tells old new c
   -- A source is sent onto the links of its line by the first clock, and source, links and clock come back; or nothing
@@ -53,9 +54,9 @@ pub record Does {A I O E L C : Type 0} (told : Bool) (tells : Tells I O E) (live
   pub links_after : IsTrue told → IfSending words (λ c. OpensLinksAfter old new c)
   -- random words fail a sending only where the first of them failed
   pub random : IsUnused told old → status ≡ statuses.EntropyFault → IfSending words (λ c. FailedAt tells old new)
-  -- where no call fails, a capture is taken to its end, and so is a source
+  -- where no call fails, a capture, or the source of a packing, is taken to its end
   pub complete : IsFresh told old → (Rose faults_were faults_are → ⊥)
       → IfFiles words (λ c. Completes tells old new c status)
-  -- so is the source of a sending where one link stays up, unless turns or pairs are spent before
+  -- the source of a sending is taken to its end where one link stays up, unless turns or pairs are spent before
   pub whole : IsUnused told old → (Rose faults_were faults_are → ⊥)
       → IfSending words (λ c. CompletesSending tells live.line old new c status)

@@ -15,8 +15,7 @@ use Rattle.rist_top.specs.Sent.{IsUnused, TellsLive}
 use Rattle.rist_top.specs.declared.status.Status.{Status}
 use Rattle.rist_top.specs.declared.status.Status.TheVariants as statuses
 
--- these words, where they are a gateway, did this to an unused host that tells, whose count of failed calls stood so
--- before and after
+-- What a gateway did to an unused host that tells, whose count of failed calls stood so before and after.
 pub record DoesGate {A I O E L C : Type 0} (told : Bool) (tells : Tells I O E) (live : TellsLive L C)
     (words : List (String A)) (faults_were faults_are : ℕ) (old new : Shelf I O E L C) (status : Status) : Type 0 where
   -- what comes on its first links goes on over the others, links and clocks come back, and the receiver's counts reach

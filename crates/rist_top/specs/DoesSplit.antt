@@ -3,7 +3,7 @@ use Rattle.std.specs.Prelude.{◌≡◌, ◌≢◌, ◌⊎◌, ◌<◌, ℕ, Lis
 use Rattle.outside_io.specs.Causes.{Rose}
 use Rattle.outside_host.specs.Shelf.{Shelf, Stays}
 use Rattle.outside_host.specs.declared.host.Place.TheVariants.{Here, Back}
-use Rattle.host_sinks.specs.Sinks.{AreOpenedInOrder, StayOthers}
+use Rattle.outside_host.specs.Sinks.{AreOpenedInOrder, StayOthers}
 use Rattle.rist_words.specs.CommandLine.{SplitCommand, replay_at}
 use Rattle.rist_top.specs.Causes.{CanRefuse}
 use Rattle.rist_top.specs.Complete.{IsWholeFile}
@@ -76,7 +76,7 @@ pub record DoesSplit {I O E L C : Type 0} (told : Bool) (tells : Tells I O E) (c
   -- each output holds the exact release set of its port, in sent numbers
   pub reached : IsTrue told → status ≡ statuses.Done → (v : ℕ) → v < length c.ports
       → WritesReached tells old new (replay_at c v)
-  -- and where flows restart that of one epoch after another
+  -- where flows restart, each output holds the exact release set of one epoch after another
   pub epochs : IsTrue told → status ≡ statuses.Done → (v : ℕ) → v < length c.ports
       → WritesEpochs tells old new (replay_at c v)
   -- the run touches only what its line speaks of, and opens that in order

@@ -1,7 +1,7 @@
 -- What a gateway leaves.
 use Rattle.std.specs.Prelude.{◌≡◌, ◌+◌, List, length, Option, Some}
 use Rattle.outside_host.specs.Shelf.{Shelf}
-use Rattle.host_links.specs.Opening.{AreAsTheyWere}
+use Rattle.outside_host.specs.Links.{AreAsTheyWere}
 use Rattle.psk_seal.specs.Sealer.{SealerState}
 use Rattle.rist_ends.specs.declared.counts.Counts.{Counts}
 use Rattle.rist_gateway.specs.declared.ending.GateEnding.{GateEnding}

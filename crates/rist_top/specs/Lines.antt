@@ -7,7 +7,7 @@ use Rattle.rist_help.specs.declared.Ask.{Ask}
 use Rattle.rist_words.specs.CommandLine.{CommandLine, Replay, Show, Count, Pack, Split, Send, Recv, Gate, Drill}
 use Rattle.rist_words.specs.CommandLine.{SplitCommand, SendCommand, RecvCommand, GateCommand, DrillCommand, line_of}
 
--- they are this line
+-- the words are this line
 abbrev pub IsLine : {A : Type 0} → List (String A) → CommandLine → Type 0
 IsLine words c = line_of (map string_bytes words) ≡ Some c
 
@@ -23,7 +23,7 @@ IsPlain (Recv c) = ⊥
 IsPlain (Gate c) = ⊥
 IsPlain (Drill c) = Unit {0}
 
--- a line, if its command is such a one
+-- a line, if its command waits for nobody
 abbrev pub plain_line : Option CommandLine → Option CommandLine
 plain_line None = None
 plain_line (Some (Replay c)) = Some (Replay c)
@@ -36,19 +36,19 @@ plain_line (Some (Recv c)) = None
 plain_line (Some (Gate c)) = None
 plain_line (Some (Drill c)) = Some (Drill c)
 
--- they are no line whose command waits for nobody
+-- the words are no line whose command waits for nobody
 abbrev pub IsNoPlainLine : {A : Type 0} → List (String A) → Type 0
 IsNoPlainLine words = plain_line (line_of (map string_bytes words)) ≡ None
 
--- they are no line of a command
+-- the words are no line of a command
 abbrev pub IsNoLine : {A : Type 0} → List (String A) → Type 0
 IsNoLine words = line_of (map string_bytes words) ≡ None
 
--- they ask neither for help nor for the version
+-- the words ask neither for help nor for the version
 abbrev pub AsksNothing : {A : Type 0} → List (String A) → Type 0
 AsksNothing words = ask_of (map string_bytes words) ≡ None
 
--- P holds of what they ask for, if they do
+-- P holds of what the words ask for, if they ask
 abbrev pub IfAsk : {A : Type 0} → List (String A) → (Ask → Type 0) → Type 0
 IfAsk words P = (ask : Ask) → ask_of (map string_bytes words) ≡ Some ask → P ask
 

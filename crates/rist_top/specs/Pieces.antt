@@ -6,7 +6,7 @@ use Rattle.sender_rules.specs.Sendings.{sent_packets}
 use Rattle.rist_sender.specs.History.{Event, sendings_of}
 use Rattle.rist_send.specs.Given.{Gives}
 use Rattle.rist_send.specs.Packets.{AreSentAs}
-use Rattle.rist_send.specs.Served.{AreServed}
+use Rattle.rist_sender.specs.Served.{AreServed}
 use Rattle.rist_send.specs.declared.fault.SendFault.{SendFault}
 use Rattle.rist_words.specs.CommandLine.{SendCommand}
 use Rattle.rist_top.specs.Objects.{Tells}

@@ -16,7 +16,7 @@ use Rattle.rist_desk.specs.Serving.{IsFeed}
 use Rattle.rist_desk.specs.Turns.{Feed, steps_until}
 use Rattle.rist_recv.specs.Exact.{IsRunOf, IsRunOfAll, reached_payloads}
 use Rattle.rist_wire.specs.declared.session.Session.{Session}
-use Rattle.rist_desk.specs.declared.worker.Limits.{Limits as WorkerLimits}
+use Rattle.rist_desk.specs.declared.worker.ServingLimits.{ServingLimits as WorkerLimits}
 use Rattle.rist_words.specs.CommandLine.{GateCommand, RecvCommand}
 use Rattle.rist_top.specs.Gated.{Gated}
 use Rattle.rist_top.specs.Objects.{Tells}
@@ -33,7 +33,7 @@ IsPlayedOut status = (status ≡ statuses.Done) ⊎ (status ≡ statuses.LinksDo
 abbrev pub receive_limits : RecvCommand → Limits
 receive_limits c = limits_of (settings_received c)
 
--- likewise those of a gateway's
+-- the limits of a gateway's buffer, in ticks and packets
 abbrev pub gate_limits : GateCommand → Limits
 gate_limits c = limits_of (settings_with c.receiver)
 
@@ -51,7 +51,8 @@ pub record AreBroughtBy (f : Feed) (steps : List Step) : Type 0 where
   pub missing : List Step
   pub front : map (λ plan. plan.step) (steps_until f turns) ≡ map erased steps ++ missing
 
--- so of a link and its clock, at a place of a run in this session and with these limits, where both tell what they give
+-- Steps are those of a link at a place of a run in this session and with these limits, where the link and its clock
+-- tell what they give.
 abbrev pub AreOfLink : {L C : Type 0} → TellsLive L C → Session → WorkerLimits → ℕ → L → C → List Step → Type 0
 AreOfLink live session limits place link clock steps =
     (f : Feed) → IsFeed f session place limits (live.moments clock) (live.line.reads link) → AreBroughtBy f steps
@@ -85,8 +86,9 @@ pub record ReceivesReached {I O E L C : Type 0} (tells : Tells I O E) (live : Te
       → AreTransfersOf (receive_limits c) streams run
       → octets ≡ concat (payloads_of_epochs streams (sent_epochs (receive_limits c) streams run))
 
--- The same of a gateway: whenever the history of the links that are received on is such a run, the octets of the
--- payloads that its sender took, which it gave to the links that are sent on, are those that were reached.
+-- The headline of a gateway: there is one history of the steps of the links that are received on, such that, whenever
+-- it is a run of copies of p, the octets of the payloads that the gateway's sender took, and gave to the links that are
+-- sent on, are those of the payloads that were reached.
 pub record GatesReached {I O E L C : Type 0} (tells : Tells I O E) (live : TellsLive L C) (old new : Shelf I O E L C)
     (c : GateCommand) (status : Status) : Type 0 where
   pub gated : Gated tells live old new c status

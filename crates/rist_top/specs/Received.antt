@@ -5,11 +5,9 @@ use Rattle.outside_host.specs.Shelf.{Shelf}
 use Rattle.outside_host.specs.declared.host.Place.{Place}
 use Rattle.outside_host.specs.declared.host.Place.TheVariants.{Here, Back}
 use Rattle.outside_host.specs.declared.reception.Reception.{Reception}
-use Rattle.host_links.specs.Opening.{AreAsTheyWere}
+use Rattle.outside_host.specs.Links.{AreAsTheyWere}
 use Rattle.psk_seal.specs.Sealer.{SealerState}
-use Rattle.rist_sender.specs.Links.{Line}
 use Rattle.rist_ends.specs.declared.counts.Counts.{Counts}
-use Rattle.rist_desk.specs.Serving.{LinkTells}
 use Rattle.rist_recv.specs.declared.ending.Ending.{Ending}
 use Rattle.rist_recv.specs.declared.ending.Ending.TheVariants as endings
 use Rattle.rist_recv.specs.Run.{Receives}
@@ -31,11 +29,6 @@ receive_status endings.TraceFull = statuses.TraceFull
 receive_status (endings.Torn tear) = statuses.Torn tear
 receive_status endings.LinksDown = statuses.LinksDown
 receive_status endings.Done = statuses.Done
-
--- what a host's links tell, as a receiver's threads ask it
-abbrev pub link_tells : {L : Type 0} → Line L → LinkTells L
-link_tells line =
-    record { reads = line.reads; taken = line.taken; knows = line.knows; ends = line.ends; faults = line.faults }
 
 -- what a receiver counted, as a host takes it
 abbrev pub reception_of : Counts → Reception
@@ -59,7 +52,7 @@ pub record ReceivesAs {L C : Type 0} (live : TellsLive L C) (c : RecvCommand) (s
     (faults_were faults_are : ℕ) (counts : Counts) (status : Status) : Type 0 where
   pub ending : Ending
   pub answer : status ≡ receive_status ending
-  pub run : Receives live.moments (link_tells live.line) (setup_received c sealer) (limits_received c) links_were
+  pub run : Receives live.moments live.line (setup_received c sealer) (limits_received c) links_were
       links_are clocks_were clocks_are
       contents_were contents_are faults_were faults_are counts ending
 

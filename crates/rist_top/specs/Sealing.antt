@@ -51,7 +51,8 @@ pub record DrawnBoth {I O E : Type 0} (tells : Tells I O E) (old new : ℕ → P
   pub more : Draws between (tells.words drawn) second.nonces 16
   pub none : tells.word_faults drawn ≡ tells.word_faults words
 
--- they are, where there are two; and where there is one its own are, as those of a sealer alone
+-- The nonces of these sealers are drawn from the host's random words: where there are two, first those of one and then
+-- those of the other; where there is one, its own are the first.
 abbrev pub AreDrawn : {I O E : Type 0} → Tells I O E → (ℕ → Place E) → (ℕ → Place E) → Option SealerState
     → Option SealerState → Type 0
 AreDrawn tells old new None second = IfSome second (DrawnFirst tells old new)

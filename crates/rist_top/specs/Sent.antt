@@ -4,13 +4,14 @@ use Rattle.std.specs.Prelude.{Result, Ok, Err}
 use Rattle.outside_io.specs.Causes.{HasReadCause}
 use Rattle.outside_host.specs.Shelf.{Shelf}
 use Rattle.outside_host.specs.declared.host.Place.TheVariants.{Here, Back}
-use Rattle.host_links.specs.Opening.{AreAsTheyWere}
+use Rattle.outside_host.specs.Links.{AreAsTheyWere}
 use Rattle.psk_seal.specs.Sealer.{SealerState}
-use Rattle.rist_sender.specs.Links.{Line}
+use Rattle.outside_net.specs.Links.{LinkTells}
 use Rattle.rist_sender.specs.Calls.{Work}
 use Rattle.rist_send.specs.Run.{Run}
 use Rattle.rist_send.specs.Sending.{SendsSource}
-use Rattle.rist_send.specs.Served.{Outside, AreServed, new_run}
+use Rattle.rist_sender.specs.Served.{AreServed}
+use Rattle.rist_send.specs.Served.{Outside, new_run}
 use Rattle.rist_send.specs.declared.fault.SendFault.{SendFault}
 use Rattle.rist_send.specs.declared.fault.SendFault.TheVariants as faults
 use Rattle.rist_words.specs.CommandLine.{SendCommand}
@@ -34,11 +35,11 @@ send_status (Err faults.TurnsSpent) = statuses.TurnsSpent
 
 -- what links and clocks of a host tell
 pub record TellsLive (L C : Type 0) : Type 0 where
-  pub line : Line L
+  pub line : LinkTells L
   pub moments : C → Option (ℕ → ℕ)
 
 -- of links and clocks that tell this
-abbrev pub live_of : {L C : Type 0} → Line L → (C → Option (ℕ → ℕ)) → TellsLive L C
+abbrev pub live_of : {L C : Type 0} → LinkTells L → (C → Option (ℕ → ℕ)) → TellsLive L C
 live_of line moments = record { line = line; moments = moments }
 
 -- a host tells what stands on its shelf, and has handed out no random words, no link and no clock yet
@@ -54,7 +55,7 @@ no_work sealer = record { history = []; sealer = sealer; is_short = false }
 
 -- a source was sent onto links under a sealer, where there is one, and it ended so: clock, source and links have given
 -- just what the run took, and each link was given just the datagrams that the sender made for it
-pub record SendsAs {L : Type 0} (line : Line L) (c : SendCommand) (sealer : Option SealerState) (had has : Outside)
+pub record SendsAs {L : Type 0} (line : LinkTells L) (c : SendCommand) (sealer : Option SealerState) (had has : Outside)
     (was is : List L) (status : Status) : Type 0 where
   pub end : Result Unit SendFault
   pub answer : status ≡ send_status end

@@ -10,7 +10,7 @@ use Rattle.rist_pack.specs.declared.settings.PackSettings.{PackSettings}
 use Rattle.rist_words.specs.CommandLine as lines
 use Rattle.rist_ends.specs.Settings.{limits_of, muted_settings}
 use Rattle.rist_ends.specs.declared.settings.Settings.{Settings as ReceiverSettings}
-use Rattle.rist_desk.specs.declared.worker.Limits.{Limits as WorkerLimits}
+use Rattle.rist_desk.specs.declared.worker.ServingLimits.{ServingLimits as WorkerLimits}
 use Rattle.rist_recv.specs.Setup.{Setup as ReceiveSetup, setup_made}
 use Rattle.sender_rules.specs.Bonding.{Bonding, Duplicate, Share}
 use Rattle.rist_sender.specs.Calls.{Rules}
@@ -42,11 +42,11 @@ session_read s = session_with s false false
 abbrev pub replay_limits : ReplayCommand → Limits
 replay_limits c = limits_of (muted_settings c.delay c.span c.restart c.drift)
 
--- those of each receiver of a split
+-- the limits of each receiver of a split, in ticks and packets
 abbrev pub split_limits : SplitCommand → Limits
 split_limits c = limits_of (muted_settings c.delay c.span c.restart c.drift)
 
--- those of a counting's receiver
+-- the limits of a count's receiver, in ticks and packets
 abbrev pub count_limits : CountCommand → Limits
 count_limits c = limits_of (muted_settings c.delay c.span c.restart c.drift)
 
@@ -107,12 +107,12 @@ settings_received c = settings_with c.receiver
 abbrev pub steps_kept : Serving → Option ℕ
 steps_kept s = if s.keep == 0 then None else Some s.keep
 
--- likewise a receiving
+-- how many steps the lists of a receiving take at most, where its line limits them
 abbrev pub kept_steps : RecvCommand → Option ℕ
 kept_steps c = steps_kept c.serving
 
--- what its run is set to, under a sealer where there is one: its steps are told, with that limit or, in turns, with
--- none
+-- What the run of a receiving is set to, under a sealer where there is one: its steps are told, with that limit or, in
+-- turns, with none.
 abbrev pub setup_received : RecvCommand → Option SealerState → ReceiveSetup
 setup_received c sealer = setup_made (settings_received c) (session_read c.session) sealer (kept_steps c) true
 
@@ -120,7 +120,7 @@ setup_received c sealer = setup_made (settings_received c) (session_read c.sessi
 abbrev pub limits_served : Serving → WorkerLimits
 limits_served s = record { turns = s.turns; idle = 1000 * s.idle }
 
--- likewise those of a receiving
+-- when the workers of a receiving end
 abbrev pub limits_received : RecvCommand → WorkerLimits
 limits_received c = limits_served c.serving
 

@@ -12,7 +12,7 @@ use Rattle.capture_walk.specs.Leaves.{Leaves}
 use Rattle.capture_walk.specs.declared.walk_bad.WalkBad.{WalkBad}
 use Rattle.capture_walk.specs.declared.walk_bad.WalkBad.TheVariants as walks
 use Rattle.rist_replay.specs.Replay.{released_so_far, replayed}
-use Rattle.rist_count.specs.Counted.{counted}
+use Rattle.rist_replay.specs.Counted.{counted}
 use Rattle.rist_show.specs.Lines.{lines}
 use Rattle.rist_pack.specs.Packing.{Packs}
 use Rattle.rist_pack.specs.Capture.{packed_record, nonces_of}

@@ -2,7 +2,7 @@
 ghost use Rattle.std.specs.Prelude.{◌≡◌, ◌≢◌, ◌<◌, ◌+◌, IsTrue, IfOk, OnErr, length};
 ghost use Rattle.outside_io.specs.Causes.{HasOpenCause};
 ghost use Rattle.outside_host.specs.Shelf.{ChangesReport};
-ghost use Rattle.host_links.specs.Opening.{AreAsTheyWere};
+ghost use Rattle.outside_host.specs.Links.{AreAsTheyWere};
 ghost use Rattle.rist_gateway.specs.Setup.{IsGateMade, gate_setup_of};
 ghost use Rattle.rist_words.specs.Shown.{shown_gate};
 ghost use Rattle.rist_words.specs.Ranges.{IsInGate};
@@ -22,13 +22,12 @@ use crate::sessions::{session_of, settings_of};
 use crate::status::Status;
 use crate::telling::Telling;
 use bond_links::Bond;
-use host_links::{back_clocks, back_links, open_both, open_clocks};
-use outside_host::Host;
+use outside_host::{Host, back_clocks, back_links, open_both, open_clocks};
 use outside_io::NoMemory;
-use outside_net::{Clock, Kept, Link, Trace};
-use rist_desk::{Limits, Step};
+use outside_net::{Clock, Link, ListTrace, TellingLink, Trace};
+use rist_desk::{ServingLimits, Step};
 use rist_ends::Counts;
-use rist_gateway::{Made, gate_on};
+use rist_gateway::{GateMemory, gate_on};
 use rist_sender::Settings;
 use rist_words::GateLine;
 use std::alloc::Global;
@@ -65,19 +64,19 @@ fn made_kept<L: Drop, C: Drop>(
     alloc: Global,
     line: &GateLine<'_>,
     sealers: Sealers,
-) -> Result<Made<Kept<Step>, L, C>, NoMemory>
+) -> Result<GateMemory<ListTrace<Step>, L, C>, NoMemory>
     requires range { IsInGate (shown_gate line.now) }
     requires kept { 0 < (shown_gate line.now).serving.keep }
     requires receiving { IsFreshFor (shown_gate line.now).incoming sealers.receiving }
     requires sending { IsFreshFor (shown_gate line.now).session sealers.sending }
-    ensures setup { IfOk result (λ made. gate_setup_of ⟦<Kept<Step> as Trace<Step>>⟧.limit made
+    ensures setup { IfOk result (λ made. gate_setup_of ⟦<ListTrace<Step> as Trace<Step>>⟧.limit made
         ≡ setup_gated (shown_gate line.now) sealers.receiving sealers.sending) }
-    ensures made { IfOk result (λ made. IsGateMade ⟦<Kept<Step> as Trace<Step>>⟧.list
-        ⟦<Kept<Step> as Trace<Step>>⟧.limit
+    ensures made { IfOk result (λ made. IsGateMade ⟦<ListTrace<Step> as Trace<Step>>⟧.list
+        ⟦<ListTrace<Step> as Trace<Step>>⟧.limit
         (length line.now.inputs.items) (length line.now.outputs.items) made) }
 {
     let session = session_of(&line.incoming, false, false);
-    let receiving = match rist_recv::make::<Kept<Step>, L, C>(
+    let receiving = match rist_recv::make::<ListTrace<Step>, L, C>(
         alloc,
         &settings_of(&line.receiver),
         &session,
@@ -105,15 +104,15 @@ fn made_in_turns<L: Drop, C: Drop>(
     alloc: Global,
     line: &GateLine<'_>,
     sealers: Sealers,
-) -> Result<Made<Kept<Step>, L, C>, NoMemory>
+) -> Result<GateMemory<ListTrace<Step>, L, C>, NoMemory>
     requires range { IsInGate (shown_gate line.now) }
     requires none { (shown_gate line.now).serving.keep ≡ 0 }
     requires receiving { IsFreshFor (shown_gate line.now).incoming sealers.receiving }
     requires sending { IsFreshFor (shown_gate line.now).session sealers.sending }
-    ensures setup { IfOk result (λ made. gate_setup_of ⟦<Kept<Step> as Trace<Step>>⟧.limit made
+    ensures setup { IfOk result (λ made. gate_setup_of ⟦<ListTrace<Step> as Trace<Step>>⟧.limit made
         ≡ setup_gated (shown_gate line.now) sealers.receiving sealers.sending) }
-    ensures made { IfOk result (λ made. IsGateMade ⟦<Kept<Step> as Trace<Step>>⟧.list
-        ⟦<Kept<Step> as Trace<Step>>⟧.limit
+    ensures made { IfOk result (λ made. IsGateMade ⟦<ListTrace<Step> as Trace<Step>>⟧.list
+        ⟦<ListTrace<Step> as Trace<Step>>⟧.limit
         (length line.now.inputs.items) (length line.now.outputs.items) made) }
 {
     let session = session_of(&line.incoming, false, false);
@@ -144,14 +143,14 @@ fn made_for<L: Drop, C: Drop>(
     alloc: Global,
     line: &GateLine<'_>,
     sealers: Sealers,
-) -> Result<Made<Kept<Step>, L, C>, NoMemory>
+) -> Result<GateMemory<ListTrace<Step>, L, C>, NoMemory>
     requires range { IsInGate (shown_gate line.now) }
     requires receiving { IsFreshFor (shown_gate line.now).incoming sealers.receiving }
     requires sending { IsFreshFor (shown_gate line.now).session sealers.sending }
-    ensures setup { IfOk result (λ made. gate_setup_of ⟦<Kept<Step> as Trace<Step>>⟧.limit made
+    ensures setup { IfOk result (λ made. gate_setup_of ⟦<ListTrace<Step> as Trace<Step>>⟧.limit made
         ≡ setup_gated (shown_gate line.now) sealers.receiving sealers.sending) }
-    ensures made { IfOk result (λ made. IsGateMade ⟦<Kept<Step> as Trace<Step>>⟧.list
-        ⟦<Kept<Step> as Trace<Step>>⟧.limit
+    ensures made { IfOk result (λ made. IsGateMade ⟦<ListTrace<Step> as Trace<Step>>⟧.list
+        ⟦<ListTrace<Step> as Trace<Step>>⟧.limit
         (length line.now.inputs.items) (length line.now.outputs.items) made) }
 {
     if line.serving.keep == 0 {
@@ -176,7 +175,7 @@ fn gate_with<L: Link + Drop + Send, C: Clock + Drop + Send, R: Threads + Wait + 
     requires count { length links.old.items ≡ length line.now.inputs.items + length line.now.outputs.items }
     requires clocks { length clocks.old.items ≡ length line.now.inputs.items + length line.now.outputs.items + 1 }
     ensures work { IfOk result (λ ended. GatesAs
-        (live_of (record { taken = L.taken; knows = L.knows; faults = L.faults; reads = L.reads; ends = L.ends })
+        (live_of ⟦<L as TellingLink>⟧.tells
         C.moments)
         (shown_gate line.now) sealers.receiving sealers.sending links.old.items links.new.items
         clocks.old.items clocks.new.items ended.1 ended.0) }
@@ -190,7 +189,7 @@ fn gate_with<L: Link + Drop + Send, C: Clock + Drop + Send, R: Threads + Wait + 
         Ok(made) => made,
         Err(refused) => return Err(refused),
     };
-    let limits = Limits {
+    let limits = ServingLimits {
         turns: line.serving.turns,
         idle: 1000 * line.serving.idle,
     };

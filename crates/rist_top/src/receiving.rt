@@ -3,7 +3,7 @@ ghost use Rattle.std.specs.Prelude.{◌≡◌, ◌≢◌, ◌<◌, ◌≤◌, �
 ghost use Rattle.outside_io.specs.Causes.{HasOpenCause};
 ghost use Rattle.outside_io.specs.Told.{IsEmpty};
 ghost use Rattle.outside_host.specs.Shelf.{ChangesReport};
-ghost use Rattle.host_links.specs.Opening.{AreAsTheyWere};
+ghost use Rattle.outside_host.specs.Links.{AreAsTheyWere};
 ghost use Rattle.rist_words.specs.Shown.{shown_recv};
 ghost use Rattle.rist_words.specs.Ranges.{IsInRecv};
 ghost use Rattle.rist_top.specs.Causes.{CanRefuse, fault_of};
@@ -21,12 +21,11 @@ use crate::sealing::sealer_for;
 use crate::sessions::{session_of, settings_of};
 use crate::status::Status;
 use crate::telling::Telling;
-use host_links::{back_clocks, back_links, open_clocks, open_links};
-use outside_host::{Host, Reception};
+use outside_host::{Host, Reception, back_clocks, back_links, open_clocks, open_links};
 use outside_io::{NoMemory, Sink};
-use outside_net::{Clock, Kept, Link, Role};
+use outside_net::{Clock, Link, ListTrace, Role, TellingLink};
 use psk_seal::Sealer;
-use rist_desk::{Limits, Step};
+use rist_desk::{ServingLimits, Step};
 use rist_ends::Counts;
 use rist_recv::{Run, make, make_in_turns, receive_in_turns, receive_on};
 use rist_words::RecvLine;
@@ -79,7 +78,7 @@ fn receive_kept<
     requires clocks { length clocks.old.items ≡ length line.now.links.items }
     requires empty { IsEmpty (K.contents sink) }
     ensures work { IfOk result.end (λ ended. ReceivesAs
-        (live_of (record { taken = L.taken; knows = L.knows; faults = L.faults; reads = L.reads; ends = L.ends }) C.moments)
+        (live_of ⟦<L as TellingLink>⟧.tells C.moments)
         (shown_recv line.now) sealer links.old.items links.new.items clocks.old.items clocks.new.items
         (K.contents sink) (K.contents result.sink) (K.faults sink) (K.faults result.sink) ended.1 ended.0) }
     ensures memory { OnErr result.end
@@ -90,7 +89,7 @@ fn receive_kept<
     ensures clocks { length clocks.new.items ≡ length clocks.old.items }
 {
     let session = session_of(&line.session, false, false);
-    let made = match make::<Kept<Step>, L, C>(
+    let made = match make::<ListTrace<Step>, L, C>(
         alloc,
         &settings_of(&line.receiver),
         &session,
@@ -106,7 +105,7 @@ fn receive_kept<
             };
         }
     };
-    let limits = Limits {
+    let limits = ServingLimits {
         turns: line.serving.turns,
         idle: 1000 * line.serving.idle,
     };
@@ -143,7 +142,7 @@ fn receive_turning<
     requires clocks { length clocks.old.items ≡ length line.now.links.items }
     requires empty { IsEmpty (K.contents sink) }
     ensures work { IfOk result.end (λ ended. ReceivesAs
-        (live_of (record { taken = L.taken; knows = L.knows; faults = L.faults; reads = L.reads; ends = L.ends }) C.moments)
+        (live_of ⟦<L as TellingLink>⟧.tells C.moments)
         (shown_recv line.now) sealer links.old.items links.new.items clocks.old.items clocks.new.items
         (K.contents sink) (K.contents result.sink) (K.faults sink) (K.faults result.sink) ended.1 ended.0) }
     ensures memory { OnErr result.end
@@ -164,7 +163,7 @@ fn receive_turning<
             };
         }
     };
-    let limits = Limits {
+    let limits = ServingLimits {
         turns: line.serving.turns,
         idle: 1000 * line.serving.idle,
     };
@@ -207,7 +206,7 @@ fn receive_any<
     requires clocks { length clocks.old.items ≡ length line.now.links.items }
     requires empty { IsEmpty (K.contents sink) }
     ensures work { IfOk result.end (λ ended. ReceivesAs
-        (live_of (record { taken = L.taken; knows = L.knows; faults = L.faults; reads = L.reads; ends = L.ends }) C.moments)
+        (live_of ⟦<L as TellingLink>⟧.tells C.moments)
         (shown_recv line.now) sealer links.old.items links.new.items clocks.old.items clocks.new.items
         (K.contents sink) (K.contents result.sink) (K.faults sink) (K.faults result.sink) ended.1 ended.0) }
     ensures memory { OnErr result.end

@@ -2,7 +2,7 @@
 ghost use Rattle.std.specs.Prelude.{◌*◌, ◌≡◌, ◌≢◌, IsTrue, length, map, is_some};
 ghost use Rattle.outside_io.specs.Causes.{HasOpenCause, HasReadCause};
 ghost use Rattle.outside_host.specs.Shelf.{Stays};
-ghost use Rattle.host_links.specs.Opening.{AreAsTheyWere};
+ghost use Rattle.outside_host.specs.Links.{AreAsTheyWere};
 ghost use Rattle.rist_words.specs.Shown.{shown_send};
 ghost use Rattle.rist_words.specs.Ranges.{IsInSend};
 ghost use Rattle.rist_top.specs.Causes.{CanRefuse, fault_of};
@@ -19,10 +19,9 @@ use crate::sessions::session_of;
 use crate::status::Status;
 use crate::telling::Telling;
 use bond_links::Bond;
-use host_links::{back_links, open_links};
-use outside_host::Host;
+use outside_host::{Host, back_links, open_links};
 use outside_io::Source;
-use outside_net::{Clock, Link, Role};
+use outside_net::{Clock, Link, Role, TellingLink};
 use psk_seal::Sealer;
 use rist_send::{SendSettings, send};
 use rist_sender::{Sender, Settings};
@@ -72,7 +71,7 @@ fn send_with<S: Source, L: Link, C: Clock>(
     requires fresh { IsFreshFor (shown_send line.now).session sealer }
     requires count { length links.old ≡ length line.now.links.items }
     ensures work { (CanRefuse result → ⊥) → SendsAs
-        (record { taken = L.taken; knows = L.knows; faults = L.faults; reads = L.reads; ends = L.ends })
+        ⟦<L as TellingLink>⟧.tells
         (shown_send line.now) sealer (record {
           moments = C.moments clock.old;
           octets = S.remaining source.old;

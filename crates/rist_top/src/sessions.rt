@@ -2,7 +2,7 @@
 ghost use Rattle.std.specs.Prelude.{◌≡◌, false};
 ghost use Rattle.rist_words.specs.Shown.{shown_receiver, shown_session};
 ghost use Rattle.rist_words.specs.Ranges.{IsInSession};
-ghost use Rattle.outside_io.specs.declared.profile.Profile.TheVariants.{Simple};
+ghost use Rattle.link_channels.specs.declared.profile.Profile.TheVariants.{Simple};
 ghost use Rattle.rist_wire.specs.Session.{IsSession};
 ghost use Rattle.rist_top.specs.Sessions.{session_with, settings_with};
 

@@ -17,11 +17,10 @@ use crate::status::Status;
 use crate::telling::Telling;
 use capture_file::Reader;
 use capture_walk::{PortReader, Records};
-use host_sinks::{back_sinks, open_sinks};
-use outside_host::Host;
+use outside_host::{Host, back_sinks, open_sinks};
 use outside_io::{Sink, Source};
 use rist_ends::Settings;
-use rist_split::{Made, make, split_into};
+use rist_split::{SplitMemory, make, split_into};
 use rist_words::SplitLine;
 use std::alloc::Global;
 
@@ -35,7 +34,7 @@ struct Divided<S, K> {
 // Splits the records that a reader gives.
 fn split_records<R: Records, K: Sink + Drop>(
     line: &SplitLine<'_>,
-    made: Made<K>,
+    made: SplitMemory<K>,
     mut reader: R,
     mut sinks: Vec<K>,
 ) -> Divided<R::Input, K>
@@ -62,7 +61,7 @@ fn split_records<R: Records, K: Sink + Drop>(
 #[tactic(auto, using(capture_walk::proofs::GoingLemmas::new_has_read))]
 fn split_source<S: Source, K: Sink + Drop>(
     line: &SplitLine<'_>,
-    made: Made<K>,
+    made: SplitMemory<K>,
     source: S,
     sinks: Vec<K>,
 ) -> Divided<S, K>

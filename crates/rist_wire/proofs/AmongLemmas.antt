@@ -4,10 +4,10 @@ use Rattle.std.specs.Prelude.{slice_index}
 use Rattle.std.specs.List.{position, position_or_len}
 use Rattle.std.proofs.lemmas.Bool.Decides.{nat_tests}
 use Rattle.std.proofs.lemmas.List.Quantifiers.{position-Some}
-use Rattle.outside_io.specs.declared.channel.Channel.{Channel}
-use Rattle.outside_io.specs.declared.channel.Channel.TheVariants.{Media as OnMedia, Control as OnControl, Tunnel as OnTunnel}
-use Rattle.outside_io.specs.declared.profile.Profile.{Profile}
-use Rattle.outside_io.specs.declared.profile.Profile.TheVariants.{Simple, Main}
+use Rattle.link_channels.specs.declared.channel.Channel.{Channel}
+use Rattle.link_channels.specs.declared.channel.Channel.TheVariants.{Media as OnMedia, Control as OnControl, Tunnel as OnTunnel}
+use Rattle.link_channels.specs.declared.profile.Profile.{Profile}
+use Rattle.link_channels.specs.declared.profile.Profile.TheVariants.{Simple, Main}
 use Rattle.gre_tunnel.specs.declared.gre.Gre.{Gre}
 use Rattle.gre_tunnel.specs.Reading.{reading_of as gre_reading_of}
 use Rattle.gre_tunnel.specs.declared.gre.GreBad.{GreBad}

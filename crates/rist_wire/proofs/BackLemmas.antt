@@ -15,15 +15,15 @@ use Rattle.gre_tunnel.specs.Reading.{reading_of as gre_reading_of, value_of as g
 use Rattle.gre_tunnel.specs.declared.tunnel.Tunnel.{Tunnel}
 use Rattle.gre_tunnel.specs.Writing.{ignored_with}
 use Rattle.gre_tunnel.proofs.HeaderLemmas.{ignored-few, reading-spelled, rest-spelled}
-use Rattle.outside_io.specs.declared.profile.Profile.{Profile}
-use Rattle.outside_io.specs.declared.profile.Profile.TheVariants.{Simple, Main}
+use Rattle.link_channels.specs.declared.profile.Profile.{Profile}
+use Rattle.link_channels.specs.declared.profile.Profile.TheVariants.{Simple, Main}
 use Rattle.rist_wire.specs.declared.session.Session.{Session}
 use Rattle.psk_seal.specs.declared.sealer.Pair.{Pair}
 use Rattle.rist_wire.specs.declared.item.Kind.{Kind}
 use Rattle.rist_wire.specs.declared.item.Kind.TheVariants.{Media as MediaKind, Control as ControlKind, Keepalive as KeepaliveKind}
 use Rattle.rist_wire.specs.declared.item.Item.TheVariants.{Control as ControlItem}
-use Rattle.outside_io.specs.declared.channel.Channel.{Channel}
-use Rattle.outside_io.specs.declared.channel.Channel.TheVariants.{Tunnel as OnTunnel}
+use Rattle.link_channels.specs.declared.channel.Channel.{Channel}
+use Rattle.link_channels.specs.declared.channel.Channel.TheVariants.{Tunnel as OnTunnel}
 use Rattle.rtcp_compound.specs.Compound.{Content, IsCompound}
 use Rattle.rtcp_compound.proofs.CompoundLaws.{compound_accepted, compound_packets}
 use Rattle.rist_wire.specs.Session.{IsPlain, IsSession}

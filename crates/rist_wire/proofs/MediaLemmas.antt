@@ -31,8 +31,8 @@ use Rattle.ipv4_udp.specs.Ip.{header_octets as ip_header_octets, udp_octets}
 use Rattle.ipv4_udp.proofs.WritingLemmas.{Octets, octet, half, whole}
 use Rattle.aes_ctr.specs.Ctr.{keystream_octet}
 use Rattle.psk_seal.specs.declared.sealer.Pair.{Pair}
-use Rattle.outside_io.specs.declared.profile.Profile.{Profile}
-use Rattle.outside_io.specs.declared.profile.Profile.TheVariants.{Simple, Main}
+use Rattle.link_channels.specs.declared.profile.Profile.{Profile}
+use Rattle.link_channels.specs.declared.profile.Profile.TheVariants.{Simple, Main}
 use Rattle.rist_wire.specs.declared.session.Session.{Session}
 use Rattle.rist_wire.specs.declared.bad.WireBad.TheVariants.{Nulls as NoNulls}
 use Rattle.ts_nulls.specs.declared.nulls.NullBad.TheVariants.{Shape as BadShape}

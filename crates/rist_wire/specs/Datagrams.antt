@@ -1,9 +1,9 @@
 -- The datagrams of messages, in the tunnel (this profile) or without it (VSF TR-06-1).
 use Rattle.std.specs.Prelude.{◌≡◌, ℕ, ◌+◌, Bool, true, false, ◌&&◌, List, ◌++◌, ◌==◌, Option, Some, is_some}
 use Rattle.std.specs.Int.{w16, to_be_bytes}
-use Rattle.outside_io.specs.declared.channel.Channel.{Channel}
-use Rattle.outside_io.specs.declared.channel.Channel.TheVariants.{Media as OnMedia, Control as OnControl}
-use Rattle.outside_io.specs.declared.channel.Channel.TheVariants.{Tunnel as OnTunnel}
+use Rattle.link_channels.specs.declared.channel.Channel.{Channel}
+use Rattle.link_channels.specs.declared.channel.Channel.TheVariants.{Media as OnMedia, Control as OnControl}
+use Rattle.link_channels.specs.declared.channel.Channel.TheVariants.{Tunnel as OnTunnel}
 use Rattle.gre_tunnel.specs.declared.tunnel.Tunnel.{Tunnel}
 use Rattle.gre_tunnel.specs.Gre.{Header, keepalive_protocol, datagram_protocol, full_protocol, spelling as gre_spelling}
 use Rattle.gre_tunnel.specs.Writing.{header_with, ignored_with}
@@ -11,8 +11,8 @@ use Rattle.ipv4_udp.specs.declared.writing.IpHead.{IpHead}
 use Rattle.ipv4_udp.specs.Ip.{spelling as ip_spelling}
 use Rattle.ipv4_udp.specs.Writing.{datagram_with, written_fields}
 use Rattle.psk_seal.specs.declared.sealer.Pair.{Pair}
-use Rattle.outside_io.specs.declared.profile.Profile.{Profile}
-use Rattle.outside_io.specs.declared.profile.Profile.TheVariants.{Simple, Main}
+use Rattle.link_channels.specs.declared.profile.Profile.{Profile}
+use Rattle.link_channels.specs.declared.profile.Profile.TheVariants.{Simple, Main}
 use Rattle.rist_wire.specs.declared.session.Session.{Session}
 use Rattle.rist_wire.specs.declared.item.Kind.{Kind}
 use Rattle.rist_wire.specs.declared.item.Kind.TheVariants.{Media as MediaKind, Control as ControlKind}

@@ -1,12 +1,12 @@
 -- The item of a datagram in a session, or the first test that fails.
 use Rattle.std.specs.Prelude.{ℕ, List, Result, Ok, Err}
-use Rattle.outside_io.specs.declared.channel.Channel.{Channel}
-use Rattle.outside_io.specs.declared.channel.Channel.TheVariants.{Media as OnMedia, Control as OnControl}
-use Rattle.outside_io.specs.declared.channel.Channel.TheVariants.{Tunnel as OnTunnel}
+use Rattle.link_channels.specs.declared.channel.Channel.{Channel}
+use Rattle.link_channels.specs.declared.channel.Channel.TheVariants.{Media as OnMedia, Control as OnControl}
+use Rattle.link_channels.specs.declared.channel.Channel.TheVariants.{Tunnel as OnTunnel}
 use Rattle.gre_tunnel.specs.declared.tunnel.Tunnel.{Tunnel}
 use Rattle.gre_tunnel.specs.Reading.{reading_of as gre_reading_of}
-use Rattle.outside_io.specs.declared.profile.Profile.{Profile}
-use Rattle.outside_io.specs.declared.profile.Profile.TheVariants.{Simple, Main}
+use Rattle.link_channels.specs.declared.profile.Profile.{Profile}
+use Rattle.link_channels.specs.declared.profile.Profile.TheVariants.{Simple, Main}
 use Rattle.rist_wire.specs.declared.session.Session.{Session}
 use Rattle.rist_wire.specs.declared.bad.WireBad.{WireBad}
 use Rattle.rist_wire.specs.declared.bad.WireBad.TheVariants.{Channel as BadChannel}

@@ -1,6 +1,6 @@
 -- The datagrams of media that are written.
 use Rattle.std.specs.Prelude.{◌≡◌, ℕ, ◌%◌, ◌^◌, ◌<◌, ◌≤◌, List, length, true, Option, IfSome}
-use Rattle.outside_io.specs.declared.channel.Channel.{Channel}
+use Rattle.link_channels.specs.declared.channel.Channel.{Channel}
 use Rattle.psk_seal.specs.declared.sealer.Pair.{Pair}
 use Rattle.rtp_packet.specs.declared.rtp.TheConstants.{MAX_PAYLOAD}
 use Rattle.ts_nulls.specs.Shape.{IsShape}

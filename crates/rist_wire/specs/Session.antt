@@ -1,7 +1,7 @@
 -- Sessions: what both ends know of the datagrams (this profile).
 use Rattle.std.specs.Prelude.{◌≡◌, ◌⊎◌, ◌%◌, ◌≤◌, false, None}
 use Rattle.seq_unwrap.specs.declared.width.Width.TheVariants.{W16}
-use Rattle.outside_io.specs.declared.profile.Profile.TheVariants.{Simple}
+use Rattle.link_channels.specs.declared.profile.Profile.TheVariants.{Simple}
 use Rattle.gre_tunnel.specs.declared.tunnel.Tunnel.TheVariants.{Own}
 use Rattle.rist_wire.specs.declared.session.Session.{Session}
 

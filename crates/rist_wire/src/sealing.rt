@@ -1,7 +1,7 @@
 //! The datagrams of messages, in the tunnel or without it.
 ghost use Rattle.std.specs.Prelude.{◌≡◌, ◌+◌, ◌≤◌, ◌++◌, ◌&&◌, ◌==◌, ◌^◌, ◌<◌, length, take, drop, is_some, IfSome};
 ghost use Rattle.std.specs.Int.{to_be_bytes};
-ghost use Rattle.outside_io.specs.declared.profile.Profile.TheVariants.{Simple, Main};
+ghost use Rattle.link_channels.specs.declared.profile.Profile.TheVariants.{Simple, Main};
 ghost use Rattle.rist_wire.specs.declared.item.Kind.TheVariants.{Keepalive as KeepaliveKind};
 ghost use Rattle.rist_wire.specs.Session.{IsSession};
 ghost use Rattle.rist_wire.specs.Cipher.{key_by};
@@ -15,8 +15,8 @@ use crate::session::Session;
 use aes_block::Aes;
 use gre_tunnel::{DATAGRAM, FULL, KEEPALIVE, Tunnel};
 use ipv4_udp::{IpHead, MAX_PAYLOAD};
+use link_channels::{Channel, Profile};
 use octet_fields::put_at;
-use outside_io::{Channel, Profile};
 use psk_seal::Pair;
 
 /// The key field of the header of a datagram under this pair.

@@ -1,5 +1,5 @@
 use gre_tunnel::Tunnel;
-use outside_io::Profile;
+use link_channels::Profile;
 use psk_keys::Phrase;
 use seq_unwrap::Width;
 

@@ -1,7 +1,7 @@
 -- Each reading of a line gives a value in its range.
 use Rattle.std.proofs.Common.{◌≡◌, List, [], ◌∷◌, Bool, true, false, cond, Option, Some, None, refl, subst, arith, length}
 use Rattle.std.specs.Prelude.{option_map, codes, slice_index}
-use Rattle.outside_io.specs.declared.profile.Profile.TheVariants.{Main}
+use Rattle.link_channels.specs.declared.profile.Profile.TheVariants.{Main}
 use Rattle.std.specs.Str.{bytes_eq}
 use Rattle.clap.specs.Words.{Kinds, Row, Text, all_of, first_of}
 use Rattle.rist_words.specs.Commands.{faults_of, command_in}

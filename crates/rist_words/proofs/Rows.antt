@@ -2,7 +2,7 @@
 use Rattle.std.proofs.Common.{◌≡◌, [], ◌∷◌, Some, None, codes, false, refl, true}
 use Rattle.clap.proofs.OnLiterals.{clap_on_literals}
 use Rattle.gre_tunnel.specs.declared.tunnel.Tunnel.TheVariants.{Librist, Own}
-use Rattle.outside_io.specs.declared.profile.Profile.TheVariants.{Main, Simple}
+use Rattle.link_channels.specs.declared.profile.Profile.TheVariants.{Main, Simple}
 use Rattle.rist_words.specs.Commands.{command_in, faults_of}
 use Rattle.request_rules.specs.declared.policy.NackKind.TheVariants.{Mask, Range}
 use Rattle.rist_words.specs.CommandLine.{Count, Drill, Gate, Pack, Receiver, Recv, Replay, Send, Serving, Session, Show, Split, Stream, line_of}

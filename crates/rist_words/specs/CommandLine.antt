@@ -5,8 +5,8 @@ use Rattle.std.specs.Prelude.{slice_index_or, is_none, is_some, option_and_then,
 use Rattle.std.specs.Str.{bytes_eq}
 use Rattle.clap.specs.Words.{Kinds, Row, Text, all_of, first_of}
 use Rattle.gre_tunnel.specs.declared.tunnel.Tunnel.{Tunnel}
-use Rattle.outside_io.specs.declared.profile.Profile.{Profile}
-use Rattle.outside_io.specs.declared.profile.Profile.TheVariants.{Main}
+use Rattle.link_channels.specs.declared.profile.Profile.{Profile}
+use Rattle.link_channels.specs.declared.profile.Profile.TheVariants.{Main}
 use Rattle.rist_words.specs.declared.values.Numbers.{Numbers}
 use Rattle.rist_words.specs.Commands.{SessionNames, faults_of, command_in, incoming_names, session_names}
 use Rattle.outside_net.specs.declared.link_spec.LinkSpec.{LinkSpec}

@@ -7,8 +7,8 @@ use Rattle.std.specs.Str.{bytes_eq}
 use Rattle.std.specs.Str.Parse.{digits_value}
 use Rattle.clap.specs.Words.{Text}
 use Rattle.rist_words.specs.declared.values.Numbers.{Numbers}
-use Rattle.outside_io.specs.declared.profile.Profile.{Profile}
-use Rattle.outside_io.specs.declared.profile.Profile.TheVariants.{Simple, Main}
+use Rattle.link_channels.specs.declared.profile.Profile.{Profile}
+use Rattle.link_channels.specs.declared.profile.Profile.TheVariants.{Simple, Main}
 use Rattle.gre_tunnel.specs.declared.tunnel.Tunnel.{Tunnel}
 use Rattle.gre_tunnel.specs.declared.tunnel.Tunnel.TheVariants.{Own, Librist}
 use Rattle.request_rules.specs.declared.policy.NackKind.{NackKind}

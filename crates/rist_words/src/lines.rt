@@ -1,6 +1,6 @@
 //! The lines of the program.
 use gre_tunnel::Tunnel;
-use outside_io::Profile;
+use link_channels::Profile;
 use outside_net::LinkSpec;
 use request_rules::NackKind;
 use std::alloc::AllocError;

@@ -6,7 +6,7 @@ ghost use Rattle.rist_words.specs.Links.{address_of, each_link, gate_links_of, i
 use crate::lines::Refused;
 use crate::values::{Numbers, given, number, number_in};
 use clap::ArgMatches;
-use outside_io::Profile;
+use link_channels::Profile;
 use outside_net::LinkSpec;
 use std::alloc::{AllocError, Global};
 

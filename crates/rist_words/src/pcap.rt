@@ -6,7 +6,7 @@ ghost use Rattle.rist_words.specs.CommandLine.{pcap_of};
 use crate::links::link_ports;
 use crate::values::{given, is_set, number_in};
 use clap::ArgMatches;
-use outside_io::Profile;
+use link_channels::Profile;
 
 /// The UDP port of the datagrams, if the capture is said to be a pcap file.
 pub fn pcap(values: &ArgMatches<'_>, profile: Profile) -> Option<Option<u16>>

@@ -17,7 +17,7 @@ use crate::receiving::{DELAY, RESTART, SPAN, TURNS, receiver, serving};
 use crate::session::{incoming, session, stream, tunnel_session};
 use crate::values::{Numbers, is_set, name, number};
 use clap::ArgMatches;
-use outside_io::Profile;
+use link_channels::Profile;
 use std::alloc::Global;
 
 pub const GAP: Numbers = Numbers {

@@ -10,7 +10,7 @@ use crate::lines::{SessionWords, StreamWords};
 use crate::values::{Numbers, flag, given, is_set, number, phrase, profile, tunnel};
 use clap::ArgMatches;
 use gre_tunnel::Tunnel;
-use outside_io::Profile;
+use link_channels::Profile;
 
 pub const PORT: Numbers = Numbers {
     default: 1968,

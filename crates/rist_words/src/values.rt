@@ -8,7 +8,7 @@ ghost use Rattle.rist_words.specs.Values.{flag_of, is_among, is_numeral, is_set,
 
 use clap::ArgMatches;
 use gre_tunnel::Tunnel;
-use outside_io::Profile;
+use link_channels::Profile;
 use request_rules::NackKind;
 
 /// The numbers that an option takes.

@@ -7,7 +7,7 @@ use Rattle.reorder_buffer.specs.declared.phase.Phase.TheVariants.{Failed}
 use Rattle.receiver_rules.specs.declared.verdict.Verdict.TheVariants.{Kept}
 use Rattle.receiver_rules.specs.Steps.{has_ended}
 use Rattle.request_rules.specs.Steps.{buffer_history}
-use Rattle.rist_control.specs.Control.{ControlSettings}
+use Rattle.rist_reporter.specs.Control.{ControlSettings}
 use Rattle.rist_ends.specs.Counts.{capped, verdict_count}
 use Rattle.world_rules.specs.Counts.{media_if, place_count, is_lost, is_resent}
 use Rattle.world_rules.specs.World.{Setup, Course, forward_on, forward_at}

@@ -5,7 +5,7 @@ use Rattle.std.proofs.Math.Seq.{drop-append_seam}
 use Rattle.std.proofs.lemmas.Bool.{ltb-true, ltb-false, eqb-true, eqb-false}
 use Rattle.std.proofs.lemmas.List.{length-map, map-append, length-take, length-take-le, drop_all, length-set, take_more, drop-append-le, append_assoc, get_or_past, get_or-set_same, get_or-set_other}
 use Rattle.std.proofs.lemmas.Option.{slice_get-get_or}
-use Rattle.outside_io.specs.declared.channel.Channel.TheVariants as channels
+use Rattle.link_channels.specs.declared.channel.Channel.TheVariants as channels
 use Rattle.outside_net.specs.Links.{Datagram}
 use Rattle.rist_wire.specs.declared.session.Session.{Session}
 use Rattle.world_rules.specs.Counts.{media_of, media_if}

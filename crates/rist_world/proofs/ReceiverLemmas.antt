@@ -20,7 +20,7 @@ use Rattle.rist_wire.specs.declared.bad.WireBad.{WireBad}
 use Rattle.rist_wire.specs.declared.item.Item.{Item}
 use Rattle.rist_wire.specs.Item.{item_of}
 use Rattle.rist_ends.specs.Items.{input_read}
-use Rattle.rist_control.specs.Control.{ControlSettings, Datagram as ControlDatagram, input_datagrams}
+use Rattle.rist_reporter.specs.Control.{ControlSettings, Datagram as ControlDatagram, input_datagrams}
 use Rattle.rist_reporter.specs.declared.out.Outs.{Outs}
 use Rattle.rist_reporter.specs.OneMore.{AnswersAfter, step_answered, is_short, answer_count, after_pairs, outs_of}
 use Rattle.rist_ends.specs.declared.told.Told.{Told}

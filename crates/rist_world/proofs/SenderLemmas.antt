@@ -9,12 +9,13 @@ use Rattle.rist_wire.specs.declared.session.Session.{Session}
 use Rattle.rist_wire.specs.declared.item.Item.TheVariants as items
 use Rattle.rist_wire.specs.Item.{item_of}
 use Rattle.std.proofs.lemmas.List.{get_or-map}
-use Rattle.rist_sender.specs.declared.send_bad.SendBad.{SendBad}
-use Rattle.rist_sender.specs.Links.{Line, datagrams_taken}
+use Rattle.sender_rules.specs.declared.send_bad.SendBad.{SendBad}
+use Rattle.outside_net.specs.Links.{LinkTells}
+use Rattle.rist_sender.specs.Links.{datagrams_taken}
 use Rattle.rist_sender.specs.History.{tried_as, tried_on}
 use Rattle.rist_sender.specs.Calls.{Work, IfElse, Sends, FeedsBack, Ticks, renewed_as}
 use Rattle.rist_sender.specs.Sender.{SenderState, IsSenderAfter, StaysSet, Does, rules_of}
-use Rattle.sent_flows.specs.Flows.{SentFlow, is_known}
+use Rattle.world_rules.specs.SentFlows.{SentFlow, is_known}
 use Rattle.world_rules.specs.Flows.{flows_of, flow_after, put_on}
 use Rattle.world_rules.specs.World.{Setup, Course, links_of, rules_after, Works, SendsIn, TicksIn, FeedsIn, FeedsIf, compound_carried, compound_read, backward_at, renewed_in, is_new}
 use Rattle.world_rules.proofs.CountLemmas.{sends_count, feeds_count, ticks_count}
@@ -26,7 +27,7 @@ use Rattle.rist_world.proofs.MarkLemmas.{marked_since}
 use Rattle.rist_world.specs.World.{WireState, WorldState, IsWorldAfter, GoesTo, GoesOn, AreMarked, datagrams_on, marked, none}
 
 -- what a wire tells
-abbrev pub wire_line : Line WireState
+abbrev pub wire_line : LinkTells WireState
 wire_line = record { taken = λ w. Some w.put; knows = λ w c. true; faults = λ w. w.faults; reads = λ w. Some (λ k. Quiet); ends = λ w. 0 }
 
 -- what follows where a call succeeds

@@ -26,7 +26,7 @@ media_at w link place = get_or (get_or w.media link []) place None
 abbrev pub lost_at : WorldState → ℕ → ℕ → Bool
 lost_at w link place = is_some (media_at w link place) && not (came_at w.tally.came link place)
 
--- it holds a retransmission
+-- the place of a link holds a retransmission
 abbrev pub resent_at : WorldState → ℕ → ℕ → Bool
 resent_at w link place = unwrap_or (media_at w link place) false
 

@@ -4,7 +4,7 @@ use Rattle.psk_seal.specs.Sealer.{SealerState}
 use Rattle.receiver_rules.specs.History.{released_payloads, released_bytes}
 use Rattle.request_rules.specs.Steps.{buffer_history}
 use Rattle.sha2.specs.Sha256.{sha256}
-use Rattle.sent_flows.specs.Reached.{PlaysReached}
+use Rattle.world_rules.specs.Reached.{PlaysReached}
 use Rattle.world_rules.specs.declared.moves.Move.{Move}
 use Rattle.world_rules.specs.Flows.{flows_of}
 use Rattle.world_rules.specs.Short.{IsShort}

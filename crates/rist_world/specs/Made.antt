@@ -1,7 +1,7 @@
 -- The run of a made script (this profile).
 use Rattle.std.specs.Prelude.{◌≡◌, ℕ, List, codes, ◌++◌, length, take, drop, Option, Some, IfSome, true, false}
 use Rattle.seq_unwrap.specs.declared.width.Width.TheVariants.{W32}
-use Rattle.outside_io.specs.declared.profile.Profile.TheVariants.{Main}
+use Rattle.link_channels.specs.declared.profile.Profile.TheVariants.{Main}
 use Rattle.psk_seal.specs.declared.sealer.TheConstants.{NONCE_COUNT}
 use Rattle.psk_seal.specs.Nonces.{AreNonces, GiveNonces}
 use Rattle.psk_seal.specs.Sealer.{SealerState}
@@ -20,7 +20,8 @@ use Rattle.rist_world.specs.World.{setup_of}
 use Rattle.rist_world.specs.Drill.{Drilled}
 use Rattle.rist_world.specs.Script.{IsMadeScript}
 
--- its session: in the Main Profile, under a passphrase, with null packets deleted and numbers of 32 bits
+-- the session of a made script: in the Main Profile, under a passphrase, with null packets deleted and numbers of 32
+-- bits
 abbrev pub made_session : Session
 made_session =
     record {
@@ -35,11 +36,11 @@ made_session =
       echo = false;
     }
 
--- its sender, which duplicates over so many links
+-- the sender of a made script, which duplicates over so many links
 abbrev pub made_sender : ℕ → SenderSettings
 made_sender links = record { flow = 0x10203040; first = 0; store = 2048; hold = 20; bond = Duplicate links }
 
--- its receiver
+-- the receiver of a made script
 abbrev pub made_receiver : ReceiverSettings
 made_receiver =
     record {

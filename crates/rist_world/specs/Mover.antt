@@ -4,11 +4,12 @@ use Rattle.world_rules.specs.declared.moves.Move.{Move}
 use Rattle.world_rules.specs.World.{Setup, Course, Makes, MakesAll}
 use Rattle.rist_world.specs.World.{WorldState, IsWorldAfter}
 
--- it has given no move yet
+-- a mover has given no move yet
 abbrev pub HasGivenNone : (Setup → Course → List Move → Course → Type 0) → Type 0
 HasGivenNone given = (setup : Setup) (from : Course) → given setup from [] from
 
--- where it gives a move, it has given that too, whatever course the move leads to; where it gives none, all was given
+-- Where a mover gives a move, it has given that too, whatever course the move leads to; where it gives none, all was
+-- given.
 abbrev pub IsNext : (script given : Setup → Course → List Move → Course → Type 0) → Setup → Course → List Move → Course
     → Option Move → Type 0
 IsNext script given setup from moves to None = script setup from moves to

@@ -39,12 +39,12 @@ abbrev pub carry_by : Way → ℕ → ℕ → ℕ → Move
 carry_by Forward link place micros = Carry link place micros
 carry_by Backward link place micros = CarryBack link place micros
 
--- those of a link that carry what is due in a slot, by place
+-- the moves of a link that carry what is due in a slot, by place
 abbrev pub carries_on : Way → ℕ → ℕ → List Due → List Move
 carries_on way link slot dues =
     map (λ (due : Due). carry_by way link due.place (micros_of slot)) (filter (is_due way link slot) dues)
 
--- those of all links, link by link
+-- the moves that carry what is due in a slot, link by link
 abbrev pub carries : Way → ℕ → ℕ → List Due → List Move
 carries way links slot dues = flat_map (λ link. carries_on way link slot dues) (range_with_len 0 links)
 
@@ -120,7 +120,8 @@ pub record MadeState : Type 0 where
   pub draws : DrawsState
   pub queue : List Move
 
--- It has given these moves: those of the slots before, and of the slot that is on all but the ones that are left.
+-- A made script has given these moves: those of the slots before, and of the slot that is on all but the ones that are
+-- left.
 pub record HasGiven (made : MadeState) (setup : Setup) (from : Course) (moves : List Move) (to : Course) : Type 0 where
   pub earlier : List Move
   pub drawn : Drawn

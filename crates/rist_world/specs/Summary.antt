@@ -1,6 +1,6 @@
 -- How what came of a script is written.
 use Rattle.std.specs.Prelude.{ℕ, List, ◌++◌, codes}
-use Rattle.count_lines.specs.Lines.{line}
+use Rattle.octet_fields.specs.Lines.{line}
 use Rattle.hex.specs.Hex.{encode_lower}
 use Rattle.rist_world.specs.declared.running.Report.{Report}
 

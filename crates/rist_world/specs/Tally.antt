@@ -23,7 +23,7 @@ raised_if false n = n
 abbrev pub came_at : List (List Bool) → ℕ → ℕ → Bool
 came_at came link place = get_or (get_or came link []) place false
 
--- it is what became of a course
+-- a tally is what became of a course
 pub record IsTallyOf (setup : Setup) (t : TallyState) (course : Course) : Type 0 where
   pub kind : t.kind ≡ setup.control.policy.kind
   pub sent : t.sent ≡ capped (sent_count course.work.history)

@@ -12,7 +12,7 @@ use Rattle.rist_ends.specs.Settings.{control_settings}
 use Rattle.rist_ends.specs.Receiver.{ReceiverState, IsReceiverAfter, settings_of}
 use Rattle.rist_sender.specs.declared.settings.Settings.{Settings as SenderSettings}
 use Rattle.rist_sender.specs.Sender.{SenderState, IsSenderAfter, has_keepalives, rules_of}
-use Rattle.sent_flows.specs.Flows.{SentFlow}
+use Rattle.world_rules.specs.SentFlows.{SentFlow}
 use Rattle.world_rules.specs.Flows.{flows_of}
 use Rattle.world_rules.specs.World.{Setup, Course, links_of, rules_after, forward_on}
 use Rattle.world_rules.specs.Counts.{media_of}
@@ -85,9 +85,9 @@ pub record AreMarks (setup : Setup) (media : List (List (Option Bool))) (course 
   pub marks : (link : ℕ) → link < links_of setup
       → get_or media link [] ≡ map (media_of setup.session) (forward_on setup course link)
 
--- what it keeps is that of a course: the sender its work, each link what was put on it, the receiver its steps, what
--- was written is what these released, its marks are those of what the sender put, and what is counted is what came of
--- it
+-- A world stands for a course: its sender for the work, its receiver for the steps, and each link holds what was put on
+-- it. What was written is what the steps released, the marks are those of what the sender put, and what is counted is
+-- what came of it.
 pub record IsWorldAfter (setup : Setup) (w : WorldState) (course : Course) : Type 0 where
   pub sender : IsSenderAfter w.sender course.work
   pub rules : rules_of w.sender ≡ rules_after setup course.work.history

@@ -49,7 +49,7 @@ fn count_on(world: &World, link: u8) -> (u64, u64)
     (lost, resent)
 }
 
-// The same of all links.
+// How many media datagrams of all links were lost, and how many were retransmissions.
 fn count_all(world: &World) -> (u64, u64)
     ensures lost { result.0 ≡ capped (sum_by (count_on world.now (lost_at world.now))
         (range_with_len 0 (length world.now.forward))) }

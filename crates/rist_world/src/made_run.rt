@@ -7,8 +7,9 @@ ghost use Rattle.rist_world.specs.Made.{GivesSealer, IsMadeRun, made_session, ma
 use crate::made::Made;
 use crate::running::{Report, drill};
 use bond_links::Bond;
+use link_channels::Profile;
 use made_script::Drawn;
-use outside_io::{NoMemory, Profile};
+use outside_io::NoMemory;
 use psk_keys::Phrase;
 use psk_seal::Sealer;
 use request_rules::NackKind;
@@ -35,7 +36,7 @@ fn made_session() -> Session
     }
 }
 
-/// Its sender, over so many links.
+/// The sender of a made script, over so many links.
 fn made_sender(links: u8) -> SenderSettings
     requires links { (1 ≤ links) × (links ≤ MAX_LINKS) }
     ensures value { result ≡ made_sender links }
@@ -49,7 +50,7 @@ fn made_sender(links: u8) -> SenderSettings
     }
 }
 
-/// Its receiver.
+/// The receiver of a made script.
 fn made_receiver() -> ReceiverSettings
     ensures value { result ≡ made_receiver }
 {

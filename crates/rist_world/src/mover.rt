@@ -13,7 +13,8 @@ use world_rules::Move;
 /// Gives the moves of a script, one after another. A world tells how many datagrams each of its
 /// links holds each way, and which of them are media.
 pub trait Mover {
-    /// Its script: from this course on these moves, the newest first, are all that it gives, and lead to that course.
+    /// The mover's script: from this course on these moves, the newest first, are all that it gives, and lead to that
+    /// course.
     ghost script: { Self → Setup → Course → List MoveValue → Course → Type 0 };
 
     /// From this course on it has given these moves, the newest first, which have led to that course.

@@ -4,8 +4,7 @@ ghost use Rattle.hex.specs.Hex.{encode_lower};
 ghost use Rattle.rist_world.specs.Summary.{summary_of};
 
 use crate::running::Report;
-use count_lines::{MAX_COUNT_LEN, put_line};
-use octet_fields::put_at;
+use octet_fields::{MAX_COUNT_LEN, put_at, put_line};
 
 /// The octets of a digest in hexadecimal digits.
 const DIGEST_LEN: usize = 64;

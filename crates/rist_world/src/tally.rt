@@ -7,7 +7,7 @@ ghost use Rattle.rist_world.specs.Tally.{raised_if};
 
 use outside_io::NoMemory;
 use request_rules::{AskWord, NackKind};
-use rist_sender::SendBad;
+use sender_rules::SendBad;
 use std::alloc::Global;
 use std::marker::Model;
 

@@ -2,7 +2,8 @@
 ghost use Rattle.std.specs.Prelude.{◌≡◌, ◌≤◌, ◌++◌, ◌∷◌, [], length, take, IfOk, IfSome, OnErr, option_map, slice_get};
 ghost use Rattle.outside_net.specs.declared.link.TheConstants.{MAX_DATAGRAM};
 
-use outside_io::{Channel, Failed, NoMemory, copy_front};
+use link_channels::Channel;
+use outside_io::{Failed, NoMemory, copy_front};
 use outside_net::{Got, Link, MAX_DATAGRAM, Octets};
 use std::alloc::Global;
 use std::marker::Model;

@@ -10,7 +10,8 @@ use crate::marks::{Marks, mark_all, media_in};
 use crate::tally::Tally;
 use crate::wire::Wire;
 use crate::written::Written;
-use outside_io::{Channel, NoMemory};
+use link_channels::Channel;
+use outside_io::NoMemory;
 use outside_net::MAX_DATAGRAM;
 use psk_seal::Sealer;
 use reorder_buffer::MAX_PAYLOAD;
@@ -63,7 +64,7 @@ impl Model for World {
         × (length w.forward.items ≤ 16) × (length w.backward.items ≡ length w.forward.items) };
 }
 
-// So many links on which nothing was put.
+// Links on which nothing was put, so many.
 fn wires(alloc: Global, count: usize) -> Result<Vec<Wire>, NoMemory>
     ensures value { IfOk result (λ wires. wires.items ≡ replicate count (record { put = []; faults = 0 })) }
 {

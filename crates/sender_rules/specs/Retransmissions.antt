@@ -1,7 +1,8 @@
 -- Which packets are sent again for the sequence numbers that a compound asks for (RFC 4585, section 6.2.1, and VSF
 -- TR-06-1 for requests; the bounds are this profile's).
-use Rattle.std.specs.Prelude.{ℕ, ◌+◌, List, [], ◌∷◌, take, Bool, true, not, nat_le, ◌==◌, Option, None, Some}
+use Rattle.std.specs.Prelude.{ℕ, List, [], ◌∷◌, take, not, ◌==◌}
 use Rattle.std.specs.List.{filter, filter_map}
+use Rattle.link_channels.specs.Intervals.{has_passed_since}
 use Rattle.seq_unwrap.specs.declared.width.Width.{Width}
 use Rattle.sender_rules.specs.declared.bounds.TheConstants.{MAX_LOOKED_AT, MAX_SENT_AGAIN}
 use Rattle.sender_rules.specs.Sendings.{Packet, Sending, last_sent_again}
@@ -11,11 +12,6 @@ use Rattle.sender_rules.specs.Stored.{stored_packets, packet_for}
 pub record AskedNumber : Type 0 where
   pub width : Width
   pub word : ℕ
-
--- a time is over at a tick: so many ticks have passed since the last time, if there was one
-abbrev pub has_passed : ℕ → ℕ → Option ℕ → Bool
-has_passed interval tick None = true
-has_passed interval tick (Some last) = nat_le (last + interval) tick
 
 -- packets each once, at its first place
 abbrev pub each_once : List Packet → List Packet
@@ -30,5 +26,5 @@ requested_packets size history asked =
 -- the packets that are sent again at a tick: those requested, but for those that were sent again within the hold time
 abbrev pub packets_to_send_again : ℕ → ℕ → List Sending → ℕ → List AskedNumber → List Packet
 packets_to_send_again size hold history tick asked =
-    take MAX_SENT_AGAIN (filter (λ packet. has_passed hold tick (last_sent_again history packet.number))
+    take MAX_SENT_AGAIN (filter (λ packet. has_passed_since hold tick (last_sent_again history packet.number))
     (requested_packets size history asked))

@@ -1,6 +1,6 @@
 //! A look at a link of the sink's own, in a turn.
 use crate::shared::Shared;
-use rist_desk::{Beside, Name, Side, Step};
+use rist_desk::{Beside, DeskOrigin, Side, Step};
 use turn_lock::Acts;
 
 /// A look at a link of the sink's own, by its place, at a moment in microseconds.
@@ -14,7 +14,7 @@ pub struct Aside {
 #[derive(Drop)]
 pub struct NoRoom;
 
-impl<N: Name, K: Beside> Acts<Step, Aside, NoRoom, Side> for Shared<N, K> {
+impl<N: DeskOrigin, K: Beside> Acts<Step, Aside, NoRoom, Side> for Shared<N, K> {
     ghost use Rattle.std.specs.Prelude.{None};
     ghost use Rattle.turn_desk.specs.Asides.{LooksAt};
 

@@ -5,11 +5,14 @@ ghost use Rattle.turn_desk.specs.Stands.{StandAs, IsEnded};
 
 use crate::parts::Parts;
 use outside_io::Sink;
-use rist_desk::Name;
+use rist_desk::DeskOrigin;
 use rist_ends::{Answer, Outs, Told, What};
 
 /// Tells the end, which makes no datagrams: all that is held goes out to the sink.
-pub fn tell_end<N: Name, K: Sink + Drop>(parts: Parts<K>, outs: &mut Outs) -> (Answer, Parts<K>)
+pub fn tell_end<N: DeskOrigin, K: Sink + Drop>(
+    parts: Parts<K>,
+    outs: &mut Outs,
+) -> (Answer, Parts<K>)
     ensures ended { (history : List Step) → StandAs N.given K.contents K.faults parts history
         → IsEnded N.given K.contents K.faults history result.0 outs.new result.1 }
 {

@@ -1,7 +1,7 @@
 //! What the lock is passed on over.
 use crate::parts::Parts;
 use outside_io::Sink;
-use rist_desk::{Name, Step};
+use rist_desk::{DeskOrigin, Step};
 use rist_ends::{Answer, Outs, Told};
 use std::marker::PhantomData;
 use turn_lock::{Acts, Turned};
@@ -13,13 +13,13 @@ pub struct Shared<N, K> {
     pub of: PhantomData<N>,
 }
 
-impl<N: Name, K: Sink> Turned<Step> for Shared<N, K> {
+impl<N: DeskOrigin, K: Sink> Turned<Step> for Shared<N, K> {
     ghost use Rattle.turn_desk.specs.Stands.{Stands};
 
     ghost stands = { λ v h. Stands N.given K.contents K.faults v.parts.value.receiver v.parts.value.sink h };
 }
 
-impl<'a, N: Name, K: Sink> Acts<Step, Told<'a>, Outs, Answer> for Shared<N, K> {
+impl<'a, N: DeskOrigin, K: Sink> Acts<Step, Told<'a>, Outs, Answer> for Shared<N, K> {
     ghost use Rattle.turn_desk.specs.Stands.{MayBeTold, Answers, step_added};
 
     ghost asks = { λ told outs. MayBeTold told };

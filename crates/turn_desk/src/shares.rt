@@ -6,12 +6,12 @@ use crate::desk::TurnDesk;
 use crate::shared::Shared;
 use outside_io::Sink;
 use outside_net::Full;
-use rist_desk::{Name, Shares, Step};
+use rist_desk::{DeskOrigin, Shares, Step};
 use rist_ends::{Answer, Outs, Told};
 use std::sync::Wait;
 use turn_lock::Pass;
 
-impl<N: Name, K: Sink + Drop> Shares<Pass<Step, Shared<N, K>>> for TurnDesk<N, K> {
+impl<N: DeskOrigin, K: Sink + Drop> Shares<Pass<Step, Shared<N, K>>> for TurnDesk<N, K> {
     ghost use Rattle.std.specs.Prelude.{None};
     ghost use Rattle.turn_lock.specs.Passes.{turns_left};
     ghost use Rattle.turn_desk.specs.Own.{IsOf, own_list, HasSeenFault};

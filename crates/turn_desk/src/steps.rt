@@ -12,14 +12,14 @@ use crate::desk::TurnDesk;
 use crate::parts::Parts;
 use crate::shared::Shared;
 use outside_io::Sink;
-use rist_desk::{Beside, Name, Side, Step};
+use rist_desk::{Beside, DeskOrigin, Side, Step};
 use rist_ends::{Answer, Outs, Receiver, Told};
 use std::alloc::{AllocFailed, Global};
 use std::marker::PhantomData;
 use std::sync::Wait;
 use turn_lock::{Pass, TurnLock};
 
-impl<N: Name, K: Sink + Drop> TurnDesk<N, K> {
+impl<N: DeskOrigin, K: Sink + Drop> TurnDesk<N, K> {
     /// A desk over a receiver that has made no step and an empty sink, with its passes in order. Both come back where
     /// memory is wanting.
     pub fn open(
@@ -79,7 +79,7 @@ impl<N: Name, K: Sink + Drop> TurnDesk<N, K> {
     }
 }
 
-impl<N: Name, K: Beside + Drop> TurnDesk<N, K> {
+impl<N: DeskOrigin, K: Beside + Drop> TurnDesk<N, K> {
     /// Waits for its turn and hands one aside on to the sink: one read of its link at a place, at a moment in
     /// microseconds, and what is due there. It is no step: the history stays as it is.
     pub fn aside<R: Wait>(

@@ -10,12 +10,12 @@ use Rattle.rist_wire.specs.declared.session.Session.{Session}
 use Rattle.rist_wire.specs.Writing.{is_spent}
 use Rattle.rist_sender.specs.declared.answer.Answer.{Answer}
 use Rattle.rist_sender.specs.declared.answer.Answer.TheVariants.{Took, NoPeer, Failed}
-use Rattle.rist_sender.specs.declared.send_bad.SendBad.{SendBad}
+use Rattle.sender_rules.specs.declared.send_bad.SendBad.{SendBad}
 use Rattle.rist_sender.specs.Links.{Tried, taken_as, datagrams_taken}
 use Rattle.rist_sender.specs.Messages.{Message}
 use Rattle.rist_sender.specs.History.{Write, Event, Called, Sent, Wrote, Renewed, effective_time, packet_count, is_down, tried_as, tried_on}
 use Rattle.rist_sender.specs.Calls.{Work, Due, Rules, IfElse, WritesInTurn, Spreads, SendsPacket, SendsNext, TicksInTurn, Sends, FeedsBack, Ticks, after_due, after_write, without_pair, called_at, written_as, with_event, after_copy, after_sent, is_settled, is_ended, packet_for}
-use Rattle.sent_flows.specs.Flows.{SentPayload, SentFlow, with_sent, is_known}
+use Rattle.world_rules.specs.SentFlows.{SentPayload, SentFlow, with_sent, is_known}
 use Rattle.world_rules.specs.Flows.{payload_of, flows_of, flow_after, first_after, put_on}
 
 -- an event begins no flow

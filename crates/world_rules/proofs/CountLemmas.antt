@@ -12,12 +12,12 @@ use Rattle.request_rules.specs.declared.policy.NackKind.{NackKind}
 use Rattle.request_rules.specs.declared.word.AskWord.{AskWord}
 use Rattle.request_rules.specs.Steps.{Step, Input, Media, Control, Keepalive, Refused, Tick, End, effective_time}
 use Rattle.request_rules.specs.Requests.{asked_words}
-use Rattle.rist_control.specs.Control.{ControlSettings, Datagram, datagrams_of, input_datagrams, tick_compound, tick_keepalive, is_any, words_made, input_words, tick_packets}
+use Rattle.rist_reporter.specs.Control.{ControlSettings, Datagram, datagrams_of, input_datagrams, tick_compound, tick_keepalive, is_any, words_made, input_words, tick_packets}
 use Rattle.rist_reporter.specs.declared.out.Outs.{Outs}
 use Rattle.rist_reporter.specs.OneMore.{AnswersAfter, IsMade, step_answered}
 use Rattle.rist_sender.specs.declared.answer.Answer.{Answer}
-use Rattle.rist_sender.specs.declared.send_bad.SendBad.{SendBad}
-use Rattle.rist_sender.specs.declared.send_bad.SendBad.TheVariants.{Spent, LinksDown}
+use Rattle.sender_rules.specs.declared.send_bad.SendBad.{SendBad}
+use Rattle.sender_rules.specs.declared.send_bad.SendBad.TheVariants.{Spent, LinksDown}
 use Rattle.rist_sender.specs.Messages.{Message}
 use Rattle.rist_sender.specs.History.{Event, Called, Sent, Wrote, Renewed, effective_time as sender_time, packet_count, is_down}
 use Rattle.rist_sender.specs.Calls.{Work, Due, Rules, IfElse, IsAnswer, WritesInTurn, Spreads, SendsPacket, SendsNext, TicksInTurn, Sends, FeedsBack, Ticks, after_due, after_write, without_pair, called_at, written_as, with_event, after_copy, after_sent, is_settled, is_ended, packet_for, is_sharing, links_tried}

@@ -16,17 +16,17 @@ use Rattle.receiver_rules.specs.ReceiverSteps.{buffer_event}
 use Rattle.rist_wire.specs.declared.session.Session.{Session}
 use Rattle.rist_wire.specs.Item.{item_of}
 use Rattle.rist_wire.specs.Writing.{pairs_left}
-use Rattle.rist_control.specs.Control.{ControlSettings, datagrams_of, input_datagrams}
+use Rattle.rist_reporter.specs.Control.{ControlSettings, datagrams_of, input_datagrams}
 use Rattle.rist_reporter.specs.declared.out.Outs.{Outs}
 use Rattle.rist_reporter.specs.OneMore.{step_answered, is_short}
 use Rattle.rist_sender.specs.declared.answer.Answer.{Answer}
 use Rattle.rist_sender.specs.declared.answer.Answer.TheVariants.{Took, NoPeer, Failed}
 use Rattle.rist_sender.specs.Links.{Tried, taken_as, datagrams_taken}
 use Rattle.rist_sender.specs.Calls.{Work, IfElse}
-use Rattle.sent_flows.specs.Flows.{SentFlow, is_known, AreShortFlows, BringsCopy, BringCopies}
-use Rattle.sent_flows.specs.Reached.{PlaysReached}
-use Rattle.sent_flows.proofs.GrowLemmas.{all_grow}
-use Rattle.sent_flows.proofs.RunLemmas.{plays_reached}
+use Rattle.world_rules.specs.SentFlows.{SentFlow, is_known, AreShortFlows, BringsCopy, BringCopies}
+use Rattle.world_rules.specs.Reached.{PlaysReached}
+use Rattle.world_rules.proofs.GrowLemmas.{all_grow}
+use Rattle.world_rules.proofs.RunLemmas.{plays_reached}
 use Rattle.world_rules.specs.declared.moves.Move.{Move}
 use Rattle.world_rules.specs.declared.moves.Move.TheVariants as moves
 use Rattle.world_rules.specs.Flows.{flows_of, put_on}

@@ -1,3 +1,6 @@
+pub mod FlowLemmas
+pub mod RunLemmas
+pub mod GrowLemmas
 pub mod MessageLemmas
 pub mod SenderLemmas
 pub mod CourseLemmas

@@ -7,8 +7,8 @@ use Rattle.seq_unwrap.specs.declared.width.Width.{Width}
 use Rattle.receiver_rules.specs.Steps.{Event}
 use Rattle.receiver_rules.specs.Sent.{copy_of}
 use Rattle.sender_rules.specs.Sendings.{Packet}
-use Rattle.outside_io.specs.declared.profile.Profile.{Profile}
-use Rattle.outside_io.specs.declared.profile.Profile.TheVariants.{Simple, Main}
+use Rattle.link_channels.specs.declared.profile.Profile.{Profile}
+use Rattle.link_channels.specs.declared.profile.Profile.TheVariants.{Simple, Main}
 use Rattle.psk_seal.specs.declared.sealer.Pair.{Pair}
 use Rattle.psk_seal.specs.Sealer.{SealerState}
 use Rattle.psk_seal.specs.Nonces.{AreNonces}
@@ -35,9 +35,9 @@ use Rattle.receiver_rules.specs.ReceiverSteps.{buffer_event}
 use Rattle.rist_ends.specs.Items.{arrival_of, input_read}
 use Rattle.rist_sender.specs.Links.{Tried}
 use Rattle.rist_sender.specs.Messages.{Message, Original, Retransmission, Report, RttAnswer, Alive, media_of, message_octets, message_channel, message_datagram}
-use Rattle.sent_flows.specs.Flows.{SentFlow, stream_of, was_sent, BringsCopy}
+use Rattle.world_rules.specs.SentFlows.{SentFlow, stream_of, was_sent, BringsCopy}
 use Rattle.world_rules.specs.World.{IsSealerOf}
-use Rattle.sent_flows.proofs.GrowLemmas.{Grows, brings_grows}
+use Rattle.world_rules.proofs.GrowLemmas.{Grows, brings_grows}
 
 -- what comes with an item, as the buffer sees it
 abbrev pub event_read : ℕ → Result Item WireBad → Event

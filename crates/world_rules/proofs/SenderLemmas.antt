@@ -10,26 +10,28 @@ use Rattle.receiver_rules.specs.Steps.{tick_of}
 use Rattle.receiver_rules.specs.Sent.{copy_of}
 use Rattle.sender_rules.specs.Sendings.{Packet, Sending, sent_packets, last_sent_again}
 use Rattle.sender_rules.specs.Stored.{stored_packets, packet_for as stored_packet}
-use Rattle.sender_rules.specs.Retransmissions.{AskedNumber, has_passed, each_once}
+use Rattle.link_channels.specs.Intervals.{has_passed_since}
+use Rattle.sender_rules.specs.Retransmissions.{AskedNumber, each_once}
 use Rattle.rtcp_compound.specs.Compound.{Content}
 use Rattle.psk_seal.specs.declared.sealer.Pair.{Pair}
 use Rattle.psk_seal.specs.Sealer.{SealerState}
-use Rattle.rist_rtt.specs.Echo.{EchoOf}
+use Rattle.rist_rtt.specs.Echo.{EchoOf, echoes_in}
 use Rattle.rist_wire.specs.declared.session.Session.{Session}
 use Rattle.rist_wire.specs.Writing.{IsPair, next_pair, after_pair, is_spent}
 use Rattle.rist_sender.specs.declared.answer.Answer.{Answer}
-use Rattle.rist_sender.specs.declared.send_bad.SendBad.{SendBad}
+use Rattle.sender_rules.specs.declared.send_bad.SendBad.{SendBad}
 use Rattle.rist_sender.specs.Links.{Tried}
 use Rattle.rist_wire.specs.Packets.{media_value}
 use Rattle.ts_nulls.specs.Shape.{Shape}
 use Rattle.ts_nulls.specs.Nulls.{stripping_of}
 use Rattle.rist_ends.specs.Items.{arrival_of}
-use Rattle.rist_sender.specs.Messages.{Message, Original, Retransmission, Report, RttAnswer, Alive, Status, media_of, first_request}
+use Rattle.rist_rtt.specs.Echo.{first_request}
+use Rattle.rist_sender.specs.Messages.{Message, Original, Retransmission, Report, RttAnswer, Alive, Status, media_of}
 use Rattle.rist_sender.specs.History.{Write, Event, Wrote, effective_time, sendings_of, sending_as, packet_count, is_down, tried_as}
 use Rattle.rist_sender.specs.Calls.{Work, Due, Rules, IfElse, WritesInTurn, Spreads, SendsPacket, SendsNext, TicksInTurn, Sends, FeedsBack, Ticks, after_due, after_write, without_pair, called_at, written_as, with_event, after_copy, after_sent, is_settled, is_ended, packet_with, packet_for, is_sharing, links_tried, asked_numbers, packets_again, rtt_answer, on_link, renewed_as, status_at}
 use Rattle.rist_sender.proofs.LawLemmas.{media-is}
-use Rattle.sent_flows.specs.Flows.{SentPayload, SentFlow, is_known, with_sent, tick_at, payload_at, stream_in, stream_of, was_sent, AreSteady}
-use Rattle.sent_flows.proofs.GrowLemmas.{Grows, grows_not, grows_sent, grows_flow}
+use Rattle.world_rules.specs.SentFlows.{SentPayload, SentFlow, is_known, with_sent, tick_at, payload_at, stream_in, stream_of, was_sent, AreSteady}
+use Rattle.world_rules.proofs.GrowLemmas.{Grows, grows_not, grows_sent, grows_flow}
 use Rattle.world_rules.specs.Flows.{payload_of, flows_of, flow_after, first_after, put_on}
 use Rattle.world_rules.specs.World.{Setup, IsSetup, rules_after}
 use Rattle.world_rules.proofs.MessageLemmas.{Brings, IsPacketSent, IsMessage, HasPairs, packet_grows, tried_grows, next_is_pair, next_is_some, message_brings}
@@ -272,7 +274,7 @@ again_messages width flows flow link rules history compound a =
     let asked : List AskedNumber = take 65536 (asked_numbers rules.flow compound) in
     let stored : List Packet = stored_packets rules.size (sendings_of history) in
     let found : List Packet = filter_map (λ n. stored_packet stored n.width n.word) asked in
-    let rested : Packet → Bool = λ packet. has_passed rules.hold (effective_time history) (last_sent_again (sendings_of history) packet.number) in
+    let rested : Packet → Bool = λ packet. has_passed_since rules.hold (effective_time history) (last_sent_again (sendings_of history) packet.number) in
     let known = all_mapped width flows flow stored asked (all_take width flows flow rules.size (sent_packets (sendings_of history)) a) in
     sent_again width flows flow link (packets_again rules history compound)
     (all_take width flows flow 256 (filter rested (each_once found)) (all_filter width flows flow rested (each_once found) (all_once width flows flow found known)))
@@ -430,7 +432,7 @@ feeds_leaves setup low count links micros link f older compound result from to l
     let w = feeds.writes in
     let flows : List SentFlow = f ∷ older in
     let between = writes setup low count f older _ _ (called_at micros from) w.between legal
-    (answer_messages setup.session.width flows f.flow link _ (first_request compound)) w.request (called setup low count f older micros from below s) in
+    (answer_messages setup.session.width flows f.flow link _ (first_request (echoes_in compound))) w.request (called setup low count f older micros from below s) in
     writes setup low count f older _ _ w.between to legal
     (again_messages setup.session.width flows f.flow link (rules_after setup from.history) w.between.history compound between.packets) w.again between
 

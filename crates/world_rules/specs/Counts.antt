@@ -12,9 +12,9 @@ use Rattle.rist_wire.specs.declared.bad.WireBad.{WireBad}
 use Rattle.rist_wire.specs.declared.item.Item.{Item}
 use Rattle.rist_wire.specs.declared.item.Item.TheVariants as items
 use Rattle.rist_wire.specs.Item.{item_of}
-use Rattle.rist_control.specs.Control.{ControlSettings, words_made}
-use Rattle.rist_sender.specs.declared.send_bad.SendBad.{SendBad}
-use Rattle.rist_sender.specs.declared.send_bad.SendBad.TheVariants.{Spent, LinksDown}
+use Rattle.rist_reporter.specs.Control.{ControlSettings, words_made}
+use Rattle.sender_rules.specs.declared.send_bad.SendBad.{SendBad}
+use Rattle.sender_rules.specs.declared.send_bad.SendBad.TheVariants.{Spent, LinksDown}
 use Rattle.rist_sender.specs.History.{Event, Called, Sent, Wrote, Renewed}
 use Rattle.world_rules.specs.World.{Setup, Course, Carried, links_of, forward_on, forward_at}
 

@@ -5,7 +5,7 @@ use Rattle.rist_wire.specs.declared.session.Session.{Session}
 use Rattle.rist_wire.specs.Media.{restored_payload}
 use Rattle.rist_sender.specs.Links.{Tried}
 use Rattle.rist_sender.specs.History.{Event, Called, Sent, Wrote, Renewed, effective_time, tried_as}
-use Rattle.sent_flows.specs.Flows.{SentPayload, SentFlow, with_sent}
+use Rattle.world_rules.specs.SentFlows.{SentPayload, SentFlow, with_sent}
 
 -- a payload as it was sent at a tick: with the null packets in their places that were deleted from it
 abbrev pub payload_of : ℕ → Packet → SentPayload

@@ -1,3 +1,5 @@
+pub mod SentFlows
+pub mod Reached
 pub mod Flows
 pub mod World
 pub mod Short

@@ -18,18 +18,18 @@ use Rattle.rist_wire.specs.declared.item.Item.{Item}
 use Rattle.rist_wire.specs.declared.item.Item.TheVariants as items
 use Rattle.rist_wire.specs.Session.{IsSession}
 use Rattle.rist_wire.specs.Item.{item_of}
-use Rattle.rist_control.specs.Control.{ControlSettings}
+use Rattle.rist_reporter.specs.Control.{ControlSettings}
 use Rattle.rist_reporter.specs.declared.out.Outs.{Outs}
 use Rattle.rist_reporter.specs.Made.{OutOf}
 use Rattle.rist_reporter.specs.OneMore.{AnswersAfter, after_pairs, answer_count, step_answered, outs_of}
 use Rattle.rist_ends.specs.Items.{input_read}
-use Rattle.rist_sender.specs.declared.send_bad.SendBad.{SendBad}
+use Rattle.sender_rules.specs.declared.send_bad.SendBad.{SendBad}
 use Rattle.rist_sender.specs.Links.{datagrams_taken}
 use Rattle.rist_sender.specs.History.{Event}
 use Rattle.rist_sender.specs.Calls.{Work, Rules, Sends, FeedsBack, Ticks, renewed_as, IfElse}
 use Rattle.world_rules.specs.declared.moves.Move.{Move}
 use Rattle.world_rules.specs.declared.moves.Move.TheVariants as moves
-use Rattle.sent_flows.specs.Flows.{is_known}
+use Rattle.world_rules.specs.SentFlows.{is_known}
 use Rattle.world_rules.specs.Flows.{flows_of, flow_after, first_after, put_on}
 
 -- what both ends are set to: their session, the sender's first flow and that flow's first number, for how many ticks

@@ -5,7 +5,7 @@ use Rattle.std.specs.List.{list_any}
 use Rattle.receiver_rules.specs.Packets.{Packet}
 use Rattle.request_rules.specs.declared.policy.Policy.{Policy}
 use Rattle.request_rules.specs.declared.word.AskWord.{AskWord}
-use Rattle.request_rules.specs.Times.{has_passed_since}
+use Rattle.link_channels.specs.Intervals.{has_passed_since}
 use Rattle.request_rules.specs.Building.{with_number, takes}
 use Rattle.nack_timer.specs.declared.entry.Missing.{Missing}
 

@@ -1,22 +1,23 @@
 -- What a run leaves whose sending end was made before.
 use Rattle.std.specs.Prelude.{◌≡◌, ℕ, List, [], map, Option, Some}
-use Rattle.rist_sender.specs.Links.{Line}
+use Rattle.outside_net.specs.Links.{LinkTells}
 use Rattle.rist_ends.specs.declared.counts.Counts.{Counts}
-use Rattle.rist_desk.specs.declared.worker.Limits.{Limits}
+use Rattle.rist_desk.specs.declared.worker.ServingLimits.{ServingLimits}
 use Rattle.rist_recv.specs.declared.ending.Ending.{Ending}
 use Rattle.rist_recv.specs.Run.{Receives}
 use Rattle.rist_recv.specs.Setup.{Setup}
 use Rattle.rist_gateway.specs.declared.ending.GateEnding.{GateEnding}
 use Rattle.rist_gateway.specs.Onward.{OnwardState, IsOnward, shown}
-use Rattle.rist_gateway.specs.Run.{EndsGate, tells_of}
+use Rattle.rist_gateway.specs.Run.{EndsGate}
 
 -- What was received on these links went on by a sending end that was made so; its links and its clock are those.
-pub record PlaysOn {L C : Type 0} (moments : C → Option (ℕ → ℕ)) (line : Line L) (s : Setup) (limits : Limits)
+pub record PlaysOn {L C : Type 0} (moments : C → Option (ℕ → ℕ)) (line : LinkTells L) (s : Setup)
+    (limits : ServingLimits)
     (links_were links_are : List L) (clocks_were clocks_are : List C) (first : OnwardState) (onward : List L)
     (clock : C) (counts : Counts) (ending : GateEnding) : Type 0 where
   pub last : OnwardState
   pub ended : Ending
-  pub receives : Receives moments (tells_of line) s limits links_were links_are clocks_were clocks_are (Some [])
+  pub receives : Receives moments line s limits links_were links_are clocks_were clocks_are (Some [])
       (Some last.passed.sent) 0 last.faults counts ended
   pub does : IsOnward first last
   pub links : last.links ≡ map (shown line) onward

@@ -3,8 +3,8 @@
 use Rattle.std.specs.Prelude.{◌≡◌, ℕ, ◌+◌, ◌*◌, ◌^◌, ◌<◌, ◌≤◌, List, [], length, flat_map, Result, Ok, Err}
 use Rattle.outside_io.specs.Told.{Passage, Takes, IsEmpty, Appends, AppendsPart}
 use Rattle.capture_file.specs.Capture.{Record, spelling}
-use Rattle.stream_pieces.specs.Pieces.{pieces_of}
-use Rattle.stream_pieces.specs.Reading.{DropsPart}
+use Rattle.block_source.specs.Pieces.{pieces_of}
+use Rattle.block_source.specs.Reading.{DropsPart}
 use Rattle.rist_pack.specs.Capture.{records_of, capture_of}
 use Rattle.rist_pack.specs.Packing.{Reads}
 use Rattle.rist_pack.specs.declared.packing.Turn.{Turn}

@@ -7,11 +7,12 @@ use Rattle.rist_wire.specs.Writing.{pairs_left}
 use Rattle.request_rules.specs.declared.word.AskWord.{AskWord}
 use Rattle.request_rules.specs.Steps.{Step, buffer_history, longest_rtt}
 use Rattle.request_rules.specs.Requests.{asked_words}
-use Rattle.request_rules.specs.Times.{has_passed_since}
+use Rattle.link_channels.specs.Intervals.{has_passed_since}
 use Rattle.nack_timer.specs.Steps.{tick_step}
 use Rattle.nack_timer.specs.TimerAfter.{IsTimerAfter}
-use Rattle.rist_control.specs.When.{report_interval, keepalive_interval}
-use Rattle.rist_control.specs.Control.{Datagram, is_any, tick_compound, tick_keepalive}
+use Rattle.link_channels.specs.Intervals.{report_interval}
+use Rattle.link_channels.specs.Intervals.{keepalive_interval}
+use Rattle.rist_reporter.specs.Control.{Datagram, is_any, tick_compound, tick_keepalive}
 use Rattle.rist_reporter.specs.declared.ticking.Due.{Due}
 use Rattle.rist_reporter.specs.Links.{entry_at}
 use Rattle.rist_reporter.specs.Reporter.{ReporterState, is_main}

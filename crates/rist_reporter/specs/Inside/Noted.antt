@@ -3,7 +3,7 @@ use Rattle.std.specs.Prelude.{ℕ, List, Option, None, Some, slice_set, if◌the
 use Rattle.rist_rtt.specs.Echo.{EchoOf}
 use Rattle.rist_rtt.specs.Smoothed.{smoothed}
 use Rattle.request_rules.specs.Steps.{sample_at}
-use Rattle.request_rules.specs.Times.{has_passed_since}
+use Rattle.link_channels.specs.Intervals.{has_passed_since}
 use Rattle.rist_reporter.specs.Links.{entry_at}
 
 -- a tick of a link is noted where the interval has passed

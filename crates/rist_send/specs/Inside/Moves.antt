@@ -1,10 +1,8 @@
 -- A part of a run: what it leaves of sender, progress, source and links.
-use Rattle.std.specs.Prelude.{◌≡◌, ◌≢◌, ◌≤◌, ◌-◌, ◌*◌, ◌^◌, ℕ, List, length, map, slice_index_or, Option, Result}
-use Rattle.std.specs.Option.{option_map}
+use Rattle.std.specs.Prelude.{◌≡◌, ◌≢◌, ◌≤◌, ◌-◌, ◌*◌, ◌^◌, ℕ, List, length, map, Option, Result}
 use Rattle.std.specs.List.{range_with_len}
-use Rattle.outside_net.specs.Streams.{later, IsFirst}
 use Rattle.outside_net.specs.Links.{Answer}
-use Rattle.rist_sender.specs.Links.{Line}
+use Rattle.outside_net.specs.Links.{LinkTells}
 use Rattle.rist_sender.specs.Sender.{SenderState, IsSenderAfter}
 use Rattle.rist_send.specs.declared.progress.Progress.{Progress}
 use Rattle.rist_send.specs.declared.progress.Stage.{Stage}
@@ -13,7 +11,8 @@ use Rattle.rist_send.specs.declared.fault.SendFault.{SendFault}
 use Rattle.rist_send.specs.declared.settings.SendSettings.{SendSettings}
 use Rattle.rist_send.specs.Run.{Setup, Run, setup_of}
 use Rattle.rist_send.specs.Turns.{ReadsInTurn}
-use Rattle.rist_send.specs.Served.{Outside, AreServed}
+use Rattle.rist_sender.specs.Served.{AreServed}
+use Rattle.rist_send.specs.Served.{Outside}
 
 -- the octets before the next piece are no more than the longest source has
 abbrev pub IsPlace : Stage → Type 0
@@ -37,7 +36,7 @@ pub record IsAt (s : SenderState) (p : Progress) (outside : Outside) (run : Run)
   pub answers : run.answers ≡ outside.answers
 
 -- a part of a run: it comes to something of which this holds
-pub record Moves {L : Type 0} (line : Line L) (old new : SenderState) (progress : Progress) (outside : Outside)
+pub record Moves {L : Type 0} (line : LinkTells L) (old new : SenderState) (progress : Progress) (outside : Outside)
     (was is : List L) (from : Run) (P : Run → Type 0) : Type 0 where
   pub to : Run
   pub fact : P to
@@ -46,21 +45,12 @@ pub record Moves {L : Type 0} (line : Line L) (old new : SenderState) (progress 
 
 -- a part of a run that comes neither to its clock nor to its source: from where a run has come to, it comes to
 -- something of which this holds
-abbrev pub MovesBy : {L : Type 0} → Line L → SenderState → SenderState → Progress → Progress → List L → List L
+abbrev pub MovesBy : {L : Type 0} → LinkTells L → SenderState → SenderState → Progress → Progress → List L → List L
     → (Setup → Run → Run → Type 0) → Type 0
 MovesBy line old new before after was is P =
     (settings : SendSettings) (from : Run) → IsAt old before (with_links from (map line.reads was)) from
     → Moves line old new after (with_links from (map line.reads is)) was is from
     (P (setup_of settings old (length was)) from)
-
--- one link gave an answer to a read, and the others stay
-pub record ReadsAt {L : Type 0} (line : Line L) (link : ℕ) (answer : Answer) (was is : List L) : Type 0 where
-  pub first : (d : L) → IsFirst (line.reads (slice_index_or was link d)) answer
-  pub reads : (d : L) → line.reads (slice_index_or is link d)
-      ≡ option_map later (line.reads (slice_index_or was link d))
-  pub taken : (d : L) → line.taken (slice_index_or is link d) ≡ line.taken (slice_index_or was link d)
-  pub faults : (d : L) → line.faults (slice_index_or was link d) ≤ line.faults (slice_index_or is link d)
-  pub others : (k : ℕ) (d : L) → k ≢ link → slice_index_or is k d ≡ slice_index_or was k d
 
 -- the links before one were read: whatever the reads of the others leave, the reads of all leave
 abbrev pub ReadsBefore : Setup → ℕ → Run → Run → Type 0

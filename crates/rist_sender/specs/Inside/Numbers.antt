@@ -4,7 +4,8 @@ use Rattle.std.specs.List.{flat_map}
 use Rattle.seq_unwrap.specs.declared.width.Width.{Width}
 use Rattle.seq_unwrap.specs.Nearest.{cycle_of}
 use Rattle.sender_rules.specs.Sendings.{Packet, Sending, last_sent_again}
-use Rattle.sender_rules.specs.Retransmissions.{AskedNumber, has_passed}
+use Rattle.link_channels.specs.Intervals.{has_passed_since}
+use Rattle.sender_rules.specs.Retransmissions.{AskedNumber}
 use Rattle.rist_nack.specs.declared.ask.Ask.{Ask}
 use Rattle.rist_nack.specs.Asked.{following}
 use Rattle.rist_sender.specs.Calls.{numbers_of}
@@ -27,4 +28,4 @@ numbers_left width next count asks = numbers_from width next count ++ flat_map n
 abbrev pub number_again : ℕ → ℕ → List Sending → Option Packet → Option ℕ
 number_again hold tick history None = None
 number_again hold tick history (Some packet) =
-    if has_passed hold tick (last_sent_again history packet.number) then Some packet.number else None
+    if has_passed_since hold tick (last_sent_again history packet.number) then Some packet.number else None

@@ -4,14 +4,15 @@ use Rattle.std.specs.Prelude.{Ok, Err}
 use Rattle.std.specs.List.{filter, filter_map, range_with_len}
 use Rattle.sender_rules.specs.Sendings.{Packet, Sending, last_sent_again}
 use Rattle.sender_rules.specs.Stored.{stored_packets, packet_for}
-use Rattle.sender_rules.specs.Retransmissions.{AskedNumber, has_passed, each_once}
+use Rattle.link_channels.specs.Intervals.{has_passed_since}
+use Rattle.sender_rules.specs.Retransmissions.{AskedNumber, each_once}
 use Rattle.sender_rules.specs.declared.bounds.TheConstants.{MAX_SENT_AGAIN}
 use Rattle.rtcp_compound.specs.Compound.{Content}
 use Rattle.psk_seal.specs.declared.sealer.Pair.{Pair}
 use Rattle.rist_wire.specs.Writing.{is_spent}
 use Rattle.rist_sender.specs.declared.answer.Answer.{Answer}
 use Rattle.rist_sender.specs.declared.answer.Answer.TheVariants.{Took}
-use Rattle.outside_io.specs.declared.channel.Channel.{Channel}
+use Rattle.link_channels.specs.declared.channel.Channel.{Channel}
 use Rattle.rist_sender.specs.Messages.{Message, Original, Retransmission, message_channel, message_datagram}
 use Rattle.rist_sender.specs.Sender.{SenderState}
 use Rattle.rist_sender.specs.History.{sendings_of, effective_time, again_count}
@@ -49,7 +50,7 @@ pub record SendsAgain (size hold tick link : ℕ) (asked : AskedNumber) (answer 
     (from to : Work) : Type 0 where
   pub packet : Packet
   pub found : packet_for (stored_packets size (sendings_of from.history)) asked.width asked.word ≡ Some packet
-  pub passed : has_passed hold tick (last_sent_again (sendings_of from.history) packet.number) ≡ true
+  pub passed : has_passed_since hold tick (last_sent_again (sendings_of from.history) packet.number) ≡ true
   pub puts : PutsWith tick link (Retransmission packet) answer short from to
 
 -- nothing is sent again for a number
@@ -88,7 +89,7 @@ pub record AnswersAll {E : Type 0} (rules : Rules) (micros link : ℕ) (compound
 -- within the hold time
 abbrev pub again_among : List Packet → ℕ → ℕ → ℕ → List Sending → List AskedNumber → List Packet
 again_among stored hold tick most history asked =
-    take most (filter (λ packet. has_passed hold tick (last_sent_again history packet.number))
+    take most (filter (λ packet. has_passed_since hold tick (last_sent_again history packet.number))
     (each_once (filter_map (λ n. packet_for stored n.width n.word) asked)))
 
 -- the numbers before these were answered: whatever the retransmissions for these leave, all of them leave

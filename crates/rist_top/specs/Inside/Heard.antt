@@ -20,7 +20,7 @@ pub record Hears {I O E L C : Type 0} (tells : Tells I O E) (live : TellsLive L 
       (tells.contents filled)
       (tells.write_faults sink) (tells.write_faults filled) counts status
 
--- the same of a gateway
+-- a gateway ran, and the counts of its receiver reached the host, where it tells
 pub record Passes {I O E L C : Type 0} (live : TellsLive L C) (told : Bool) (new : Shelf I O E L C) (c : GateCommand)
     (receiving sending : Option SealerState) (links_were links_are : List L) (clocks_were clocks_are : List C)
     (status : Status) : Type 0 where

@@ -2,7 +2,8 @@
 use Rattle.std.proofs.Common.{◌≡◌, ◌∙◌, ◌<◌, ◌≤◌, ◌+◌, ◌++◌, ℕ, List, map, length, slice_get, take, drop, Some, ap, sym, subst, arith, rules}
 use Rattle.std.specs.Prelude.{slice_index_or, vec_capacity}
 use Rattle.std.proofs.lemmas.List.{length-append, length-drop, length-map, length-take-le}
-use Rattle.rist_desk.specs.Serving.{LinkTells, ServesOn}
+use Rattle.outside_net.specs.Links.{LinkTells}
+use Rattle.rist_desk.specs.Serving.{ServesOn}
 use Rattle.turn_lock.specs.declared.pass.Pass.{Pass}
 use Rattle.turn_desk.specs.Own.{IsBeside, IsOf, own_list}
 use Rattle.rist_recv.specs.Receiving.{own_lists}

@@ -5,7 +5,7 @@ use Rattle.rist_wire.specs.declared.session.Session.{Session}
 use Rattle.rist_wire.specs.declared.bad.WireBad.{WireBad}
 use Rattle.rist_wire.specs.declared.item.Item.{Item}
 use Rattle.rist_wire.specs.Item.{item_of}
-use Rattle.rist_send.specs.Turns.{compound_of}
+use Rattle.rist_sender.specs.Incoming.{compound_of}
 use Rattle.rist_gateway.specs.Course.{AnswersAndTicks}
 use Rattle.rist_gateway.specs.Inside.Moves.{setup_with}
 use Rattle.rist_gateway.proofs.MoveLemmas.{goes_as}

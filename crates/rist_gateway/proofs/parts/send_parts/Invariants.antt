@@ -2,7 +2,6 @@
 use Rattle.std.proofs.Common.{◌≡◌, ◌≤◌, length}
 use Rattle.sender_rules.specs.Bonding.{link_count}
 use Rattle.rist_sender.specs.Sender.{StaysSet}
-use Rattle.rist_send.specs.Served.{line_of}
 use Rattle.rist_gateway.specs.Course.{Course}
 use Rattle.rist_gateway.specs.Onward.{passed_of}
 use Rattle.rist_gateway.specs.Inside.Moves.{setup_with, IsFar, Goes, SendsBefore}
@@ -14,8 +13,8 @@ invariant-loop-rest g l = record {
   same : length l.links ≡ length l.initial.links;
   links : length l.links ≡ link_count l.sender.bonding;
   few : length l.links ≤ 16;
-  work : (from : Course) → IsFar (line_of g.L.Link.taken g.L.Link.knows g.L.Link.faults g.L.Link.reads g.L.Link.ends) l.initial.sender (passed_of (g.C.Clock.moments l.initial.clock) l.initial.handed) l.initial.links from
-      → Goes (line_of g.L.Link.taken g.L.Link.knows g.L.Link.faults g.L.Link.reads g.L.Link.ends) l.initial.sender l.sender (passed_of (g.C.Clock.moments l.clock) l.handed) l.initial.links l.links from
+  work : (from : Course) → IsFar (record { reads = g.L.Link.reads; taken = g.L.Link.taken; knows = g.L.Link.knows; ends = g.L.Link.ends; faults = g.L.Link.faults }) l.initial.sender (passed_of (g.C.Clock.moments l.initial.clock) l.initial.handed) l.initial.links from
+      → Goes (record { reads = g.L.Link.reads; taken = g.L.Link.taken; knows = g.L.Link.knows; ends = g.L.Link.ends; faults = g.L.Link.faults }) l.initial.sender l.sender (passed_of (g.C.Clock.moments l.clock) l.handed) l.initial.links l.links from
       (SendsBefore (setup_with l.initial.sender (length l.initial.links)) l.piece l.rest from);
 }
 

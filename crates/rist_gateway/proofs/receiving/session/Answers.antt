@@ -5,7 +5,8 @@ use Rattle.std.proofs.Common.{ℕ, arith, ◌≡◌, ◌≤◌, ◌∙◌, refl,
 use Rattle.std.proofs.lemmas.List.{length-map}
 use Rattle.std.specs.Prelude.{slice_index_or}
 use Rattle.rist_desk.specs.Desk.{DeskState, Given, StandsFor, state_of}
-use Rattle.rist_desk.specs.Serving.{LinkTells, ServesOn, TraceTells}
+use Rattle.outside_net.specs.Links.{LinkTells}
+use Rattle.rist_desk.specs.Serving.{ServesOn, TraceTells}
 use Rattle.rist_desk.specs.declared.step.Step.{Step}
 use Rattle.rist_recv.proofs.RunLemmas.{Finds, all_new, all_served, clocks_told as worker_clocks_told, ends_as, exactly, kept_sure, links_told}
 use Rattle.rist_recv.specs.Run.{EndsAs}
@@ -53,7 +54,7 @@ returns-clause-work g c =
     let later = c.serve_both.new.workers.items in
     let desk : DeskState = state_of r.receiver (g.T.Trace.list r.trace) (g.T.Trace.limit r.trace) (g.K.Sink.contents r.sink) (g.K.Sink.faults r.sink) in
     let tells : LinkTells g.row.L.Denot = record { reads = g.L.Link.reads; taken = g.L.Link.taken; knows = g.L.Link.knows; ends = g.L.Link.ends; faults = g.L.Link.faults } in
-    let given : Given = g.N.Name.given in
+    let given : Given = g.N.DeskOrigin.given in
     let same : given ≡ given_to (setup_of g.T.Trace.limit made) (g.K.Sink.contents c.args.sink) (g.K.Sink.faults c.args.sink) = c.requires.given in
     let stands : (steps : List Step) → desk.kept ≡ Some steps → StandsFor given desk (reverse steps) = c.conclude-ending.ensures.stands in
     let slice : Finds trace r.ending given desk c.as_slice.result.now = record {

@@ -1,13 +1,13 @@
 -- As many links come back as were handed on.
+use Rattle.outside_net.specs.Links.{LinkTells}
 use Rattle.std.proofs.Common.{◌∙◌, length, ap, sym}
 use Rattle.std.proofs.lemmas.List.{length-map}
-use Rattle.rist_send.specs.Served.{line_of}
 use Rattle.rist_gateway.specs.Onward.{OnwardState, shown}
 use Rattle.rist_gateway.proofs.running.forward.Goals as goal
 
 pub returns-in-Ok-clause-onward : goal.returns-in-Ok-clause-onward
 returns-in-Ok-clause-onward g c =
-    let line = line_of g.L.Link.taken g.L.Link.knows g.L.Link.faults g.L.Link.reads g.L.Link.ends in
+    let line : LinkTells g.row.L.Denot = record { reads = g.L.Link.reads; taken = g.L.Link.taken; knows = g.L.Link.knows; ends = g.L.Link.ends; faults = g.L.Link.faults } in
     let apart = c.apart-links.ensures in
     ap length apart.parts.0
     ∙ (sym (length-map _ (shown line))

@@ -1,13 +1,13 @@
 -- Links and clocks are handed on, and stand in their lists again.
+use Rattle.outside_net.specs.Links.{LinkTells}
 use Rattle.std.proofs.Common.{◌≡◌, ◌∙◌, ◌++◌, ◌∷◌, ◌≤◌, ℕ, ◌+◌, List, [], length, map, take, drop, Some, None, refl, ap, sym, subst, arith, rules}
 use Rattle.std.proofs.lemmas.List.{append_assoc, length-append, length-map}
 use Rattle.std.specs.Prelude.{vec_capacity}
-use Rattle.rist_send.specs.Served.{line_of}
 use Rattle.rist_recv.specs.Run.{Receives}
 use Rattle.rist_recv.proofs.SeatLemmas.{one_less, pushed}
 use Rattle.rist_gateway.specs.Onward.{onward_of, passed_of, shown}
 use Rattle.rist_gateway.specs.Setup.{IsReceivingEnd, received_setup_of}
-use Rattle.rist_gateway.specs.Run.{AreLookedAt, tells_of}
+use Rattle.rist_gateway.specs.Run.{AreLookedAt}
 use Rattle.rist_gateway.proofs.LendLemmas.{back_is, cut_counts, front_is}
 use Rattle.rist_gateway.proofs.RunLemmas.{last_at, take_front, ok_both, on_err, together}
 use Rattle.rist_gateway.proofs.running.gate_on.Given as given
@@ -74,7 +74,7 @@ forward-ended-requires-clause-made g c κs within =
 pub forward-ended-requires-clause-uncalled : goal.forward-ended-requires-clause-uncalled
 forward-ended-requires-clause-uncalled g c κs within =
     let p = parted g (goal.at.forward-ended-requires-clause-uncalled g c).After-hand_on-2 in
-    let shown_long = length-map c.hand_on.new.onward.items (shown (line_of g.L.Link.taken g.L.Link.knows g.L.Link.faults g.L.Link.reads g.L.Link.ends)) in
+    let shown_long = length-map c.hand_on.new.onward.items (shown (record { reads = g.L.Link.reads; taken = g.L.Link.taken; knows = g.L.Link.knows; ends = g.L.Link.ends; faults = g.L.Link.faults })) in
     record {
       sender = c.requires.made.sender;
       opener = c.requires.made.opener;
@@ -142,7 +142,7 @@ returns-clause-work g c =
     let given_long = ap length c.give_back-2.ensures.value ∙ length-append f.new.clocks.items f.new.beside.items in
     let more = pushed c.push.result (c.give_back-2.new.all.items ++ f.result.clock ∷ []) c.give_back-2.new.all.items c.push.new.self.items
     (c.push.ensures.succeeds (omega (arith, given_long, f.ensures.clocks, f.ensures.beside, p.clocks_kept, p.clocks_moved, c.give_back-2.ensures.room, f.ensures.clock_room, c.hand_on-2.ensures.room, c.pop.ensures.capacity, c.requires.clocks, room))) c.push.ensures.items in
-    let line = (line_of g.L.Link.taken g.L.Link.knows g.L.Link.faults g.L.Link.reads g.L.Link.ends) in
+    let line : LinkTells g.row.L.Denot = record { reads = g.L.Link.reads; taken = g.L.Link.taken; knows = g.L.Link.knows; ends = g.L.Link.ends; faults = g.L.Link.faults } in
     let inputs = c.args.inputs in
     let links_now = c.give_back.new.all.items in
     let clocks_was = c.args.clocks.now.items in
@@ -166,7 +166,7 @@ returns-clause-work g c =
     ok_both f.result.ended _ _ _ f.ensures.work f.ensures.looked
     (λ gated played looked.
     let received : List g.row.L.Denot → List g.row.L.Denot → List g.row.C.Denot → List g.row.C.Denot → Type 0 = λ a b x y.
-    Receives g.C.Clock.moments (tells_of line) (received_setup_of g.T.Trace.limit c.args.made.receiving) c.args.limits.now a b x y (Some []) (Some played.last.passed.sent) 0 played.last.faults gated.counts played.ended in
+    Receives g.C.Clock.moments line (received_setup_of g.T.Trace.limit c.args.made.receiving) c.args.limits.now a b x y (Some []) (Some played.last.passed.sent) 0 played.last.faults gated.counts played.ended in
     record {
       first = onward_of line c.args.made.sender c.args.made.opener c.hand_on.new.onward.items (passed_of (g.C.Clock.moments clock) []) 0 0 None None;
       last = played.last;

@@ -2,8 +2,9 @@
 use Rattle.std.proofs.Common.{◌≡◌, ◌∙◌, ◌++◌, ◌<◌, ℕ, List, length, map, reverse, get_or, ap, sym, subst, arith, rules}
 use Rattle.rist_recv.proofs.SeatLemmas.{put_front}
 use Rattle.rist_desk.specs.declared.worker.Worker.{Worker}
-use Rattle.rist_desk.specs.Serving.{LinkTells, MayServe}
-use Rattle.rist_gateway.specs.declared.part.Part.{Part}
+use Rattle.outside_net.specs.Links.{LinkTells}
+use Rattle.rist_desk.specs.Serving.{MayServe}
+use Rattle.rist_gateway.specs.declared.either_worker.EitherWorker.{EitherWorker}
 use Rattle.rist_gateway.specs.Parts.{IsPlaced, LooksWith, MayBegin, MayLook, ServesPart, ServesWith, SharedTells, shared_as, sides_as}
 use Rattle.rist_gateway.specs.Inside.Sides.{LookedWith, receiving_part, sending_part}
 use Rattle.rist_gateway.proofs.GatherLemmas.{Served, reverse_twice, placed_from, may_from, parts_served}
@@ -24,8 +25,8 @@ gate-requires-clause-placed g c κs within = λ i d less.
     let sides = c.requires.room.sides in
     let turned = ap (λ l. reverse l) c.requires.room.parts ∙ reverse_twice (map sending_part sides) in
     let all = c.as_mut_slice.ensures.value ∙ (c.gather.ensures.parts ∙ ap (λ l. map receiving_part ws ++ l) turned) in
-    let placed = placed_from 0 ws sides (omega (arith, c.requires.few)) i d (subst (λ (ps : List (Part g.row.L.Denot g.row.C.Denot g.row.U.Denot g.row.C.Denot g.row.P.Denot)). i < length ps) all less) in
-    subst (λ (ps : List (Part g.row.L.Denot g.row.C.Denot g.row.U.Denot g.row.C.Denot g.row.P.Denot)). IsPlaced (get_or ps i d) i) (sym all)
+    let placed = placed_from 0 ws sides (omega (arith, c.requires.few)) i d (subst (λ (ps : List (EitherWorker g.row.L.Denot g.row.C.Denot g.row.U.Denot g.row.C.Denot g.row.P.Denot)). i < length ps) all less) in
+    subst (λ (ps : List (EitherWorker g.row.L.Denot g.row.C.Denot g.row.U.Denot g.row.C.Denot g.row.P.Denot)). IsPlaced (get_or ps i d) i) (sym all)
     (subst (λ (n : ℕ). IsPlaced (get_or (map receiving_part ws ++ map sending_part sides) i d) n) (omega arith) placed)
 
 pub gate-requires-clause-may : goal.gate-requires-clause-may
@@ -39,8 +40,8 @@ gate-requires-clause-may g c κs within = λ i d less.
     let all = c.as_mut_slice.ensures.value ∙ (c.gather.ensures.parts ∙ ap (λ l. map receiving_part ws ++ l) turned) in
     let may = may_from tells desk limits 0 ws sides
     (λ j e more. subst (λ (n : ℕ). MayServe tells.is_of tells.left desk limits n (get_or ws j e)) (omega arith) (c.requires.may j e more))
-    (λ j e more. subst (λ (n : ℕ). MayLook tells.sides desk limits n (get_or sides j e)) (omega arith) (c.requires.may_look sides c.requires.room.parts j e more)) i d (subst (λ (ps : List (Part g.row.L.Denot g.row.C.Denot g.row.U.Denot g.row.C.Denot g.row.P.Denot)). i < length ps) all less) in
-    subst (λ (ps : List (Part g.row.L.Denot g.row.C.Denot g.row.U.Denot g.row.C.Denot g.row.P.Denot)). MayBegin tells desk limits i (get_or ps i d)) (sym all)
+    (λ j e more. subst (λ (n : ℕ). MayLook tells.sides desk limits n (get_or sides j e)) (omega arith) (c.requires.may_look sides c.requires.room.parts j e more)) i d (subst (λ (ps : List (EitherWorker g.row.L.Denot g.row.C.Denot g.row.U.Denot g.row.C.Denot g.row.P.Denot)). i < length ps) all less) in
+    subst (λ (ps : List (EitherWorker g.row.L.Denot g.row.C.Denot g.row.U.Denot g.row.C.Denot g.row.P.Denot)). MayBegin tells desk limits i (get_or ps i d)) (sym all)
     (subst (λ (n : ℕ). MayBegin tells desk limits n (get_or (map receiving_part ws ++ map sending_part sides) i d)) (omega arith) may)
 
 served_of : (g : given.Over) (c : goal.After-scatter g)
@@ -50,13 +51,13 @@ served_of g c =
     let sides = c.requires.room.sides in
     let turned = ap (λ l. reverse l) c.requires.room.parts ∙ reverse_twice (map sending_part sides) in
     let all = c.as_mut_slice.ensures.value ∙ (c.gather.ensures.parts ∙ ap (λ l. map receiving_part ws ++ l) turned) in
-    let serves : ℕ → Part g.row.L.Denot g.row.C.Denot g.row.U.Denot g.row.C.Denot g.row.P.Denot → Part g.row.L.Denot g.row.C.Denot g.row.U.Denot g.row.C.Denot g.row.P.Denot → Type 0 =
+    let serves : ℕ → EitherWorker g.row.L.Denot g.row.C.Denot g.row.U.Denot g.row.C.Denot g.row.P.Denot → EitherWorker g.row.L.Denot g.row.C.Denot g.row.U.Denot g.row.C.Denot g.row.P.Denot → Type 0 =
     ServesPart (tells_of g) c.args.desk.now g.C.Clock.moments g.C.Clock.moments (links_of g) c.args.limits.now in
     parts_served (tells_of g) c.args.desk.now g.C.Clock.moments g.C.Clock.moments (links_of g) c.args.limits.now 0 ws sides c.gate.new.parts (c.gate.auto.parts ∙ ap length all)
     (λ i d less.
     subst (λ (n : ℕ). serves n (get_or (map receiving_part ws ++ map sending_part sides) i d) (get_or c.gate.new.parts i d)) (omega arith)
-    (subst (λ (ps : List (Part g.row.L.Denot g.row.C.Denot g.row.U.Denot g.row.C.Denot g.row.P.Denot)). serves i (get_or ps i d) (get_or c.gate.new.parts i d)) all
-    (c.gate.ensures i d (subst (λ (ps : List (Part g.row.L.Denot g.row.C.Denot g.row.U.Denot g.row.C.Denot g.row.P.Denot)). i < length ps) (sym all) less))))
+    (subst (λ (ps : List (EitherWorker g.row.L.Denot g.row.C.Denot g.row.U.Denot g.row.C.Denot g.row.P.Denot)). serves i (get_or ps i d) (get_or c.gate.new.parts i d)) all
+    (c.gate.ensures i d (subst (λ (ps : List (EitherWorker g.row.L.Denot g.row.C.Denot g.row.U.Denot g.row.C.Denot g.row.P.Denot)). i < length ps) (sym all) less))))
 
 apart_of : (g : given.Over) (c : goal.After-scatter g)
     → (c.scatter.new.workers.items ≡ (served_of g c).workers) × (c.scatter.new.parts.items ≡ reverse (map sending_part (served_of g c).are))

@@ -1,6 +1,6 @@
 use Rattle.std.proofs.Common.{◌≡◌, ℕ, List, OnOk, OnErr, subst}
 use Rattle.outside_io.specs.Told.{Appends, AppendsPart}
-use Rattle.outside_io.specs.declared.channel.Channel.{Channel}
+use Rattle.link_channels.specs.declared.channel.Channel.{Channel}
 use Rattle.capture_file.specs.Capture.{Record, spelling}
 use Rattle.rist_pack.proofs.packing.write_piece.Goals as goal
 

@@ -9,6 +9,6 @@ pub returns : goal.returns
 returns g c = record {
   concluded = λ own owned.
       let closed = c.close-parts.ensures.closed in
-      has_concluded c.args.desk g.N.Name.given g.K.Sink.contents g.K.Sink.faults c.args.passes.items c.close-parts.result _ _ _ _
+      has_concluded c.args.desk g.N.DeskOrigin.given g.K.Sink.contents g.K.Sink.faults c.args.passes.items c.close-parts.result _ _ _ _
       closed (c.tell_end-answer.ensures.ended _ closed.stood) c.is_cut_off.ensures.value c.requires.own own owned;
 }

@@ -2,7 +2,8 @@
 use Rattle.std.proofs.Common.{◌≡◌, ◌<◌, ◌∙◌, ℕ, map, length, slice_get, Some, ap, sym, subst}
 use Rattle.std.specs.Prelude.{slice_index_or}
 use Rattle.std.proofs.lemmas.List.{length-map}
-use Rattle.rist_desk.specs.Serving.{LinkTells, MayServe, ServesOn}
+use Rattle.outside_net.specs.Links.{LinkTells}
+use Rattle.rist_desk.specs.Serving.{MayServe, ServesOn}
 use Rattle.turn_lock.specs.Passes.{turns_left}
 use Rattle.turn_desk.specs.Own.{IsOf, own_list}
 use Rattle.rist_recv.specs.Receiving.{own_lists}
@@ -55,7 +56,7 @@ returns-clause-work g c = λ s contents faults given free told delay session.
       as_many = c.serve.auto.workers ∙ ap length c.deref_mut.ensures.value;
       served = λ i d less.
           subst (λ x. ServesOn x g.C.Clock.moments tells pass_tells limits i (slice_index_or ws i d) (slice_index_or later i d)) given
-          (subst (λ l. ServesOn g.N.Name.given g.C.Clock.moments tells pass_tells limits i (slice_index_or l i d) (slice_index_or later i d)) c.deref_mut.ensures.value
+          (subst (λ l. ServesOn g.N.DeskOrigin.given g.C.Clock.moments tells pass_tells limits i (slice_index_or l i d) (slice_index_or later i d)) c.deref_mut.ensures.value
           (c.serve.ensures.on i d (within i less)));
       stopped = λ i d less. (c.serve.ensures.own i d (within i less)).stopped;
       fault = λ i d less. (c.serve.ensures.own i d (within i less)).fault;

@@ -3,7 +3,8 @@ use Rattle.std.proofs.Common.{◌≡◌, ◌<◌, ◌∙◌, refl, map, length, 
 use Rattle.std.proofs.lemmas.List.{length-map}
 use Rattle.std.specs.Prelude.{slice_index_or, is_some}
 use Rattle.rist_desk.specs.Desk.{DeskState, Given, StandsFor, state_of}
-use Rattle.rist_desk.specs.Serving.{LinkTells, ServesOn, TraceTells}
+use Rattle.outside_net.specs.Links.{LinkTells}
+use Rattle.rist_desk.specs.Serving.{ServesOn, TraceTells}
 use Rattle.rist_desk.specs.declared.step.Step.{Step}
 use Rattle.rist_recv.proofs.RunLemmas.{Finds, all_new, all_served, clocks_told, ends_as, exactly, kept_sure, links_told, none_told, same_given}
 use Rattle.rist_recv.proofs.SeatLemmas.{put_front}

@@ -2,9 +2,9 @@ use Rattle.std.proofs.Common.{◌≡◌, ◌∙◌, ℕ, List, ◌++◌, take, m
 use Rattle.std.proofs.lemmas.List.{length-take-le}
 use Rattle.rist_sender.specs.Calls.{Sends}
 use Rattle.rist_sender.specs.Sender.{rules_of}
-use Rattle.rist_sender.specs.declared.send_bad.SendBad.{SendBad}
+use Rattle.sender_rules.specs.declared.send_bad.SendBad.{SendBad}
 use Rattle.rist_send.specs.declared.progress.Progress.{Progress}
-use Rattle.stream_pieces.specs.Reading.{ReadsPiece}
+use Rattle.block_source.specs.Reading.{ReadsPiece}
 use Rattle.rist_send.specs.Run.{setup_of}
 use Rattle.rist_send.specs.Turns.{sent_with, stage_after, with_piece}
 use Rattle.rist_send.specs.Inside.Moves.{with_source}

@@ -5,7 +5,8 @@ use Rattle.rist_wire.specs.declared.bad.WireBad.{WireBad}
 use Rattle.rist_wire.specs.declared.item.Item.{Item}
 use Rattle.rist_wire.specs.Item.{item_of}
 use Rattle.rist_send.specs.Run.{setup_of}
-use Rattle.rist_send.specs.Turns.{AnswersIf, compound_of}
+use Rattle.rist_sender.specs.Incoming.{compound_of}
+use Rattle.rist_send.specs.Turns.{AnswersIf}
 use Rattle.rist_send.specs.Inside.Moves.{with_links}
 use Rattle.rist_send.proofs.MoveLemmas.{moves_none, moves_as}
 use Rattle.rist_send.proofs.reading.answer.Goals as goal

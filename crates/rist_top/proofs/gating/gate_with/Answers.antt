@@ -1,6 +1,6 @@
 -- What was made is what the line says, and what the run left is the line's.
+use Rattle.outside_net.specs.Links.{LinkTells}
 use Rattle.std.proofs.Common.{◌≡◌, length, subst, arith}
-use Rattle.rist_send.specs.Served.{line_of}
 use Rattle.rist_gateway.specs.Run.{Forwards}
 use Rattle.rist_words.specs.Shown.{shown_gate}
 use Rattle.rist_top.specs.Sessions.{limits_served, setup_gated}
@@ -9,7 +9,7 @@ use Rattle.rist_top.proofs.gating.gate_with.Goals as goal
 pub returns-in-Ok-gate_on-clause-work : goal.returns-in-Ok-gate_on-clause-work
 returns-in-Ok-gate_on-clause-work g c =
     let line = shown_gate c.args.line.now in
-    let tells = line_of g.L.Link.taken g.L.Link.knows g.L.Link.faults g.L.Link.reads g.L.Link.ends in
+    let tells : LinkTells g.row.L.Denot = record { reads = g.L.Link.reads; taken = g.L.Link.taken; knows = g.L.Link.knows; ends = g.L.Link.ends; faults = g.L.Link.faults } in
     let inputs : c.len.result ≡ length c.args.line.now.inputs.items = omega (arith, c.len.ensures) in
     let gated = c.in-Ok-gate_on.gated in
     record {

@@ -1,6 +1,6 @@
 -- What was made is what the line says, and what the run left is the line's.
 use Rattle.std.proofs.Common.{◌∙◌, None, subst}
-use Rattle.rist_desk.specs.Serving.{LinkTells}
+use Rattle.outside_net.specs.Links.{LinkTells}
 use Rattle.rist_recv.specs.Run.{Receives}
 use Rattle.rist_words.specs.Shown.{shown_recv}
 use Rattle.rist_top.specs.Sessions.{limits_received}

@@ -1,7 +1,7 @@
 -- The source comes back with what its run left.
 use Rattle.std.proofs.Common.{◌∙◌, sym, ap, subst}
 use mathlib.Core.Logic.{inr}
-use Rattle.host_links.specs.Opening.{IsAsItWas as LinkIsAsItWas}
+use Rattle.outside_host.specs.Links.{IsAsItWas as LinkIsAsItWas}
 use Rattle.outside_host.specs.declared.host.Place.TheVariants.{Back}
 use Rattle.rist_top.specs.Places.{IsAsItWas}
 use Rattle.rist_top.proofs.SendLemmas.{on_links_between, still_unused}

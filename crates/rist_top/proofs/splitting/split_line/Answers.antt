@@ -3,7 +3,7 @@ use Rattle.std.proofs.Common.{◌≡◌, ◌∙◌, length, map, ap, subst, sym}
 use Rattle.std.proofs.lemmas.List.{length-map}
 use Rattle.std.specs.Prelude.{IsTrue}
 use mathlib.Core.Logic.{inl, inr}
-use Rattle.host_sinks.specs.Sinks.{AreBack, AreOut}
+use Rattle.outside_host.specs.Sinks.{AreBack, AreOut}
 use Rattle.rist_words.specs.Shown.{shown_split}
 use Rattle.rist_top.specs.Causes.{CanRefuse}
 use Rattle.rist_top.specs.Splits.{Unsplit}

@@ -7,7 +7,7 @@ use Rattle.rist_wire.specs.declared.session.Session.{Session}
 use Rattle.rist_words.specs.Shown.{shown_count}
 use Rattle.rist_ends.specs.declared.settings.Settings.{Settings}
 use Rattle.rist_ends.specs.Settings.{limits_of}
-use Rattle.rist_count.specs.Counted.{counted}
+use Rattle.rist_replay.specs.Counted.{counted}
 use Rattle.rist_top.specs.Sessions.{count_limits}
 use Rattle.rist_top.proofs.working.count_records.Goals as goal
 

@@ -1,8 +1,8 @@
 -- One session takes a datagram.
 use Rattle.std.proofs.Common.{◌≡◌, ◌≢◌, ◌<◌, ◌==◌, ℕ, true, false, List, Result, Ok, Err, length, ◌⊎◌, inl, inr, refl, sym, ap, subst, ◌∙◌, arith}
 use Rattle.std.proofs.lemmas.Bool.Decides.{nat_tests}
-use Rattle.outside_io.specs.declared.channel.Channel.{Channel}
-use Rattle.outside_io.specs.declared.profile.Profile.TheVariants.{Main}
+use Rattle.link_channels.specs.declared.channel.Channel.{Channel}
+use Rattle.link_channels.specs.declared.profile.Profile.TheVariants.{Main}
 use Rattle.gre_tunnel.specs.declared.tunnel.Tunnel.{Tunnel}
 use Rattle.keepalive_msg.specs.declared.keepalive.Keepalive.{Keepalive}
 use Rattle.keepalive_msg.specs.declared.keepalive.KeepBad.{KeepBad}

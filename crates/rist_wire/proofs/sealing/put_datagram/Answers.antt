@@ -1,5 +1,5 @@
 use Rattle.std.proofs.Common.{◌≡◌, sym, ◌∙◌, arith}
-use Rattle.outside_io.specs.declared.profile.Profile.TheVariants.{Simple, Main}
+use Rattle.link_channels.specs.declared.profile.Profile.TheVariants.{Simple, Main}
 use Rattle.rist_wire.specs.Datagrams.{channel_on, datagram_on}
 use Rattle.rist_wire.proofs.BackLemmas.{datagram-from}
 use Rattle.rist_wire.proofs.sealing.put_datagram.Goals as goal

@@ -19,9 +19,9 @@ returns g c =
       ended = λ history old.
           let step : Stepped end_told (outcome_with answer w.outs) (kept_with v.receiver (contents v.sink) (faults v.sink) history) (kept_with w.self (contents w.sink) (faults w.sink) (with_end history answer w.outs)) = record { work = x.work; cause = x.cause } in
           record {
-            stands = stands_ended g.N.Name.given answer w.outs v.receiver w.self (contents v.sink) (contents w.sink) (faults v.sink) (faults w.sink) history step
+            stands = stands_ended g.N.DeskOrigin.given answer w.outs v.receiver w.self (contents v.sink) (contents w.sink) (faults v.sink) (faults w.sink) history step
                 (λ is. let same = x.same is in (same.0, ap contents same.1, ap faults same.1)) old;
             settings = x.work.settings ∙ old.settings;
-            cause = end_cause g.N.Name.given answer w.outs _ _ old step (λ is. ap faults (x.same is).1);
+            cause = end_cause g.N.DeskOrigin.given answer w.outs _ _ old step (λ is. ap faults (x.same is).1);
           };
     }

@@ -2,7 +2,6 @@
 use Rattle.std.proofs.Common.{rules, subst}
 use Rattle.std.proofs.lemmas.List.{with_items_is, places}
 use Rattle.std.specs.Vec.{with_items}
-use Rattle.rist_send.specs.Served.{line_of}
 use Rattle.rist_gateway.specs.Onward.{OnwardState, Looks, shows, onward_of, passed_of}
 use Rattle.rist_gateway.proofs.OnwardLemmas.{aside_looks, aside_keeps}
 use Rattle.rist_gateway.proofs.onward.OnwardBeside.aside.Goals as goal
@@ -11,7 +10,7 @@ pub invariant_of-self : goal.invariant_of-self
 invariant_of-self g c =
     let o = c.self.inside in
     let w = c.look-side in
-    aside_keeps (line_of g.L.Link.taken g.L.Link.knows g.L.Link.faults g.L.Link.reads g.L.Link.ends) g.G.Origin.first o.sender w.new.sender o.opener w.new.opener c.deref_mut.result.now o.links.items w.new.links _ (passed_of (g.C.Clock.moments o.clock) o.handed) o.puts o.faults o.put_bad o.aside_bad c.bad_after-self-inside.result
+    aside_keeps (record { reads = g.L.Link.reads; taken = g.L.Link.taken; knows = g.L.Link.knows; ends = g.L.Link.ends; faults = g.L.Link.faults }) g.G.OnwardOrigin.first o.sender w.new.sender o.opener w.new.opener c.deref_mut.result.now o.links.items w.new.links _ (passed_of (g.C.Clock.moments o.clock) o.handed) o.puts o.faults o.put_bad o.aside_bad c.bad_after-self-inside.result
     c.args.us c.args.link w.result c.deref_mut.ensures.value (with_items_is o.links w.new.links (search (rules, places))) w.auto.links w.ensures.opener w.ensures.set c.bad_after-self-inside.ensures.value w.ensures.work c.self.invariant
 
 pub returns-clause-looks : goal.returns-clause-looks
@@ -20,7 +19,7 @@ returns-clause-looks g c =
     let w = c.look-side in
     let m = g.C.Clock.moments in
     let back = (with_items o.links w.new.links).items in
-    let new : OnwardState = onward_of (line_of g.L.Link.taken g.L.Link.knows g.L.Link.faults g.L.Link.reads g.L.Link.ends) w.new.sender w.new.opener back (passed_of (m o.clock) o.handed) o.puts o.faults o.put_bad c.bad_after-self-inside.result in
-    subst (λ v. Looks (shows (line_of g.L.Link.taken g.L.Link.knows g.L.Link.faults g.L.Link.reads g.L.Link.ends) m v) new c.args.us c.args.link w.result) c.self.view_is
-    (aside_looks (line_of g.L.Link.taken g.L.Link.knows g.L.Link.faults g.L.Link.reads g.L.Link.ends) o.sender w.new.sender o.opener w.new.opener c.deref_mut.result.now o.links.items w.new.links back (passed_of (m o.clock) o.handed) o.puts o.faults o.put_bad o.aside_bad c.bad_after-self-inside.result
+    let new : OnwardState = onward_of (record { reads = g.L.Link.reads; taken = g.L.Link.taken; knows = g.L.Link.knows; ends = g.L.Link.ends; faults = g.L.Link.faults }) w.new.sender w.new.opener back (passed_of (m o.clock) o.handed) o.puts o.faults o.put_bad c.bad_after-self-inside.result in
+    subst (λ v. Looks (shows (record { reads = g.L.Link.reads; taken = g.L.Link.taken; knows = g.L.Link.knows; ends = g.L.Link.ends; faults = g.L.Link.faults }) m v) new c.args.us c.args.link w.result) c.self.view_is
+    (aside_looks (record { reads = g.L.Link.reads; taken = g.L.Link.taken; knows = g.L.Link.knows; ends = g.L.Link.ends; faults = g.L.Link.faults }) o.sender w.new.sender o.opener w.new.opener c.deref_mut.result.now o.links.items w.new.links back (passed_of (m o.clock) o.handed) o.puts o.faults o.put_bad o.aside_bad c.bad_after-self-inside.result
     c.args.us c.args.link w.result c.deref_mut.ensures.value (with_items_is o.links w.new.links (search (rules, places))) w.auto.links w.ensures.work)

@@ -15,7 +15,7 @@ use Rattle.rist_replay.specs.Replay.{released_so_far}
 use Rattle.rist_ends.specs.Receiver.{IsReceiverAfter}
 use Rattle.rist_wire.specs.declared.session.Session.{Session}
 use Rattle.rist_reporter.specs.OneMore.{step_answered}
-use Rattle.rist_control.specs.Control.{ControlSettings}
+use Rattle.rist_reporter.specs.Control.{ControlSettings}
 use Rattle.rist_ends.specs.Receiver.{MakesStep, GoesOn, settings_of}
 use Rattle.rist_ends.specs.declared.outcome.Outcome.{Outcome}
 use Rattle.rist_ends.specs.Outcome.{outcome_with, result_of}

@@ -1,7 +1,7 @@
 use Rattle.std.proofs.Common.{◌∙◌, ◌||◌, ap, sym, subst, Bool}
 use Rattle.request_rules.specs.Requests.{asked_words}
 use Rattle.nack_timer.specs.TimerAfter.{IsTimerAfter}
-use Rattle.rist_control.specs.Control.{is_any}
+use Rattle.rist_reporter.specs.Control.{is_any}
 use Rattle.rist_reporter.specs.Reporter.{ReporterState}
 use Rattle.rist_reporter.proofs.TickLemmas.{same_any}
 use Rattle.rist_reporter.proofs.reporter.Reporter.has_compound_at.Goals as goal

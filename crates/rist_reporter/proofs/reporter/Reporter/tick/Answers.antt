@@ -5,7 +5,7 @@ use Rattle.rist_wire.specs.Writing.{pairs_left}
 use Rattle.request_rules.specs.declared.word.AskWord.{AskWord}
 use Rattle.request_rules.specs.Requests.{asked_words}
 use Rattle.nack_timer.specs.Steps.{tick_step}
-use Rattle.rist_control.specs.Control.{Datagram}
+use Rattle.rist_reporter.specs.Control.{Datagram}
 use Rattle.rist_reporter.specs.Links.{LinksState, AreLinksAfter, longest_of}
 use Rattle.rist_reporter.specs.Reporter.{ReporterState, IsReporterAfter}
 use Rattle.rist_reporter.specs.OneMore.{is_short, IsMade}

@@ -1,5 +1,6 @@
 use Rattle.std.proofs.Common.{map, refl, subst}
-use Rattle.rist_sender.specs.Messages.{Retransmission, first_request}
+use Rattle.rist_rtt.specs.Echo.{first_request, echoes_in}
+use Rattle.rist_sender.specs.Messages.{Retransmission}
 use Rattle.rist_sender.specs.History.{effective_time}
 use Rattle.rist_sender.specs.Calls.{Rules, status_at, WritesInTurn, on_link, packets_again}
 use Rattle.rist_sender.proofs.AgainLemmas.{request_count, counts_from}
@@ -19,7 +20,7 @@ returns-in-Ok-clause-does g c = λ from stands fresh.
       };
       ends = fact.ends;
       counts = counts_from c.send_again.result from d.to to
-          (request_count (effective_time from.history) c.args.link (status_at c.args.us from.history) (first_request c.args.compound.now) from d.to d.fact.writes) fact.counts;
+          (request_count (effective_time from.history) c.args.link (status_at c.args.us from.history) (first_request (echoes_in c.args.compound.now)) from d.to d.fact.writes) fact.counts;
     })
 
 pub returns-in-Err-clause-does : goal.returns-in-Err-clause-does

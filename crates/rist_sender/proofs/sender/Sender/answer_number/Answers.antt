@@ -1,6 +1,6 @@
 use Rattle.std.proofs.Common.{◌≡◌, ◌∙◌, ℕ, false, true, Some, sym, ap, subst}
 use Rattle.sender_rules.specs.Sendings.{last_sent_again}
-use Rattle.sender_rules.specs.Retransmissions.{has_passed}
+use Rattle.link_channels.specs.Intervals.{has_passed_since}
 use Rattle.sender_rules.specs.Stored.{stored_packets, packet_with, packet_for}
 use Rattle.retransmit_store.specs.State.{packets_in}
 use Rattle.retransmit_store.proofs.HistoryLemmas.{stored_are}
@@ -24,7 +24,7 @@ returns-in-Ok-clause-does g c = λ from stands fresh.
     (λ to fact. record {
       packet = p.0;
       found = p.1;
-      passed = subst (λ (t : ℕ). has_passed old.hold t (last_sent_again h p.0.number) ≡ true) stands.time p.2;
+      passed = subst (λ (t : ℕ). has_passed_since old.hold t (last_sent_again h p.0.number) ≡ true) stands.time p.2;
       puts = subst (λ (t : ℕ). PutsWith t c.args.link (Retransmission p.0) c.in-Ok.answer false from to) stands.time fact;
     })
 
@@ -40,6 +40,6 @@ returns-in-Err-clause-does g c = λ from stands fresh.
     (λ to fact. record {
       packet = p.0;
       found = p.1;
-      passed = subst (λ (t : ℕ). has_passed old.hold t (last_sent_again h p.0.number) ≡ true) stands.time p.2;
+      passed = subst (λ (t : ℕ). has_passed_since old.hold t (last_sent_again h p.0.number) ≡ true) stands.time p.2;
       puts = subst (λ (t : ℕ). PutsWith t c.args.link (Retransmission p.0) Took true from to) stands.time fact;
     })

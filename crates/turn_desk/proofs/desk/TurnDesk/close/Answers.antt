@@ -10,7 +10,7 @@ returns g c =
     record {
       closed = record {
         turns = h.turns;
-        stood = subst (λ parts. StandAs g.N.Name.given g.K.Sink.contents g.K.Sink.faults parts (entries h.turns)) (sym c.into_inner.ensures) h.stood;
+        stood = subst (λ parts. StandAs g.N.DeskOrigin.given g.K.Sink.contents g.K.Sink.faults parts (entries h.turns)) (sym c.into_inner.ensures) h.stood;
         own = h.own;
         others = h.others;
         saw = h.saw;

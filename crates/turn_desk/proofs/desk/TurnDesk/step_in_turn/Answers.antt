@@ -3,4 +3,4 @@ use Rattle.turn_desk.proofs.OwnLemmas.{still_of}
 use Rattle.turn_desk.proofs.desk.TurnDesk.step_in_turn.Goals as goal
 
 pub returns-clause-own : goal.returns-clause-own
-returns-clause-own g c = still_of c.args.self.now g.N.Name.given c.args.told.now c.args.outs.now c.step.new.room c.step.result c.args.pass.now c.step.new.pass c.requires.own c.step.ensures.own c.step.ensures.stepped
+returns-clause-own g c = still_of c.args.self.now g.N.DeskOrigin.given c.args.told.now c.args.outs.now c.step.new.room c.step.result c.args.pass.now c.step.new.pass c.requires.own c.step.ensures.own c.step.ensures.stepped

@@ -8,15 +8,15 @@ use Rattle.turn_desk.proofs.shared.SharedActsStepToldOutsAnswer.act.Goals as goa
 pub returns-clause-stands : goal.returns-clause-stands
 returns-clause-stands g c = λ before old.
     let v = c.deref_mut-parts.result.now in
-    let was = subst (λ x. StandAs g.N.Name.given g.K.Sink.contents g.K.Sink.faults x before) (sym c.deref_mut-parts.ensures.value) old in
+    let was = subst (λ x. StandAs g.N.DeskOrigin.given g.K.Sink.contents g.K.Sink.faults x before) (sym c.deref_mut-parts.ensures.value) old in
     let x = c.step_into.ensures in
-    stands_more g.N.Name.given c.args.ask.now c.step_into.result c.step_into.new.outs v.receiver c.step_into.new.self (g.K.Sink.contents v.sink) (g.K.Sink.contents c.step_into.new.sink) (g.K.Sink.faults v.sink) (g.K.Sink.faults c.step_into.new.sink) before
+    stands_more g.N.DeskOrigin.given c.args.ask.now c.step_into.result c.step_into.new.outs v.receiver c.step_into.new.self (g.K.Sink.contents v.sink) (g.K.Sink.contents c.step_into.new.sink) (g.K.Sink.faults v.sink) (g.K.Sink.faults c.step_into.new.sink) before
     c.requires.asks.1 (record { work = x.work; cause = x.cause }) (λ is. let same = x.same is in (same.0, ap g.K.Sink.contents same.1, ap g.K.Sink.faults same.1)) was
 
 pub returns-clause-answers : goal.returns-clause-answers
 returns-clause-answers g c = λ before old.
     let v = c.deref_mut-parts.result.now in
-    let was = subst (λ x. StandAs g.N.Name.given g.K.Sink.contents g.K.Sink.faults x before) (sym c.deref_mut-parts.ensures.value) old in
+    let was = subst (λ x. StandAs g.N.DeskOrigin.given g.K.Sink.contents g.K.Sink.faults x before) (sym c.deref_mut-parts.ensures.value) old in
     let x = c.step_into.ensures in
-    answers_after g.N.Name.given c.args.ask.now c.step_into.result c.args.room.now c.step_into.new.outs v.receiver c.step_into.new.self (g.K.Sink.contents v.sink) (g.K.Sink.contents c.step_into.new.sink) (g.K.Sink.faults v.sink) (g.K.Sink.faults c.step_into.new.sink) before
+    answers_after g.N.DeskOrigin.given c.args.ask.now c.step_into.result c.args.room.now c.step_into.new.outs v.receiver c.step_into.new.self (g.K.Sink.contents v.sink) (g.K.Sink.contents c.step_into.new.sink) (g.K.Sink.faults v.sink) (g.K.Sink.faults c.step_into.new.sink) before
     (record { work = x.work; cause = x.cause }) x.outs was

@@ -1,7 +1,0 @@
--- the steps so far are fit
-use Rattle.std.specs.List.{All}
-use Rattle.receiver_plain.specs.Told.{IsFit}
-use Rattle.file_rows.proofs.tests.made_capture.Given as goal
-
-abbrev pub invariant-loop-place : goal.invariant-loop-place
-invariant-loop-place l = All IsFit l.steps.items

@@ -1,7 +1,0 @@
--- Links are given back from the last one on.
-use Rattle.std.proofs.Common.{refl, arith}
-use Rattle.host_links.proofs.GivingLemmas.{none_given}
-use Rattle.host_links.proofs.opening.back_links.Goals as goal
-
-pub loop-link-init : goal.loop-link-init
-loop-link-init g c = (omega arith, (λ tells. none_given _ _), (λ tells. refl), refl)

@@ -1,8 +1,0 @@
--- Nothing was out before.
-use Rattle.std.proofs.Common.{ap, sym, ◌∙◌, length}
-use Rattle.host_links.proofs.OpeningLemmas.{from_none}
-use Rattle.host_links.proofs.opening.open_links.Goals as goal
-
-pub returns-clause-err : goal.returns-clause-err
-returns-clause-err g c =
-    λ fresh. from_none _ _ _ _ c.in-Ok.ensures.items (c.open_all.ensures.err fresh.0 (ap length fresh.1 ∙ sym (ap length c.in-Ok.ensures.items)))

@@ -1,2 +1,0 @@
--- What private contracts cite.
-pub mod Steps

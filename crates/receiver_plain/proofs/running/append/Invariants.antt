@@ -1,7 +1,0 @@
--- the packets so far stand behind the others
-use Rattle.std.proofs.Common.{◌≡◌, ◌++◌, take}
-use Rattle.receiver_plain.specs.Kept.{kept_packets}
-use Rattle.receiver_plain.proofs.running.append.Given as goal
-
-abbrev pub invariant-loop-packet : goal.invariant-loop-packet
-invariant-loop-packet l = kept_packets l.over.items ≡ kept_packets l.initial.over.items ++ kept_packets (take l.packet-index l.packets)

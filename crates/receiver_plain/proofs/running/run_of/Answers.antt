@@ -1,4 +1,0 @@
-use Rattle.receiver_plain.proofs.running.run_of.Goals as goal
-
-pub loop-step-init : goal.loop-step-init
-loop-step-init c = (c.nothing_yet-run.ensures.small, c.nothing_yet-run.ensures.shows c.args.limits.now)

@@ -1,8 +1,0 @@
--- the run shows the steps so far
-use Rattle.std.proofs.Common.{take}
-use Rattle.receiver_plain.specs.Told.{history_of}
-use Rattle.receiver_plain.specs.Run.{IsSmallRun, RunShows}
-use Rattle.receiver_plain.proofs.running.run_of.Given as goal
-
-abbrev pub invariant-loop-step : goal.invariant-loop-step
-invariant-loop-step l = IsSmallRun l.run × RunShows l.limits l.run (history_of (take l.step-index l.steps))

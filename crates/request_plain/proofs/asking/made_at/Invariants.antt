@@ -1,9 +1,0 @@
--- the requests so far
-use Rattle.std.proofs.Common.{◌≡◌, map, take}
-use Rattle.std.specs.List.{All}
-use Rattle.request_rules.specs.Requests.{request_at}
-use Rattle.request_plain.specs.Inside.Asking.{requests_seen, IsSmallMade}
-use Rattle.request_plain.proofs.asking.made_at.Given as goal
-
-abbrev pub invariant-loop-number : goal.invariant-loop-number
-invariant-loop-number l = All IsSmallMade l.made.items × (requests_seen l.made.items ≡ map (λ x. request_at x l.t) (take l.number-index l.numbers))

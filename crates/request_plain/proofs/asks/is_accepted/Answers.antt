@@ -1,6 +1,0 @@
-use Rattle.std.proofs.Common.{◌∙◌}
-use Rattle.receiver_plain.proofs.KeptLemmas.{twice_plain}
-use Rattle.request_plain.proofs.asks.is_accepted.Goals as goal
-
-pub returns : goal.returns
-returns c = c.is_any.ensures ∙ twice_plain c.args.number c.args.kept.now

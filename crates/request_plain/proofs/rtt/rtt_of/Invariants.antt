@@ -1,9 +1,0 @@
--- the round-trip time of the steps so far
-use Rattle.std.proofs.Common.{◌≡◌, ◌≤◌, take}
-use Rattle.std.specs.Option.{ForSome}
-use Rattle.request_rules.specs.Steps.{rtt_of}
-use Rattle.request_plain.specs.Told.{history_of}
-use Rattle.request_plain.proofs.rtt.rtt_of.Given as goal
-
-abbrev pub invariant-loop-step : goal.invariant-loop-step
-invariant-loop-step l = (l.rtt ≡ rtt_of l.link (history_of (take l.step-index l.steps))) × ForSome l.rtt (λ r. r ≤ 10000000)

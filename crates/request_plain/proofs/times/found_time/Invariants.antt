@@ -1,7 +1,0 @@
--- the marks so far were below
-use Rattle.std.proofs.Common.{◌≡◌, drop}
-use Rattle.request_plain.specs.Inside.Asking.{found_in}
-use Rattle.request_plain.proofs.times.found_time.Given as goal
-
-abbrev pub invariant-loop-mark : goal.invariant-loop-mark
-invariant-loop-mark l = found_in (drop l.mark-index l.marks) l.number ≡ found_in l.marks l.number

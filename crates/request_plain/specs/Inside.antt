@@ -1,2 +1,0 @@
--- What only the program's own functions need.
-pub mod Asking

@@ -1,5 +1,0 @@
-use Rattle.rist_control.proofs.LengthLemmas.{gained_app}
-use Rattle.rist_control.proofs.requests.put_ranges.Goals as goal
-
-pub returns-clause-length : goal.returns-clause-length
-returns-clause-length c = gained_app _ _ _ 0 _ _ c.in-Ok.ensures.ok

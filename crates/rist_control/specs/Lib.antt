@@ -1,4 +1,0 @@
-pub mod When
-pub mod Nacks
-pub mod Control
-pub mod Inside

@@ -1,0 +1,137 @@
+-- What links were given, part after part.
+use Rattle.std.proofs.Common.{◌≡◌, ◌≢◌, ◌∙◌, ℕ, suc, ◌<◌, ◌≤◌, Bool, true, false, List, [], ◌∷◌, ◌++◌, length, get_or, set, map, Option, None, Some, option_map, refl, sym, ap, subst, arith, append_assoc, append-nil}
+use Rattle.std.specs.Prelude.{◌||◌, ◌==◌}
+use Rattle.std.proofs.lemmas.Bool.{eq-eqb, eqb-true}
+use Rattle.std.specs.List.{list_any}
+use Rattle.std.proofs.lemmas.List.{get_or-map, length-map, length-set, get_or-set_other}
+use Rattle.std.proofs.lemmas.Grind.{get_or-set_at}
+use Rattle.std.proofs.lemmas.List.Folds.{list_any-append}
+use Rattle.outside_io.specs.Causes.{RoseWhere}
+use Rattle.outside_net.specs.Streams.{later}
+use Rattle.outside_net.specs.Links.{Datagram, Answer}
+use Rattle.rist_wire.specs.declared.session.Session.{Session}
+use Rattle.outside_net.specs.Links.{LinkTells}
+use Rattle.rist_sender.specs.Links.{Tried, taken_as, datagrams_taken, is_failed}
+use Rattle.rist_sender.specs.History.{Event, tried_as, tried_on}
+use Rattle.rist_sender.specs.Sender.{IsGiven, AreGiven}
+use Rattle.rist_sender.specs.Served.{RisesWith}
+use Rattle.rist_sender.specs.Served.{IsServed}
+use Rattle.rist_sender.specs.Served.{AreServed}
+use Rattle.rist_sender.specs.Served.{ReadsAt}
+
+-- ---- one link
+
+told_none : (told : Option (List Datagram)) → told ≡ option_map (λ had. had ++ []) told
+told_none None = refl
+told_none (Some had) = ap Some (sym (append-nil had))
+
+taken_both : (xs ys : List Tried) → datagrams_taken (xs ++ ys) ≡ datagrams_taken xs ++ datagrams_taken ys
+taken_both [] ys = refl
+taken_both (x ∷ xs) ys = ap (λ ds. taken_as x.channel x.octets x.answer ++ ds) (taken_both xs ys)
+    ∙ sym (append_assoc (taken_as x.channel x.octets x.answer) (datagrams_taken xs) (datagrams_taken ys))
+
+told_both : (xs ys both : List Datagram) (a b c : Option (List Datagram)) → both ≡ xs ++ ys
+    → b ≡ option_map (λ had. had ++ xs) a → c ≡ option_map (λ had. had ++ ys) b → c ≡ option_map (λ had. had ++ both) a
+told_both xs ys both None b c is f s = s ∙ ap (option_map (λ had. had ++ ys)) f
+told_both xs ys both (Some had) b c is f s =
+    s ∙ ap (option_map (λ h. h ++ ys)) f ∙ ap Some (append_assoc had xs ys ∙ ap (λ ds. had ++ ds) (sym is))
+
+rises_both : (p q : Bool) (a b c : ℕ) → RisesWith p a b → RisesWith q b c → RisesWith (p || q) a c
+rises_both true true a b c r s = omega (arith, r, s)
+rises_both true false a b c r s = omega (arith, r, s)
+rises_both false true a b c r s = omega (arith, r, s)
+rises_both false false a b c r s = omega (arith, r, s)
+
+rises_by : (p : Bool) (a b : ℕ) → RoseWhere p a b → RisesWith p a b
+rises_by true a b r = r
+rises_by false a b r = omega (arith, r)
+
+served_then : {L : Type 0} (line : LinkTells L) (h i j : List Tried) (a b c : L) → IsServed line h i a b → IsServed line i j b c → IsServed line h j a c
+served_then line h i j a b c x y = record {
+  gained = x.gained ++ y.gained;
+  more = y.more ∙ ap (λ ts. ts ++ y.gained) x.more ∙ append_assoc h x.gained y.gained;
+  taken = told_both (datagrams_taken x.gained) (datagrams_taken y.gained) (datagrams_taken (x.gained ++ y.gained)) (line.taken a) (line.taken b) (line.taken c) (taken_both x.gained y.gained) x.taken y.taken;
+  faults = subst (λ (p : Bool). RisesWith p (line.faults a) (line.faults c)) (sym (list_any-append (λ (t : Tried). is_failed t.answer) x.gained y.gained))
+      (rises_both (list_any (λ (t : Tried). is_failed t.answer) x.gained) (list_any (λ (t : Tried). is_failed t.answer) y.gained) (line.faults a) (line.faults b) (line.faults c) x.faults y.faults);
+}
+
+-- a link of which no more is taken
+served_same : {L : Type 0} (line : LinkTells L) (h : List Tried) (a b : L) → line.taken b ≡ line.taken a → line.faults a ≤ line.faults b → IsServed line h h a b
+served_same line h a b taken faults = record { gained = []; more = sym (append-nil h); taken = taken ∙ told_none (line.taken a); faults = faults }
+
+served_given : {L : Type 0} (line : LinkTells L) (h i : List Tried) (a b : L) → IsGiven line h i a b → IsServed line h i a b
+served_given line h i a b x = record {
+  gained = x.gained;
+  more = x.more;
+  taken = x.delivers.taken;
+  faults = rises_by (list_any (λ (t : Tried). is_failed t.answer) x.gained) (line.faults a) (line.faults b) x.delivers.faults;
+}
+
+-- ---- all links
+
+pub all_none : {L : Type 0} (line : LinkTells L) (flow : ℕ) (session : Session) (h : List Event) (was : List L) → AreServed line flow session h h was was
+all_none line flow session h was link d among = served_same line _ (get_or was link d) (get_or was link d) refl (omega arith)
+
+pub all_then : {L : Type 0} (line : LinkTells L) (flow : ℕ) (session : Session) (h i j : List Event) (a b c : List L) → length b ≡ length a
+    → AreServed line flow session h i a b → AreServed line flow session i j b c → AreServed line flow session h j a c
+all_then line flow session h i j a b c same f g link d among =
+    served_then line _ (tried_on (tried_as flow session) link i) _ (get_or a link d) (get_or b link d) (get_or c link d) (f link d among) (g link d (omega (arith, same, among)))
+
+pub all_given : {L : Type 0} (line : LinkTells L) (flow : ℕ) (session : Session) (h i : List Event) (a b : List L)
+    → AreGiven line flow session h i a b → AreServed line flow session h i a b
+all_given line flow session h i a b f link d among = served_given line _ _ (get_or a link d) (get_or b link d) (f link d among)
+
+-- a read of one of them
+pub all_read : {L : Type 0} (line : LinkTells L) (flow : ℕ) (session : Session) (h : List Event) (place : ℕ) (answer : Answer) (a b : List L)
+    → ReadsAt line place answer a b → AreServed line flow session h h a b
+all_read {L} line flow session h place answer a b r link d among =
+    elim (link == place) as (λ (x : Bool). (link == place) ≡ x → IsServed line (tried_on (tried_as flow session) link h) (tried_on (tried_as flow session) link h) (get_or a link d) (get_or b link d)) [
+      | true ↦ λ yes.
+          let is : place ≡ link = sym (eqb-true link place yes) in
+          served_same line _ (get_or a link d) (get_or b link d)
+          (subst (λ (k : ℕ). line.taken (get_or b k d) ≡ line.taken (get_or a k d)) is (r.taken d))
+          (subst (λ (k : ℕ). line.faults (get_or a k d) ≤ line.faults (get_or b k d)) is (r.faults d))
+      | false ↦ λ no.
+          let other : link ≢ place = λ (e : link ≡ place). cc (eq-eqb link place e) in
+          let same : get_or b link d ≡ get_or a link d = r.others link d other in
+          let count : line.faults (get_or b link d) ≡ line.faults (get_or a link d) = ap line.faults same in
+          served_same line _ (get_or a link d) (get_or b link d) (ap line.taken same) (omega (arith, count))
+    ] refl
+
+-- ---- what the reads have still to give
+
+-- a list by its places
+by_place : {L X : Type 0} (f : L → X) (b : List L) (xs : List X) → length xs ≡ length b
+    → ((k : ℕ) (d : L) (e : X) → k < length b → f (get_or b k d) ≡ get_or xs k e) → map f b ≡ xs
+by_place f [] [] same at = refl
+by_place f [] (x ∷ xs) same at = absurd (omega (arith, same))
+by_place f (y ∷ b) [] same at = absurd (omega (arith, same))
+by_place f (y ∷ b) (x ∷ xs) same at = λ i. at 0 y x (omega arith) i ∷ by_place f b xs (omega (arith, same)) (λ k d e among. at (suc k) d e (omega (arith, among))) i
+
+-- the calls of a sender read nothing
+pub reads_given : {L : Type 0} (line : LinkTells L) (flow : ℕ) (session : Session) (h i : List Event) (a b : List L) → length b ≡ length a
+    → AreGiven line flow session h i a b → map line.reads b ≡ map line.reads a
+reads_given line flow session h i a b same given = by_place line.reads b (map line.reads a) (length-map a line.reads ∙ sym same)
+    (λ k d e among.
+    let here : k < length a = omega (arith, among, same) in
+    (given k d here).delivers.reads ∙ sym (get_or-map line.reads a k d e here))
+
+-- a read takes the first of what one has to give
+pub reads_at : {L : Type 0} (line : LinkTells L) (place : ℕ) (answer : Answer) (a b : List L) → length b ≡ length a → place < length a
+    → ReadsAt line place answer a b → map line.reads b ≡ set (map line.reads a) place (option_map later (get_or (map line.reads a) place None))
+reads_at {L} line place answer a b same inside r =
+    let reads = map line.reads a in
+    let next = option_map later (get_or reads place None) in
+    let long : length reads ≡ length a = length-map a line.reads in
+    by_place line.reads b (set reads place next) (length-set reads place next ∙ long ∙ sym same)
+    (λ k d e among.
+    let here : k < length a = omega (arith, among, same) in
+    elim (k == place) as (λ (x : Bool). (k == place) ≡ x → line.reads (get_or b k d) ≡ get_or (set reads place next) k e) [
+      | true ↦ λ yes.
+          let is : place ≡ k = sym (eqb-true k place yes) in
+          subst (λ (j : ℕ). line.reads (get_or b j d) ≡ get_or (set reads place next) j e) is
+          (r.reads d ∙ ap (option_map later) (sym (get_or-map line.reads a place d None inside)) ∙ sym (get_or-set_at reads place place next e refl (omega (arith, long, inside))))
+      | false ↦ λ no.
+          let other : k ≢ place = λ (q : k ≡ place). cc (eq-eqb k place q) in
+          ap line.reads (r.others k d other) ∙ sym (get_or-map line.reads a k d e here) ∙ sym (get_or-set_other reads place k next e other)
+    ] refl)

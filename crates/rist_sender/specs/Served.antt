@@ -1,0 +1,39 @@
+-- What links were given over several calls, reads among them.
+use Rattle.std.specs.Prelude.{◌≡◌, ◌≢◌, ◌≤◌, ◌<◌, ℕ, List, ◌++◌, length, slice_index_or, Bool, true, false}
+use Rattle.std.specs.Option.{option_map}
+use Rattle.std.specs.List.{list_any}
+use Rattle.outside_io.specs.Causes.{Rose}
+use Rattle.outside_net.specs.Streams.{later, IsFirst}
+use Rattle.outside_net.specs.Links.{Answer, LinkTells}
+use Rattle.rist_wire.specs.declared.session.Session.{Session}
+use Rattle.rist_sender.specs.Links.{Tried, datagrams_taken, is_failed}
+use Rattle.rist_sender.specs.History.{Event, tried_as, tried_on}
+
+-- the count of faults of a link rose where a write on it failed; else it may have risen by a read that failed
+abbrev pub RisesWith : Bool → ℕ → ℕ → Type 0
+RisesWith true before now = Rose before now
+RisesWith false before now = before ≤ now
+
+-- One link was given the datagrams that its history gained, and no others: it took those that it took behind what it
+-- had taken, where it tells that.
+pub record IsServed {L : Type 0} (line : LinkTells L) (had has : List Tried) (was is : L) : Type 0 where
+  pub gained : List Tried
+  pub more : has ≡ had ++ gained
+  pub taken : line.taken is ≡ option_map (λ held. held ++ datagrams_taken gained) (line.taken was)
+  pub faults : RisesWith (list_any (λ tried. is_failed tried.answer) gained) (line.faults was) (line.faults is)
+
+-- each link was
+abbrev pub AreServed : {L : Type 0} → LinkTells L → ℕ → Session → List Event → List Event → List L → List L → Type 0
+AreServed {L} line flow session old new was is =
+    (link : ℕ) (d : L) → link < length was
+    → IsServed line (tried_on (tried_as flow session) link old) (tried_on (tried_as flow session) link new)
+    (slice_index_or was link d) (slice_index_or is link d)
+
+-- one link gave an answer to a read, and the others stay
+pub record ReadsAt {L : Type 0} (line : LinkTells L) (link : ℕ) (answer : Answer) (was is : List L) : Type 0 where
+  pub first : (d : L) → IsFirst (line.reads (slice_index_or was link d)) answer
+  pub reads : (d : L) → line.reads (slice_index_or is link d)
+      ≡ option_map later (line.reads (slice_index_or was link d))
+  pub taken : (d : L) → line.taken (slice_index_or is link d) ≡ line.taken (slice_index_or was link d)
+  pub faults : (d : L) → line.faults (slice_index_or was link d) ≤ line.faults (slice_index_or is link d)
+  pub others : (k : ℕ) (d : L) → k ≢ link → slice_index_or is k d ≡ slice_index_or was k d

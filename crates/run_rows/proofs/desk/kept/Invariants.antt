@@ -1,7 +1,0 @@
--- The name of this run's desk.
-use Rattle.std.specs.Prelude.{Some, true}
-use Rattle.rist_ends.specs.Receiver.{settings_of}
-use Rattle.run_rows.proofs.desk.kept.Given as goal
-
-abbrev pub ghosts-stepped : goal.ghosts-stepped
-ghosts-stepped a = record { given = record { settings = settings_of a.receiver; shutter = a.receiver.reporter.shutter; limit = Some a.trace.limit; tells_steps = true; tells_octets = true; faults = 0 } }

@@ -1,7 +1,0 @@
-//! Sendings over a host in memory. There are tests alone.
-#![tactic(auto)]
-
-#[cfg(test)]
-mod rows;
-#[cfg(test)]
-mod tests;

@@ -1,3 +1,0 @@
-pub mod FlowLemmas
-pub mod RunLemmas
-pub mod GrowLemmas

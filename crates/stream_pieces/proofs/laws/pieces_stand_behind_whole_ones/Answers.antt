@@ -1,8 +1,0 @@
-use Rattle.stream_pieces.proofs.PieceLemmas.{pieces_behind, next_piece}
-use Rattle.stream_pieces.proofs.laws.pieces_stand_behind_whole_ones.Goals as goal
-
-pub returns-clause-behind : goal.returns-clause-behind
-returns-clause-behind c = pieces_behind
-
-pub returns-clause-first : goal.returns-clause-first
-returns-clause-first c = next_piece

@@ -1,8 +1,0 @@
-use Rattle.stream_pieces.proofs.PieceLemmas.{pieces_joined, piece_sized}
-use Rattle.stream_pieces.proofs.laws.the_pieces_are_the_whole.Goals as goal
-
-pub returns-clause-whole : goal.returns-clause-whole
-returns-clause-whole c = pieces_joined
-
-pub returns-clause-each : goal.returns-clause-each
-returns-clause-each c = piece_sized
