@@ -118,20 +118,7 @@ does_nothing told tells live words faults old = record {
 pub receiving_is_none : {A : Type 0} (words : List (String A)) (c : RecvCommand) → IsLine words (Recv c) → IsNoPlainLine words
 receiving_is_none words c is = ap plain_line is
 
--- words that are no such line, no receiving and no gateway are no line
-pub no_line : (o : Option CommandLine) → ((c : RecvCommand) → o ≡ Some (Recv c) → ⊥) → ((c : GateCommand) → o ≡ Some (Gate c) → ⊥) → plain_line o ≡ None → o ≡ None
-no_line None recv gate none = refl
-no_line (Some (Replay c)) recv gate none = absurd (cc (none))
-no_line (Some (Show c)) recv gate none = absurd (cc (none))
-no_line (Some (Count c)) recv gate none = absurd (cc (none))
-no_line (Some (Pack c)) recv gate none = absurd (cc (none))
-no_line (Some (Split c)) recv gate none = absurd (cc (none))
-no_line (Some (Send c)) recv gate none = absurd (cc (none))
-no_line (Some (Recv c)) recv gate none = absurd (recv c refl)
-no_line (Some (Gate c)) recv gate none = absurd (gate c refl)
-no_line (Some (Drill c)) recv gate none = absurd (cc (none))
-
--- and what is no line is no such line
+-- what is no line is no line whose command waits for nobody
 pub no_plain_line : (o : Option CommandLine) → o ≡ None → plain_line o ≡ None
 no_plain_line o none = ap plain_line none
 

@@ -18,3 +18,4 @@ pub mod SplitLemmas
 pub mod SplitHostLemmas
 pub mod DoesSplitLemmas
 pub mod ReachedLemmas
+pub mod PlainLemmas

@@ -111,39 +111,44 @@ pub fn run<R: Threads + Wait + Sync, H: Host>(
     ensures gates { DoesGate H.tells ⟦<H as Telling>⟧.objects ⟦<H as Telling>⟧.live words.now
         (H.faults host.old) (H.faults host.new) (H.shelf host.old) (H.shelf host.new) result }
 {
-    match waiting_line(alloc, words) {
-        Waiting::Receive(line) => receive_line(rt, alloc, host, &line),
-        Waiting::Gate(line) => gate_line(rt, alloc, host, &line),
-        Waiting::Plain => plain(alloc, words, host),
-        Waiting::Memory => Status::Memory,
+    match read_line(alloc, words) {
+        Read::Receive(line) => receive_line(rt, alloc, host, &line),
+        Read::Gate(line) => gate_line(rt, alloc, host, &line),
+        Read::Plain(line) => run_line(alloc, host, &line),
+        Read::NoLine => answer(words, host),
+        Read::Memory => Status::Memory,
     }
 }
 
 /// What words are, by whether their command waits.
 #[derive(Drop)]
-enum Waiting<'a> {
+enum Read<'a> {
     /// A receiving.
     Receive(RecvLine<'a>),
     /// A gateway.
     Gate(GateLine<'a>),
-    /// Another line, or none.
-    Plain,
+    /// A line whose command waits for nobody.
+    Plain(Line<'a>),
+    /// No line of a command.
+    NoLine,
     /// Memory was refused.
     Memory,
 }
 
-/// The receiving or the gateway that the words are, if they are one.
-fn waiting_line<'a>(alloc: Global, words: &'a [String]) -> Waiting<'a>
-    ensures receive { (l : _) → result ≡ Waiting.Receive l → IsLine words.entry.now (Recv (shown_recv l)) }
-    ensures gate { (l : _) → result ≡ Waiting.Gate l → IsLine words.entry.now (Gate (shown_gate l)) }
-    ensures no_receive { (c : RecvCommand) → result ≡ Waiting.Plain → IsLine words.entry.now (Recv c) → ⊥ }
-    ensures no_gate { (c : GateCommand) → result ≡ Waiting.Plain → IsLine words.entry.now (Gate c) → ⊥ }
+/// What the words are.
+fn read_line<'a>(alloc: Global, words: &'a [String]) -> Read<'a>
+    ensures receive { (l : _) → result ≡ Read.Receive l → IsLine words.entry.now (Recv (shown_recv l)) }
+    ensures gate { (l : _) → result ≡ Read.Gate l → IsLine words.entry.now (Gate (shown_gate l)) }
+    ensures line { (l : _) → result ≡ Read.Plain l → IsLine words.entry.now (shown l) }
+    ensures plain { (l : _) → result ≡ Read.Plain l → IsPlain (shown l) }
+    ensures none { result ≡ Read.NoLine → IsNoLine words.entry.now }
 {
     match line(alloc, words) {
-        Ok(Line::Recv(line)) => Waiting::Receive(line),
-        Ok(Line::Gate(line)) => Waiting::Gate(line),
-        Ok(_) | Err(Refused::Usage) => Waiting::Plain,
-        Err(Refused::Memory) => Waiting::Memory,
+        Ok(Line::Recv(line)) => Read::Receive(line),
+        Ok(Line::Gate(line)) => Read::Gate(line),
+        Ok(line) => Read::Plain(line),
+        Err(Refused::Usage) => Read::NoLine,
+        Err(Refused::Memory) => Read::Memory,
     }
 }
 
