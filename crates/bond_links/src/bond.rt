@@ -14,6 +14,7 @@ pub struct Bond {
 }
 
 impl Model for Bond {
+    ghost use Rattle.link_channels.specs.declared.bounds.TheConstants.{MAX_LINKS};
     ghost use Rattle.std.specs.Prelude.{◌≡◌, ◌≤◌};
     ghost use Rattle.sender_rules.specs.Bonding.{Bonding, link_count};
     ghost use Rattle.bond_links.specs.Plans.{bonding_of};
@@ -22,13 +23,13 @@ impl Model for Bond {
 
     ghost view = { λ b. bonding_of b.links b.weights };
 
-    ghost invariant = { λ b. (1 ≤ b.links) × (b.links ≤ 16) × (link_count (bonding_of b.links b.weights) ≡ b.links) };
+    ghost invariant = { λ b. (1 ≤ b.links) × (b.links ≤ MAX_LINKS) × (link_count (bonding_of b.links b.weights) ≡ b.links) };
 }
 
 impl Bond {
     ghost use Rattle.std.specs.Prelude.{◌≡◌, ◌≤◌, ◌<◌, length, false, IfSome};
     ghost use Rattle.std.specs.List.{All};
-    ghost use Rattle.sender_rules.specs.declared.bounds.TheConstants.{MAX_LINKS};
+    ghost use Rattle.link_channels.specs.declared.bounds.TheConstants.{MAX_LINKS};
     ghost use Rattle.sender_rules.specs.Bonding.{Duplicate, Share, link_count, next_up, planned_links};
     ghost use Rattle.bond_links.specs.Plans.{HasItsPlace, plan_of, links_of, is_down};
 

@@ -2,17 +2,19 @@ ghost use Rattle.std.specs.Prelude.{◌≡◌, ◌≤◌, length};
 ghost use Rattle.std.specs.List.{sum, All};
 ghost use Rattle.sender_rules.specs.Bonding.{link_at};
 
+use link_channels::MAX_LINKS;
 use std::marker::Model;
 
 /// The weights of links, one to sixteen of them, none of them 0.
 #[derive(Debug, Drop)]
 pub struct Weights {
-    block: [u8; 16],
+    block: [u8; MAX_LINKS],
     count: usize,
     total: u64,
 }
 
 impl Model for Weights {
+    ghost use Rattle.link_channels.specs.declared.bounds.TheConstants.{MAX_LINKS};
     ghost use Rattle.std.specs.Prelude.{◌≡◌, ◌≤◌, ℕ, List, take};
     ghost use Rattle.std.specs.List.{sum};
 
@@ -20,7 +22,7 @@ impl Model for Weights {
 
     ghost view = { λ w. take w.count w.block };
 
-    ghost invariant = { λ w. (1 ≤ w.total) × (w.count ≤ 16) × (w.total ≡ sum (take w.count w.block)) };
+    ghost invariant = { λ w. (1 ≤ w.total) × (w.count ≤ MAX_LINKS) × (w.total ≡ sum (take w.count w.block)) };
 }
 
 impl Weights {
@@ -30,11 +32,11 @@ impl Weights {
 
     pub fn of(weights: &[u8]) -> Weights
         requires some { 1 ≤ length weights.now }
-        requires few { length weights.now ≤ 16 }
+        requires few { length weights.now ≤ MAX_LINKS }
         requires each { All (λ w. 1 ≤ w) weights.now }
         ensures value { result ≡ weights.now }
     {
-        let mut block = [0; 16];
+        let mut block = [0; MAX_LINKS];
         block[..weights.len()].copy_from_slice(weights);
         Weights {
             block,
@@ -60,7 +62,7 @@ impl Weights {
 
 fn total_of(weights: &[u8]) -> u64
     requires some { 1 ≤ length weights.now }
-    requires few { length weights.now ≤ 16 }
+    requires few { length weights.now ≤ MAX_LINKS }
     requires each { All (λ w. 1 ≤ w) weights.now }
     ensures value { result ≡ sum weights.now }
     ensures some { 1 ≤ result }
@@ -74,7 +76,7 @@ fn total_of(weights: &[u8]) -> u64
 
 /// The link that has a place.
 fn link_at(weights: &[u8], place: u64) -> u8
-    requires few { length weights.now ≤ 16 }
+    requires few { length weights.now ≤ MAX_LINKS }
     ensures value { result ≡ link_at weights.now place }
 {
     let mut left = place;

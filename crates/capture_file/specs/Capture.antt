@@ -2,6 +2,8 @@
 -- bits), its channel (8 bits), its length (16 bits), its time in microseconds (64 bits), and its octets. Numbers are
 -- big-endian.
 use Rattle.std.specs.Prelude.{◌≡◌, ℕ, ◌^◌, ◌<◌, ◌≤◌, List, [], ◌∷◌, ◌++◌, length, flat_map, All}
+use Rattle.link_channels.specs.declared.bounds.TheConstants.{MAX_LINKS}
+use Rattle.link_channels.specs.declared.bounds.TheConstants.{MAX_DATAGRAM}
 use Rattle.std.specs.Int.{w16, w64, to_be_bytes}
 use Rattle.link_channels.specs.declared.channel.Channel.{Channel}
 use Rattle.link_channels.specs.declared.channel.Channel.TheVariants.{Media, Control, Tunnel}
@@ -29,9 +31,9 @@ spelling r = head_spelling r.link r.channel (length r.octets) r.us ++ r.octets
 
 -- the record can be spelled
 pub record Fits (r : Record) : Type 0 where
-  pub link : r.link < 16
+  pub link : r.link < MAX_LINKS
   pub us : r.us < 2 ^ 64
-  pub octets : length r.octets ≤ 2048
+  pub octets : length r.octets ≤ MAX_DATAGRAM
 
 -- `RISTCAP1`
 abbrev pub magic : List ℕ

@@ -1,5 +1,6 @@
 -- The tests of a capture, in their order (this profile).
 use Rattle.std.specs.Prelude.{◌≡◌, ◌≢◌, ◌⊎◌, ℕ, ◌+◌, ◌^◌, ◌<◌, List, ◌++◌, length, take, drop, flat_map, All}
+use Rattle.link_channels.specs.declared.bounds.TheConstants.{MAX_DATAGRAM}
 use Rattle.std.specs.Prelude.{if◌then◌else◌, nat_lt, None, Some, get_or}
 use Rattle.std.specs.declared.option.Option.{Option}
 use Rattle.std.specs.Int.{w16, w64, from_be_bytes}
@@ -21,7 +22,7 @@ fault_of_head at head =
     if nat_lt (length head) 12 then Some Truncated
     else (if nat_lt 15 (get_or head 0 0) then Some Link
     else (if nat_lt 2 (get_or head 1 0) then Some Channel
-    else (if nat_lt 2048 (length_said head) then Some Long
+    else (if nat_lt MAX_DATAGRAM (length_said head) then Some Long
     else (if nat_lt (2 ^ 40) (at + 12 + length_said head) then Some TooLong
     else None))))
 

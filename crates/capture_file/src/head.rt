@@ -1,12 +1,13 @@
 //! The twelve octets before a record's own.
 ghost use Rattle.std.specs.Prelude.{◌≡◌, ◌≤◌, ◌<◌, ◌+◌, ◌^◌, length, None, Some, IfOk, IfErr, IfSome, IfNone};
+ghost use Rattle.link_channels.specs.declared.bounds.TheConstants.{MAX_LINKS};
 ghost use Rattle.std.specs.Int.{w16, w64, to_be_bytes, from_be_bytes};
 ghost use Rattle.capture_file.specs.Capture.{channel_code};
 ghost use Rattle.capture_file.specs.Tests.{fault_of_head, length_said};
 ghost use Rattle.capture_file.specs.Heads.{head_octets};
 
 use crate::CapKind;
-use link_channels::Channel;
+use link_channels::{Channel, MAX_DATAGRAM};
 
 /// A record but for its octets.
 #[derive(Clone, Copy, Debug, PartialEq, Eq)]
@@ -24,7 +25,7 @@ pub struct Head {
 // A record may end here at last.
 const MAX_END: u64 = 1 << 40;
 
-const MAX_LENGTH: u16 = 2048;
+const MAX_LENGTH: u16 = MAX_DATAGRAM as u16;
 
 /// How many octets a head has.
 pub(crate) const HEAD_LEN: usize = 12;
@@ -64,7 +65,7 @@ pub(crate) fn head_of(octets: &[u8], at: u64) -> Result<Head, CapKind>
     requires { length octets.now ≡ 12 }
     ensures octets { IfOk result (λ head. head_octets head ≡ octets.now) }
     ensures said { IfOk result (λ head. length_said octets.now ≡ head.length) }
-    ensures fits { IfOk result (λ head. (head.link < 16) × (head.length ≤ 2048)
+    ensures fits { IfOk result (λ head. (head.link < MAX_LINKS) × (head.length ≤ MAX_DATAGRAM)
         × (head.us < 2 ^ 64) × (at + 12 + head.length ≤ 2 ^ 40)) }
     ensures none { IfOk result (λ head. fault_of_head at octets.now ≡ None) }
     ensures fault { IfErr result (λ kind. fault_of_head at octets.now ≡ Some kind) }

@@ -12,6 +12,7 @@ ghost use Rattle.capture_file.specs.Inside.Steps.{ReadsName, ReadsHead, ReadsBod
 use crate::Head;
 use crate::head::{HEAD_LEN, head_of};
 use block_source::Block;
+use link_channels::MAX_DATAGRAM;
 use outside_io::{Failed, Source, copy_front};
 use std::fmt::{self, Display, Formatter, Write};
 use std::marker::Model;
@@ -227,7 +228,7 @@ impl<S: Source> Reader<S> {
     }
 
     /// Reads the next record, its octets into the front of the slice, or answers none at the end.
-    pub fn next(&mut self, buf: &mut [u8; 2048]) -> Result<Option<Head>, CapBad>
+    pub fn next(&mut self, buf: &mut [u8; MAX_DATAGRAM]) -> Result<Option<Head>, CapBad>
         requires running { self.old.spent ≡ false }
         ensures value { ReadsNext self.old.at self.old.remaining self.new.remaining buf.new result }
         ensures at { IfOk result (λ o. IfSome o (λ head. self.new.at ≡ offset_at self.old.at + 12 + head.length)) }

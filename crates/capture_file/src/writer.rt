@@ -1,5 +1,7 @@
 //! Writes the records of a capture.
 ghost use Rattle.std.specs.Prelude.{◌≡◌, ◌≤◌, ◌<◌, ◌+◌, true, false, length, take, OnOk, OnErr};
+ghost use Rattle.link_channels.specs.declared.bounds.TheConstants.{MAX_LINKS};
+ghost use Rattle.link_channels.specs.declared.bounds.TheConstants.{MAX_DATAGRAM};
 ghost use Rattle.outside_io.specs.Causes.{HasCause};
 ghost use Rattle.outside_io.specs.Told.{Appends, AppendsPart};
 ghost use Rattle.capture_file.specs.Capture.{magic, channel_code, spelling};
@@ -49,7 +51,7 @@ fn spelled_head(head: &Head) -> [u8; 12]
 
 // Spells a record into the front of a block, and says how long it is.
 fn spell(head: &Head, octets: &[u8], block: &mut [u8; RECORD_LEN]) -> usize
-    requires fits { length octets.now ≤ 2048 }
+    requires fits { length octets.now ≤ MAX_DATAGRAM }
     requires length { head.now.length ≡ length octets.now }
     ensures value { take result block.new ≡ spelling (record_of head.now octets.now) }
     ensures within { result ≤ 2060 }
@@ -107,8 +109,8 @@ impl<K: Sink> Writer<K> {
     /// Writes a record of these octets. At a fault a front part of it was written.
     pub fn add(&mut self, head: &Head, octets: &[u8]) -> Result<(), WriteFault>
         requires begun { self.old.begun ≡ true }
-        requires link { head.now.link < 16 }
-        requires fits { length octets.now ≤ 2048 }
+        requires link { head.now.link < MAX_LINKS }
+        requires fits { length octets.now ≤ MAX_DATAGRAM }
         requires length { head.now.length ≡ length octets.now }
         ensures ok { OnOk result
             (Appends self.old.contents self.new.contents (spelling (record_of head.now octets.now))) }

@@ -12,16 +12,13 @@ ghost use Rattle.capture_walk.specs.declared.walk_bad.WalkBad.TheVariants.{ReadF
 use crate::records::Records;
 use crate::walk_bad::WalkBad;
 use capture_file::Head;
-use link_channels::Profile;
+use link_channels::{MAX_DATAGRAM, Profile};
 use outside_io::{Source, copy_front};
 use pcap_file::{PcapReader, datagram_in};
 use std::marker::Model;
 
 /// The most octets of a frame that are given.
 const FRAME_LEN: usize = 4096;
-
-/// The most octets of a datagram that are given.
-const BLOCK_LEN: usize = 2048;
 
 /// Reads the datagrams that the frames of a pcap file carry to a UDP port: in the Main Profile the tunnel, in the Simple
 /// Profile media at the port and control at the next one. Each is a record on link 0 at its frame's time; other frames are
@@ -32,12 +29,14 @@ pub struct PortReader<S: Source> {
     profile: Profile,
     port: u16,
     frame: [u8; FRAME_LEN],
-    block: [u8; BLOCK_LEN],
+    block: [u8; MAX_DATAGRAM],
     /// How many octets of the block the record has that was read last.
     length: usize,
 }
 
 impl<S: Source> Model for PortReader<S> {
+    ghost use Rattle.link_channels.specs.declared.bounds.TheConstants.{MAX_DATAGRAM};
+
     ghost Value = { PortState };
 
     ghost view = { λ r. record {
@@ -47,7 +46,7 @@ impl<S: Source> Model for PortReader<S> {
       octets = take r.length r.block;
     } };
 
-    ghost invariant = { λ r. r.length ≤ 2048 };
+    ghost invariant = { λ r. r.length ≤ MAX_DATAGRAM };
 }
 
 /// What a turn of a reader comes to.
@@ -79,7 +78,7 @@ impl<S: Source> PortReader<S> {
             profile,
             port,
             frame: [0; FRAME_LEN],
-            block: [0; BLOCK_LEN],
+            block: [0; MAX_DATAGRAM],
             length: 0,
         }
     }
@@ -126,7 +125,7 @@ fn taken(
     octets: &[u8],
     profile: Profile,
     port: u16,
-    block: &mut [u8; BLOCK_LEN],
+    block: &mut [u8; MAX_DATAGRAM],
 ) -> Option<Head>
     ensures value { records_at us (datagram_of profile port link_type octets.now)
         ≡ records_given result (take (length_given result) block.new) }

@@ -1,5 +1,5 @@
 -- Parts behind one another.
-use Rattle.std.proofs.Common.{◌≡◌, ◌∙◌, ◌++◌, ℕ, List, ap, sym}
+use Rattle.std.proofs.Common.{◌≡◌, ◌∙◌, ◌++◌, ℕ, List, ap}
 use Rattle.std.proofs.lemmas.List.{append_assoc}
 
 -- four parts that were put in turn stand behind what stood before

@@ -1,5 +1,6 @@
 //! Links are opened in order, and given back.
 ghost use Rattle.std.specs.Prelude.{◌≡◌, ◌≤◌, ◌<◌, ◌++◌, ◌∷◌, ◌+◌, [], IsTrue, IfOk, OnOk, OnErr, length, map};
+ghost use Rattle.link_channels.specs.declared.bounds.TheConstants.{MAX_LINKS};
 ghost use Rattle.outside_host.specs.Shelf.{ChangesLinks, ChangesOpening, HasHostCause};
 ghost use Rattle.outside_net.specs.declared.link_spec.Role.TheVariants.{Forwards, Receives};
 ghost use Rattle.outside_host.specs.Links.{AreAsTheyWere, AreBack, AreOut, HasOpenedNone};
@@ -18,7 +19,7 @@ fn open_next<H: Host>(
     profile: Profile,
     links: &mut Vec<H::Wire>,
 ) -> Result<(), HostBad>
-    requires few { length links.old.items < 16 }
+    requires few { length links.old.items < MAX_LINKS }
     ensures ok { IsTrue H.tells → length (H.shelf host.old).opened_links ≡ length links.old.items → OnOk result
         (IsNextOut (H.shelf host.old).links (H.shelf host.new).links links.old.items links.new.items
         × ((H.shelf host.new).opened_links ≡ (H.shelf host.old).opened_links
@@ -53,7 +54,7 @@ fn open_all<H: Host>(
     profile: Profile,
     mut links: Vec<H::Wire>,
 ) -> Result<Vec<H::Wire>, HostBad>
-    requires few { length links.items + length specs.now ≤ 16 }
+    requires few { length links.items + length specs.now ≤ MAX_LINKS }
     ensures ok { IsTrue H.tells → length (H.shelf host.old).opened_links ≡ length links.items
         → IfOk result (λ all. GoOut (H.shelf host.old).links (H.shelf host.new).links links.items all.items) }
     ensures count { IfOk result (λ all. length all.items ≡ length links.items + length specs.now) }
@@ -85,7 +86,7 @@ pub fn open_links<H: Host>(
     role: Role,
     profile: Profile,
 ) -> Result<Vec<H::Wire>, HostBad>
-    requires few { length specs.now ≤ 16 }
+    requires few { length specs.now ≤ MAX_LINKS }
     ensures ok { HasOpenedNone H.tells (H.shelf host.old)
         → IfOk result (λ links. AreOut (H.shelf host.old).links (H.shelf host.new).links links.items) }
     ensures count { IfOk result (λ links. length links.items ≡ length specs.now) }
@@ -113,7 +114,7 @@ pub fn open_both<H: Host>(
     outputs: &[LinkSpec],
     onward: Profile,
 ) -> Result<Vec<H::Wire>, HostBad>
-    requires few { length inputs.now + length outputs.now ≤ 16 }
+    requires few { length inputs.now + length outputs.now ≤ MAX_LINKS }
     ensures ok { HasOpenedNone H.tells (H.shelf host.old)
         → IfOk result (λ links. AreOut (H.shelf host.old).links (H.shelf host.new).links links.items) }
     ensures count { IfOk result (λ links. length links.items ≡ length inputs.now + length outputs.now) }
@@ -137,7 +138,7 @@ pub fn open_both<H: Host>(
 
 /// Gives links back to the first places of a host, in this order.
 pub fn back_links<H: Host>(host: &mut H, mut links: Vec<H::Wire>)
-    requires few { length links.items ≤ 16 }
+    requires few { length links.items ≤ MAX_LINKS }
     ensures state { IsTrue H.tells → AreBack (H.shelf host.old).links (H.shelf host.new).links links.items }
     ensures same { IsTrue H.tells → ChangesLinks (H.shelf host.old) (H.shelf host.new) }
     ensures cause { H.faults host.new ≡ H.faults host.old }

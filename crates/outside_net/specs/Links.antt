@@ -1,5 +1,6 @@
 -- What a link gives and takes.
 use Rattle.std.specs.Prelude.{◌≡◌, ◌≢◌, ◌≤◌, ℕ, List, [], ◌∷◌, ◌++◌, take, Option, Some, Result, Ok, Err, Bool, true}
+use Rattle.link_channels.specs.declared.bounds.TheConstants.{MAX_DATAGRAM}
 use Rattle.std.specs.Prelude.{false}
 use Rattle.link_channels.specs.declared.channel.Channel.{Channel}
 use Rattle.outside_net.specs.declared.link.Got.{Got}
@@ -26,7 +27,7 @@ answer_of got.Failed block = Failed
 
 -- a datagram has at most 2,048 octets
 abbrev pub IsWithin : Got → Type 0
-IsWithin (got.Datagram channel count) = count ≤ 2048
+IsWithin (got.Datagram channel count) = count ≤ MAX_DATAGRAM
 IsWithin got.Quiet = Unit {0}
 IsWithin got.End = Unit {0}
 IsWithin got.Failed = Unit {0}

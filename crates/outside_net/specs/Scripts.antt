@@ -1,5 +1,6 @@
 -- What the forms in memory give.
 use Rattle.std.specs.Prelude.{◌≡◌, ◌≤◌, ℕ, suc, zero, length, List, [], ◌∷◌, ◌==◌, if◌then◌else◌, Bool}
+use Rattle.link_channels.specs.declared.bounds.TheConstants.{MAX_DATAGRAM}
 use Rattle.std.specs.List.{list_any}
 use Rattle.outside_io.specs.Calls.{next_count}
 use Rattle.link_channels.specs.declared.channel.Channel.{Channel}
@@ -72,7 +73,7 @@ pub record ScriptState : Type 0 where
 
 -- a datagram of a script has at most 2,048 octets
 abbrev pub FitsDatagram : ScriptRead → Type 0
-FitsDatagram (reads.Datagram channel octets) = length octets ≤ 2048
+FitsDatagram (reads.Datagram channel octets) = length octets ≤ MAX_DATAGRAM
 FitsDatagram reads.Quiet = Unit {0}
 
 -- a link of which no call was made: its script, whether the peers are known, its room, and the calls that are to fail

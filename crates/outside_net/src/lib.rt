@@ -19,7 +19,7 @@ mod trace;
 mod udp_link;
 
 pub use clock::Clock;
-pub use link::{Got, Link, MAX_DATAGRAM};
+pub use link::{Got, Link};
 pub use link_spec::{LinkSpec, Role};
 pub use list_trace::ListTrace;
 pub use octets::Octets;

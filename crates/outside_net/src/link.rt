@@ -8,11 +8,8 @@ ghost use Rattle.outside_net.specs.Streams.{later, IsFirst};
 ghost use Rattle.outside_net.specs.Links.{Answer, Datagram, answer_of, IsWithin, IsOver, KnowsAfter, has_read_failed};
 ghost use Rattle.outside_net.specs.Links.{has_come_to_end, taken_with, IsBefore};
 
-use link_channels::Channel;
+use link_channels::{Channel, MAX_DATAGRAM};
 use outside_io::Failed;
-
-/// How many octets a datagram has at most.
-pub const MAX_DATAGRAM: usize = 2048;
 
 /// The answer to a read.
 #[derive(Clone, Copy, Debug, PartialEq, Eq)]
@@ -50,7 +47,7 @@ pub trait Link {
 
     /// The next datagram, if there is one now, at the front of the block. Whoever sent it is its channel's peer, unless
     /// the link has a stated one, or the datagram is refused.
-    fn read(&mut self, buf: &mut [u8; 2048]) -> Got
+    fn read(&mut self, buf: &mut [u8; MAX_DATAGRAM]) -> Got
         ensures within { IsWithin result }
         ensures value { IsFirst (reads self.old) (answer_of result buf.new) }
         ensures reads { reads self.new ≡ option_map later (reads self.old) }

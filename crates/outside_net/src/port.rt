@@ -1,7 +1,7 @@
 //! One socket of a link, and the peer of its channel.
-use crate::{Got, MAX_DATAGRAM, Role};
+use crate::{Got, Role};
 use libc::net::{SO_RCVBUF, SOL_SOCKET, setsockopt};
-use link_channels::Channel;
+use link_channels::{Channel, MAX_DATAGRAM};
 use outside_io::Failed;
 use std::io::{self, ErrorKind};
 use std::net::{Ipv4Addr, Net, SocketAddr, SocketAddrV4, UdpSocket};
@@ -78,7 +78,7 @@ impl Port {
 
     /// The next datagram, if one is there: its sender is the peer, unless one was stated. One of more than 2,048 octets
     /// is dropped, which answers Quiet, and its sender isn't.
-    pub fn look(&mut self, channel: Channel, buf: &mut [u8; 2048]) -> Option<Got>
+    pub fn look(&mut self, channel: Channel, buf: &mut [u8; MAX_DATAGRAM]) -> Option<Got>
         ensures within { IfSome result IsWithin }
         ensures going { IfSome result (λ got. has_come_to_end got ≡ false) }
         ensures peer { PeerAfter channel (is_known self.old.peer) (is_known self.new.peer) result }

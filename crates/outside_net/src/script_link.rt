@@ -5,8 +5,8 @@ ghost use Rattle.outside_net.specs.Scripts.{answer_in, FitsDatagram};
 
 use crate::call_list::CallList;
 use crate::peers::Known;
-use crate::{Got, Link, MAX_DATAGRAM, Octets};
-use link_channels::Channel;
+use crate::{Got, Link, Octets};
+use link_channels::{Channel, MAX_DATAGRAM};
 use outside_io::{Failed, NoMemory, copy_front};
 use std::alloc::Global;
 use std::marker::Model;
@@ -29,6 +29,7 @@ struct Taken {
 }
 
 impl Model for Taken {
+    ghost use Rattle.link_channels.specs.declared.bounds.TheConstants.{MAX_DATAGRAM};
     ghost use Rattle.std.specs.Prelude.{◌≤◌, take};
     ghost use Rattle.outside_net.specs.Links.{Datagram};
 
@@ -36,7 +37,7 @@ impl Model for Taken {
 
     ghost view = { λ t. record { channel = t.channel; octets = take t.length t.block } };
 
-    ghost invariant = { λ t. t.length ≤ 2048 };
+    ghost invariant = { λ t. t.length ≤ MAX_DATAGRAM };
 }
 
 /// Answers its reads by a script, and then that no datagram will come any more. It takes datagrams where the channel's
@@ -150,7 +151,7 @@ fn answer(read: &ScriptRead, block: &mut [u8; MAX_DATAGRAM]) -> Got
 
 // A datagram as it is kept.
 fn kept_of(channel: Channel, octets: &[u8]) -> Taken
-    requires { length octets.now ≤ 2048 }
+    requires { length octets.now ≤ MAX_DATAGRAM }
     ensures value { result ≡ record { channel = channel; octets = octets.now } }
 {
     let mut block = [0; MAX_DATAGRAM];
@@ -187,7 +188,7 @@ impl Link for ScriptLink {
 
     ghost ends = { λ link. link.ends };
 
-    fn read(&mut self, buf: &mut [u8; 2048]) -> Got {
+    fn read(&mut self, buf: &mut [u8; MAX_DATAGRAM]) -> Got {
         if self.reads.next_fails() {
             self.faults = self.faults.saturating_add(1);
             return Got::Failed;

@@ -7,7 +7,7 @@ use crate::port::Port;
 use crate::{Got, Link, LinkSpec, Role};
 use libc::net::{POLLIN, poll};
 use libc::types::pollfd;
-use link_channels::{Channel, Profile};
+use link_channels::{Channel, MAX_DATAGRAM, Profile};
 use outside_io::Failed;
 use std::net::Net;
 
@@ -98,7 +98,7 @@ impl UdpLink {
     }
 
     /// Looks at one channel's socket.
-    fn look_at(&mut self, channel: Channel, buf: &mut [u8; 2048]) -> Option<Got>
+    fn look_at(&mut self, channel: Channel, buf: &mut [u8; MAX_DATAGRAM]) -> Option<Got>
         ensures within { IfSome result IsWithin }
         ensures going { IfSome result (λ got. has_come_to_end got ≡ false) }
         ensures peer { KnowsAfterLook (knows_in_link self.old) (knows_in_link self.new) result }
@@ -114,7 +114,7 @@ impl UdpLink {
     }
 
     /// Looks at the sockets, the one first that gave least recently.
-    fn look_at_all(&mut self, buf: &mut [u8; 2048]) -> Option<Got>
+    fn look_at_all(&mut self, buf: &mut [u8; MAX_DATAGRAM]) -> Option<Got>
         ensures within { IfSome result IsWithin }
         ensures going { IfSome result (λ got. has_come_to_end got ≡ false) }
         ensures peer { KnowsAfterLook (knows_in_link self.old) (knows_in_link self.new) result }
@@ -137,7 +137,7 @@ impl UdpLink {
 
     /// Looks at the sockets, and once more after a wait where the link receives and no datagram was written since the last
     /// read.
-    fn look_or_wait(&mut self, buf: &mut [u8; 2048]) -> Option<Got>
+    fn look_or_wait(&mut self, buf: &mut [u8; MAX_DATAGRAM]) -> Option<Got>
         ensures within { IfSome result IsWithin }
         ensures going { IfSome result (λ got. has_come_to_end got ≡ false) }
         ensures peer { KnowsAfterLook (knows_in_link self.old) (knows_in_link self.new) result }
@@ -202,7 +202,7 @@ fn refuse(port: &mut Option<Port>)
 }
 
 /// Looks at a socket, if there is one. None where it has nothing.
-fn look(port: &mut Option<Port>, channel: Channel, buf: &mut [u8; 2048]) -> Option<Got>
+fn look(port: &mut Option<Port>, channel: Channel, buf: &mut [u8; MAX_DATAGRAM]) -> Option<Got>
     ensures within { IfSome result IsWithin }
     ensures going { IfSome result (λ got. has_come_to_end got ≡ false) }
     ensures peer { LooksOn channel port.old port.new result }
@@ -241,7 +241,7 @@ impl Link for UdpLink {
 
     ghost ends = { λ link. link.ends };
 
-    fn read(&mut self, buf: &mut [u8; 2048]) -> Got {
+    fn read(&mut self, buf: &mut [u8; MAX_DATAGRAM]) -> Got {
         self.begin();
         match self.look_or_wait(buf) {
             None => Got::Quiet,

@@ -2,6 +2,7 @@
 -- octets and ends in the type of what follows (IEEE 802.3, clause 3.2); a VLAN tag is four octets more (IEEE 802.1Q,
 -- clause 9.6).
 use Rattle.std.specs.Prelude.{ℕ, ◌+◌, Bool, ◌&&◌, not, ◌==◌, List, [], ◌∷◌, length, take, drop, flat_map, if◌then◌else◌}
+use Rattle.link_channels.specs.declared.bounds.TheConstants.{MAX_DATAGRAM}
 use Rattle.std.specs.Prelude.{nat_lt, None, Some, Result, Ok, Err}
 use Rattle.std.specs.declared.option.Option.{Option}
 use Rattle.std.specs.Borrow.{Bor}
@@ -63,7 +64,7 @@ on_channel (Some channel) payload = Some (channel, payload)
 abbrev pub carried_by : Profile → ℕ → Result Datagram IpBad → Option (Channel × List ℕ)
 carried_by profile port (Err bad) = None
 carried_by profile port (Ok datagram) =
-    if nat_lt 2048 (length datagram.payload) then None
+    if nat_lt MAX_DATAGRAM (length datagram.payload) then None
     else on_channel (channel_at profile port datagram.to_port) datagram.payload
 
 -- the same of an IPv4 datagram, whose checksums don't count

@@ -4,7 +4,7 @@ ghost use Rattle.pcap_file.specs.Converted.{ethernet_ip, ip_in, channel_at, data
 
 use crate::format::{ETHERNET, RAW_IP};
 use ipv4_udp::{Ip, Sums};
-use link_channels::{Channel, Profile};
+use link_channels::{Channel, MAX_DATAGRAM, Profile};
 use octet_fields::u16_at;
 
 const IPV4_TYPE: u16 = 0x0800;
@@ -16,9 +16,6 @@ const ETHERNET_LEN: usize = 14;
 
 // And of one with a VLAN tag.
 const TAGGED_LEN: usize = 18;
-
-/// The most octets of a datagram that is taken.
-const MAX_DATAGRAM: usize = 2048;
 
 // The IPv4 datagram behind an Ethernet header.
 #[tactic(auto, using(std::proofs::lemmas::Bool::Decides::nat_tests))]
@@ -85,7 +82,7 @@ pub fn datagram_in(
     port: u16,
 ) -> Option<(Channel, &[u8])>
     ensures value { datagram_shown result ≡ datagram_of profile port link_type octets.now }
-    ensures within { IfSome result (λ datagram. length datagram.1.now ≤ 2048) }
+    ensures within { IfSome result (λ datagram. length datagram.1.now ≤ MAX_DATAGRAM) }
 {
     let octets = ip_in(link_type, octets)?;
     let Ok(ip) = Ip::read(octets, Sums::Skip) else {

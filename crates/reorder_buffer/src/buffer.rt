@@ -1,8 +1,9 @@
 ghost use Rattle.std.specs.Prelude.{◌≡◌, ◌<◌, ◌≤◌, ◌^◌};
+ghost use Rattle.link_channels.specs.declared.bounds.TheConstants.{MAX_PAYLOAD};
 
 use crate::phase::Phase;
 use crate::release::put_due;
-use crate::ring::{MAX_PAYLOAD, Ring};
+use crate::ring::Ring;
 use outside_io::{NoMemory, Sink, WriteFault};
 use receiver_rules::clock::{clock_in, clock_with};
 use receiver_rules::place::{Position, highest_after, new_anchor, place_of};

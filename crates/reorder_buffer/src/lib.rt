@@ -12,4 +12,3 @@ pub use buffer::Buffer;
 pub use outside_io::WriteFault;
 pub use phase::Phase;
 pub use receiver_rules::{Arrival, Verdict};
-pub use ring::MAX_PAYLOAD;

@@ -11,12 +11,10 @@ ghost use Rattle.reorder_buffer.specs.Inside.Ring.{floor_after_first, after_firs
 
 use crate::places::{Standing, lowest_from};
 use deadline_index::{DeadlineIndex, NEVER};
+use link_channels::MAX_PAYLOAD;
 use receiver_rules::place::Position;
 use std::alloc::{AllocError, Global};
 use std::marker::Model;
-
-/// The most octets of a payload.
-pub const MAX_PAYLOAD: usize = 1500;
 
 /// A packet that waits. Its payload is the front of its place's block.
 #[derive(Clone, Copy)]

@@ -6,5 +6,5 @@
 mod sent;
 mod store;
 
-pub use sent::{MAX_PAYLOAD, Sent};
+pub use sent::Sent;
 pub use store::Store;

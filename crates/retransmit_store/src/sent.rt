@@ -1,8 +1,6 @@
+use link_channels::MAX_PAYLOAD;
 use std::marker::Model;
 use ts_nulls::Strip;
-
-/// How many octets a payload has at most.
-pub const MAX_PAYLOAD: usize = 1500;
 
 /// A media packet as it was sent (RFC 3550, section 5.1).
 #[derive(Drop)]
@@ -15,6 +13,7 @@ pub struct Sent {
 }
 
 impl Model for Sent {
+    ghost use Rattle.link_channels.specs.declared.bounds.TheConstants.{MAX_PAYLOAD};
     ghost use Rattle.std.specs.Prelude.{◌≤◌, take};
     ghost use Rattle.sender_rules.specs.Sendings.{Packet};
 
@@ -22,12 +21,12 @@ impl Model for Sent {
 
     ghost view = { λ s. record { number = s.number; timestamp = s.stamp; strip = s.strip; payload = take s.length s.block } };
 
-    ghost invariant = { λ s. s.length ≤ 1500 };
+    ghost invariant = { λ s. s.length ≤ MAX_PAYLOAD };
 }
 
 impl Sent {
     ghost use Rattle.std.specs.Prelude.{◌≡◌, ◌≤◌, length};
-    ghost use Rattle.retransmit_store.specs.declared.sent.TheConstants.{MAX_PAYLOAD};
+    ghost use Rattle.link_channels.specs.declared.bounds.TheConstants.{MAX_PAYLOAD};
 
     /// A packet with its sequence number (all its bits), its timestamp in ticks of 1/90,000 s, which null packets were
     /// deleted from its payload, and the payload without them, of at most 1,500 octets.

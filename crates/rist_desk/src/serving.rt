@@ -1,5 +1,6 @@
 //! All workers, side by side.
 ghost use Rattle.std.specs.Prelude.{◌≡◌, ◌<◌, ◌≤◌, ◌*◌, ◌^◌, ℕ, length, slice_index_or, Some};
+ghost use Rattle.link_channels.specs.declared.bounds.TheConstants.{MAX_LINKS};
 ghost use Rattle.outside_io.specs.Causes.{RoseWhere};
 ghost use Rattle.rist_desk.specs.Turns.{Feed, IsServed};
 ghost use Rattle.rist_desk.specs.Sending.{holds, LacksRoom};
@@ -25,7 +26,7 @@ fn all_turns<S: Shares<U>, U, L: Link, C: Clock, R: Wait>(
     place: u8,
     limits: &ServingLimits,
 ) -> Ended
-    requires place { place < 16 }
+    requires place { place < MAX_LINKS }
     requires turns { (0 < limits.now.turns) × (limits.now.turns ≤ 2 ^ 40) }
     requires own { S.is_of desk.now place worker.old.trace }
     requires left { 2 * limits.now.turns ≤ S.left worker.old.trace }
@@ -75,7 +76,7 @@ pub fn serve_one<S: Shares<U>, U, L: Link, C: Clock, R: Wait>(
     place: usize,
     limits: &ServingLimits,
 )
-    requires place { place < 16 }
+    requires place { place < MAX_LINKS }
     requires turns { (0 < limits.now.turns) × (limits.now.turns ≤ 2 ^ 40) }
     requires own { S.is_of desk.now place worker.old.trace }
     requires left { 2 * limits.now.turns ≤ S.left worker.old.trace }
@@ -97,7 +98,7 @@ fn serve_all<
     R: Threads + Wait + Sync,
 >(rt: &R, workers: &mut [Worker<L, C, U>], desk: &S, limits: &ServingLimits)
     requires some { 0 < length workers.old }
-    requires few { length workers.old ≤ 16 }
+    requires few { length workers.old ≤ MAX_LINKS }
     requires turns { (0 < limits.now.turns) × (limits.now.turns ≤ 2 ^ 40) }
     requires own { (i : ℕ) (d : _) → i < length workers.old
         → MayServe S.is_of S.left desk.now limits.now i (slice_index_or workers.old i d) }
@@ -126,7 +127,7 @@ pub fn serve<
     R: Threads + Wait + Sync,
 >(rt: &R, workers: &mut [Worker<L, C, U>], desk: &S, limits: &ServingLimits)
     requires some { 0 < length workers.old }
-    requires few { length workers.old ≤ 16 }
+    requires few { length workers.old ≤ MAX_LINKS }
     requires turns { (0 < limits.now.turns) × (limits.now.turns ≤ 2 ^ 40) }
     requires own { (i : ℕ) (d : _) → i < length workers.old
         → MayServe S.is_of S.left desk.now limits.now i (slice_index_or workers.old i d) }

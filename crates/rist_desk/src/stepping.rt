@@ -1,5 +1,6 @@
 //! A worker's steps on the desk, and what they make on its link.
 ghost use Rattle.std.specs.Prelude.{◌≡◌, ◌<◌, ◌≤◌, ◌+◌, [], ◌∷◌, ◌++◌, IfErr, OnOk, OnErr, ℕ, List, Some, Err, option_map};
+ghost use Rattle.link_channels.specs.declared.bounds.TheConstants.{MAX_LINKS};
 ghost use Rattle.link_channels.specs.declared.channel.Channel.{Channel as ChannelValue};
 ghost use Rattle.outside_io.specs.Causes.{HasCause, RoseWhere};
 ghost use Rattle.rist_reporter.specs.OneMore.{outs_of};
@@ -13,13 +14,12 @@ ghost use Rattle.rist_desk.specs.Inside.Links.{IsKept, IsKeptBy, IsInside, SentP
 use crate::ended::Ended;
 use crate::items::what_of;
 use crate::shares::Shares;
-use link_channels::Channel;
+use link_channels::{Channel, MAX_PAYLOAD};
 use outside_io::Failed;
 use outside_net::Link;
 use rist_ends::{Answer, Outs, Told, What};
 use rist_reporter::Out;
 use rist_wire::{Item, Opener, WireBad};
-use rtp_packet::MAX_PAYLOAD;
 use std::sync::Wait;
 
 /// Writes what a step made to the link.
@@ -101,7 +101,7 @@ fn step_item<S: Shares<U>, U, L: Link, R: Wait>(
     us: u64,
     item: &Result<Item<'_>, WireBad>,
 ) -> Result<(), Ended>
-    requires place { place < 16 }
+    requires place { place < MAX_LINKS }
     requires own { S.is_of desk.now place own.old }
     requires left { 1 ≤ S.left own.old }
     ensures own { S.is_of desk.now place own.new }
@@ -155,7 +155,7 @@ pub fn step_datagram<S: Shares<U>, U, L: Link, R: Wait>(
     channel: Channel,
     octets: &mut [u8],
 ) -> Result<(), Ended>
-    requires place { place < 16 }
+    requires place { place < MAX_LINKS }
     requires own { S.is_of desk.now place own.old }
     requires left { 1 ≤ S.left own.old }
     requires grown { IsKnownIn (L.knew link.old) (L.knows link.old) }
@@ -190,7 +190,7 @@ pub fn step_tick<S: Shares<U>, U, L: Link, R: Wait>(
     us: u64,
     ticked: &mut Option<u64>,
 ) -> Result<(), Ended>
-    requires place { place < 16 }
+    requires place { place < MAX_LINKS }
     requires own { S.is_of desk.now place own.old }
     requires left { 1 ≤ S.left own.old }
     ensures own { S.is_of desk.now place own.new }

@@ -1,5 +1,6 @@
 //! One turn of a worker.
 ghost use Rattle.std.specs.Prelude.{◌≡◌, ◌<◌, ◌≤◌, ◌+◌, ◌∷◌, [], ℕ, Bool, nat_le, false, IfNone, IfSome, Some};
+ghost use Rattle.link_channels.specs.declared.bounds.TheConstants.{MAX_LINKS};
 ghost use Rattle.link_channels.specs.declared.channel.Channel.{Channel};
 ghost use Rattle.outside_io.specs.Causes.{RoseWhere};
 ghost use Rattle.outside_net.specs.Links.{Gave, Quiet, answer_of};
@@ -14,7 +15,7 @@ use crate::ended::Ended;
 use crate::shares::Shares;
 use crate::stepping::{step_datagram, step_tick};
 use crate::worker::{ServingLimits, Worker};
-use link_channels::Channel;
+use link_channels::{Channel, MAX_DATAGRAM};
 use outside_net::{Clock, Got, Link};
 use rist_ends::Outs;
 use rist_wire::Opener;
@@ -35,7 +36,7 @@ fn datagram_turn<S: Shares<U>, U, L: Link, R: Wait>(
     ticked: &mut Option<u64>,
     last: bool,
 ) -> Option<Ended>
-    requires place { place < 16 }
+    requires place { place < MAX_LINKS }
     requires own { S.is_of desk.now place own.old }
     requires left { 2 ≤ S.left own.old }
     requires grown { IsKnownIn (L.knew link.old) (L.knows link.old) }
@@ -84,7 +85,7 @@ fn quiet_turn<S: Shares<U>, U, L: Link, R: Wait>(
     last: bool,
     idle: bool,
 ) -> Option<Ended>
-    requires place { place < 16 }
+    requires place { place < MAX_LINKS }
     requires own { S.is_of desk.now place own.old }
     requires left { 2 ≤ S.left own.old }
     ensures own { S.is_of desk.now place own.new }
@@ -145,7 +146,7 @@ pub fn turn<S: Shares<U>, U, L: Link, C: Clock, R: Wait>(
     ticked: &mut Option<u64>,
     since: &mut Option<u64>,
 ) -> Option<Ended>
-    requires place { place < 16 }
+    requires place { place < MAX_LINKS }
     requires own { S.is_of desk.now place worker.old.trace }
     requires left { 2 ≤ S.left worker.old.trace }
     ensures own { S.is_of desk.now place worker.new.trace }
@@ -176,7 +177,7 @@ pub fn turn<S: Shares<U>, U, L: Link, C: Clock, R: Wait>(
     ensures faults { RoseWhere (is_link_failure result) (L.faults worker.old.link) (L.faults worker.new.link) }
 {
     let us = worker.clock.now();
-    let mut block = [0; 2048];
+    let mut block = [0; MAX_DATAGRAM];
     let got = worker.link.read(&mut block);
     let from = since_then(*since, us, &got);
     *since = Some(from);

@@ -1,11 +1,12 @@
 -- What a receiver is told, as a step of its history.
 use Rattle.std.specs.Prelude.{ℕ, ◌<◌, ◌≤◌, length}
+use Rattle.link_channels.specs.declared.bounds.TheConstants.{MAX_LINKS}
 use Rattle.seq_unwrap.specs.Nearest.{cycle_of}
 use Rattle.receiver_rules.specs.Steps.{Step, Event, tick_of}
 use Rattle.receiver_rules.specs.Steps as buffer
 use Rattle.receiver_rules.specs.Seen.{seen}
 use Rattle.receiver_rules.specs.declared.arrival.Arrival.{Arrival}
-use Rattle.reorder_buffer.specs.declared.ring.TheConstants.{MAX_PAYLOAD}
+use Rattle.link_channels.specs.declared.bounds.TheConstants.{MAX_PAYLOAD}
 use Rattle.receiver_rules.specs.ReceiverSteps as receiver
 use Rattle.request_rules.specs.Steps.{Input, Step as ReceiverStep, control_input, receiver_input}
 use Rattle.request_rules.specs.Steps as inputs
@@ -53,7 +54,7 @@ IsNoEnd End = ⊥
 
 -- there are at most sixteen links
 pub record IsFit (told : Told) : Type 0 where
-  pub link : told.link < 16
+  pub link : told.link < MAX_LINKS
   pub word : IsFitWhat told.what
 
 -- an end ends the receiver, and nothing else does

@@ -7,8 +7,8 @@ ghost use Rattle.rist_ends.specs.Items.{arrival_of, input_read};
 ghost use Rattle.rist_ends.specs.Told.{IsFitArrival, IsFitWhat, IsNoEnd, input_of};
 
 use crate::told::What;
+use link_channels::MAX_PAYLOAD;
 use receiver_rules::Arrival;
-use reorder_buffer::MAX_PAYLOAD;
 use rist_wire::{Item, Media, WireBad};
 
 // The payload with its null packets in their places: a view of the datagram, or of the block where some were deleted.

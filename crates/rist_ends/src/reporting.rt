@@ -1,5 +1,6 @@
 //! What a step tells the reporter, and what comes of it.
 ghost use Rattle.std.specs.Prelude.{◌≡◌, ◌≢◌, ◌≤◌, ◌<◌, ◌^◌, None, true, is_err, option_map};
+ghost use Rattle.link_channels.specs.declared.bounds.TheConstants.{MAX_LINKS};
 ghost use Rattle.reorder_buffer.specs.declared.phase.Phase.TheVariants.{Open};
 ghost use Rattle.rist_reporter.specs.OneMore.{TakesPairs, AnswersControl, StandsAfterControl};
 ghost use Rattle.rist_reporter.specs.OneMore.{AnswersTick, StandsAfterTick, answer_count};
@@ -45,7 +46,7 @@ fn answer_compound(
     compound: &Compound<'_>,
     outs: &mut Outs,
 ) -> Answer
-    requires link { link < 16 }
+    requires link { link < MAX_LINKS }
     ensures answer { AnswersControl reporter.old link us compound.now (made_in result outs.new) }
     ensures state { StandsAfterControl reporter.old reporter.new link us compound.now (made_in result outs.new) }
     ensures pairs { TakesPairs (answer_count (made_in result outs.new)) reporter.old.shutter reporter.new.shutter }
@@ -68,7 +69,7 @@ fn answer_tick(
     us: u64,
     outs: &mut Outs,
 ) -> Answer
-    requires link { link < 16 }
+    requires link { link < MAX_LINKS }
     requires time { at < 2 ^ 61 }
     requires clock { buffer.now.time ≡ at }
     requires running { buffer.now.phase ≡ Open }

@@ -1,5 +1,6 @@
 -- What a gateway's sending end does: it sends pieces on, and looks at what comes back on its links (this profile).
 use Rattle.std.specs.Prelude.{◌≡◌, ◌<◌, ℕ, nat_lt, List, [], ◌∷◌, ◌++◌, length, take, drop, set, slice_index_or, Bool}
+use Rattle.link_channels.specs.declared.bounds.TheConstants.{MAX_PAYLOAD}
 use Rattle.std.specs.Prelude.{true, false, Option, None, Some, Result, Ok, Err}
 use Rattle.std.specs.Option.{option_map}
 use Rattle.outside_net.specs.Streams.{later, IsFirst}
@@ -66,7 +67,7 @@ SendsParts setup (part ∷ parts) result from to =
 -- The octets in parts of 1,500, of which the last may have fewer: what a receiver plays out at once is one part.
 abbrev pub AreParts : List (List ℕ) → List ℕ → Type 0
 AreParts [] octets = octets ≡ []
-AreParts (part ∷ parts) octets = (0 < length octets) × (part ≡ take 1500 octets) × AreParts parts (drop 1500 octets)
+AreParts (part ∷ parts) octets = (0 < length octets) × (part ≡ take MAX_PAYLOAD octets) × AreParts parts (drop MAX_PAYLOAD octets)
 
 -- a piece is sent on
 pub record SendsOn (setup : Setup) (piece : List ℕ) (result : Result Unit SendBad) (from to : Course) : Type 0 where

@@ -1,5 +1,6 @@
 -- What a contract sees of a gateway's sending end.
 use Rattle.std.specs.Prelude.{◌≡◌, ◌<◌, ◌≤◌, ℕ, List, [], length, map, slice_index_or, Bool, false, Option, None, Some}
+use Rattle.link_channels.specs.declared.bounds.TheConstants.{MAX_LINKS}
 use Rattle.std.specs.Prelude.{Result, Ok, Err}
 use Rattle.outside_io.specs.Causes.{Rose}
 use Rattle.link_channels.specs.declared.channel.Channel.{Channel}
@@ -145,7 +146,7 @@ pub record IsOnward (first o : OnwardState) : Type 0 where
   pub opener : o.opener ≡ first.sender.session
   pub count : length o.links ≡ length first.links
   pub bonded : length first.links ≡ link_count (rules_of first.sender).bonding
-  pub few : length first.links ≤ 16
+  pub few : length first.links ≤ MAX_LINKS
   pub deeds : List Deed
   pub moved : Moves first o (start_of first) (λ to. DoesAll (setup_of first) deeds (start_of first) to)
   pub refused : o.put_bad ≡ None → o.faults ≡ first.faults
@@ -157,7 +158,7 @@ pub record IsUncalled (o : OnwardState) : Type 0 where
   pub sender : IsSenderAfter o.sender (no_work o.sender)
   pub opener : o.opener ≡ o.sender.session
   pub some : 0 < length o.links
-  pub few : length o.links ≤ 16
+  pub few : length o.links ≤ MAX_LINKS
   pub bonded : length o.links ≡ link_count o.sender.bonding
 
 -- ---- calls

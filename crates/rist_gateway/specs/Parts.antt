@@ -1,5 +1,6 @@
 -- What the threads of a gateway do.
 use Rattle.std.specs.Prelude.{◌≡◌, ◌<◌, ◌≤◌, ◌+◌, ℕ, List, [], ◌∷◌, length, slice_index_or, Option, None}
+use Rattle.link_channels.specs.declared.bounds.TheConstants.{MAX_LINKS}
 use Rattle.rist_desk.specs.declared.step.Step.{Step}
 use Rattle.rist_desk.specs.declared.worker.ServingLimits.{ServingLimits}
 use Rattle.rist_desk.specs.declared.worker.Worker.{Worker}
@@ -13,7 +14,7 @@ use Rattle.rist_gateway.specs.Sides.{ServesSide}
 
 -- at most sixteen links are received on, and they stand first
 abbrev pub IsPlaced : {L C U D P : Type 0} → EitherWorker L C U D P → ℕ → Type 0
-IsPlaced (parts.Receiving worker) place = place < 16
+IsPlaced (parts.Receiving worker) place = place < MAX_LINKS
 IsPlaced (parts.Sending side) place = Unit {0}
 
 -- what side workers have of their own tells: of what it is, under which number, with no step made, and for how many

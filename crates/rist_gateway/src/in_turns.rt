@@ -1,5 +1,6 @@
 //! A run of a receiver in turns whose sink sends on.
 ghost use Rattle.std.specs.Prelude.{◌≡◌, ◌<◌, ◌≤◌, ◌+◌, ◌^◌, [], ℕ, List, Option, IfOk, IfErr, Some, None, length, true, vec_capacity};
+ghost use Rattle.link_channels.specs.declared.bounds.TheConstants.{MAX_LINKS};
 ghost use Rattle.std.specs.List.{All};
 ghost use Rattle.outside_io.specs.Told.{IsEmpty};
 ghost use Rattle.rist_desk.specs.Desk.{IsNew, state_of};
@@ -44,7 +45,7 @@ fn served_in_turns<
     limits: &ServingLimits,
 ) -> Run<K>
     requires some { 0 < length links.old.items }
-    requires few { length links.old.items + length beside.old.items ≤ 16 }
+    requires few { length links.old.items + length beside.old.items ≤ MAX_LINKS }
     requires clocks { length clocks.old.items ≡ length links.old.items }
     requires turns { (0 < limits.now.turns) × (limits.now.turns ≤ 2 ^ 40) }
     requires openers { length openers.items ≡ length links.old.items }
@@ -105,7 +106,7 @@ fn named_in_turns<
     limits: &ServingLimits,
 ) -> Result<Run<K>, K>
     requires some { 0 < length links.old.items }
-    requires few { length links.old.items + length beside.old.items ≤ 16 }
+    requires few { length links.old.items + length beside.old.items ≤ MAX_LINKS }
     requires clocks { length clocks.old.items ≡ length links.old.items }
     requires turns { (0 < limits.now.turns) × (limits.now.turns ≤ 2 ^ 40) }
     requires made { IsMadeInTurns (length links.old.items) made }
@@ -160,7 +161,7 @@ pub(crate) fn receive_in_turns<
     limits: &ServingLimits,
 ) -> Result<Run<K>, K>
     requires some { 0 < length links.old.items }
-    requires few { length links.old.items + length beside.old.items ≤ 16 }
+    requires few { length links.old.items + length beside.old.items ≤ MAX_LINKS }
     requires clocks { length clocks.old.items ≡ length links.old.items }
     requires turns { (0 < limits.now.turns) × (limits.now.turns ≤ 2 ^ 40) }
     requires made { IsMadeInTurns (length links.old.items) made }

@@ -1,5 +1,6 @@
 //! A look at a link, and what is due on it.
 ghost use Rattle.std.specs.Prelude.{◌≡◌, ◌≤◌, ◌<◌, Some, length};
+ghost use Rattle.link_channels.specs.declared.bounds.TheConstants.{MAX_LINKS};
 ghost use Rattle.outside_net.specs.Links.{Gave, IsWithin, answer_of};
 ghost use Rattle.sender_rules.specs.Bonding.{link_count};
 ghost use Rattle.rist_sender.specs.Sender.{StaysSet};
@@ -8,8 +9,8 @@ ghost use Rattle.rist_gateway.specs.Course.{AnswersOnce, TicksOnce, AnswersAndTi
 ghost use Rattle.rist_gateway.specs.Course.{LooksAt, side_of};
 ghost use Rattle.rist_gateway.specs.Inside.Moves.{GoesBy};
 
-use link_channels::Channel;
-use outside_net::{Got, Link, MAX_DATAGRAM, TellingLink};
+use link_channels::{Channel, MAX_DATAGRAM};
+use outside_net::{Got, Link, TellingLink};
 use rist_desk::Side;
 use rist_sender::{Sender, read_at};
 use rist_wire::{Item, Opener};
@@ -19,7 +20,7 @@ use sender_rules::SendBad;
 /// Lets the sender tick.
 fn tick<L: Link>(sender: &mut Sender, links: &mut [L], us: u64) -> Result<(), SendBad>
     requires links { length links.old ≡ link_count sender.old.bonding }
-    requires few { length links.old ≤ 16 }
+    requires few { length links.old ≤ MAX_LINKS }
     ensures work { GoesBy ⟦<L as TellingLink>⟧.tells sender.old sender.new links.old links.new
         (λ setup from. TicksOnce setup us result from) }
     ensures set { StaysSet sender.old sender.new }
@@ -37,7 +38,7 @@ fn feed<L: Link>(
 ) -> Result<u32, SendBad>
     requires among { link < length links.old }
     requires links { length links.old ≡ link_count sender.old.bonding }
-    requires few { length links.old ≤ 16 }
+    requires few { length links.old ≤ MAX_LINKS }
     ensures work { GoesBy ⟦<L as TellingLink>⟧.tells sender.old sender.new links.old links.new
         (λ setup from. AnswersOnce setup us link compound.now result from) }
     ensures set { StaysSet sender.old sender.new }
@@ -55,7 +56,7 @@ fn feed_and_tick<L: Link>(
 ) -> Result<(), SendBad>
     requires among { link < length links.old }
     requires links { length links.old ≡ link_count sender.old.bonding }
-    requires few { length links.old ≤ 16 }
+    requires few { length links.old ≤ MAX_LINKS }
     ensures work { GoesBy ⟦<L as TellingLink>⟧.tells sender.old sender.new links.old links.new
         (λ setup from. AnswersAndTicks setup us link (Some compound.now) result from) }
     ensures set { StaysSet sender.old sender.new }
@@ -78,7 +79,7 @@ fn answer_and_tick<L: Link>(
 ) -> Result<(), SendBad>
     requires among { link < length links.old }
     requires links { length links.old ≡ link_count sender.old.bonding }
-    requires few { length links.old ≤ 16 }
+    requires few { length links.old ≤ MAX_LINKS }
     requires session { opener.old ≡ sender.old.session }
     ensures work { GoesBy ⟦<L as TellingLink>⟧.tells sender.old sender.new links.old links.new
         (λ setup from. AnswersAndTicks setup us link
@@ -119,7 +120,7 @@ fn look_on<L: Link>(
 ) -> Side
     requires among { link < length links.old }
     requires links { length links.old ≡ link_count sender.old.bonding }
-    requires few { length links.old ≤ 16 }
+    requires few { length links.old ≤ MAX_LINKS }
     requires session { opener.old ≡ sender.old.session }
     ensures work { GoesBy ⟦<L as TellingLink>⟧.tells sender.old sender.new links.old links.new
         (λ setup from. ReadsOnce setup us link puts result from) }
@@ -153,7 +154,7 @@ pub(crate) fn look<L: Link>(
     puts: u64,
 ) -> Side
     requires links { length links.old ≡ link_count sender.old.bonding }
-    requires few { length links.old ≤ 16 }
+    requires few { length links.old ≤ MAX_LINKS }
     requires session { opener.old ≡ sender.old.session }
     ensures work { GoesBy ⟦<L as TellingLink>⟧.tells sender.old sender.new links.old links.new
         (λ setup from. LooksAt setup us link puts result from) }

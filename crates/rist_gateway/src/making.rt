@@ -1,5 +1,6 @@
 //! What a run of a gateway takes memory for, before it begins.
 ghost use Rattle.std.specs.Prelude.{◌≡◌, ◌%◌, ◌≤◌, ◌+◌, IfOk, is_some};
+ghost use Rattle.link_channels.specs.declared.bounds.TheConstants.{MAX_LINKS};
 ghost use Rattle.sender_rules.specs.Bonding.{link_count};
 ghost use Rattle.rist_wire.specs.Session.{IsSession};
 ghost use Rattle.rist_recv.specs.Setup.{IsMade, IsMadeInTurns, setup_in_turns, setup_of};
@@ -70,7 +71,7 @@ pub fn make<T: MadeTrace + Drop, L: Drop, C: Drop>(
     outputs: usize,
 ) -> Result<GateMemory<T, L, C>, NoMemory>
     requires receiving { IsMade T.list T.limit inputs receiving }
-    requires few { inputs + outputs ≤ 16 }
+    requires few { inputs + outputs ≤ MAX_LINKS }
     requires flow { settings.flow % 2 ≡ 0 }
     requires store { (1 ≤ settings.store) × (settings.store ≤ 65536) }
     requires hold { (1 ≤ settings.hold) × (settings.hold ≤ 1000) }

@@ -1,5 +1,6 @@
 //! A piece, sent on in parts.
 ghost use Rattle.std.specs.Prelude.{◌≡◌, ◌≤◌, length};
+ghost use Rattle.link_channels.specs.declared.bounds.TheConstants.{MAX_LINKS};
 ghost use Rattle.sender_rules.specs.Bonding.{link_count};
 ghost use Rattle.rist_sender.specs.Sender.{StaysSet};
 ghost use Rattle.rist_gateway.specs.Course.{Course, SendsPart, SendsOn};
@@ -7,12 +8,10 @@ ghost use Rattle.rist_gateway.specs.Onward.{passed_of};
 ghost use Rattle.rist_gateway.specs.Inside.Moves.{IsFar, Goes, setup_with};
 
 use crate::handed::Handed;
+use link_channels::MAX_PAYLOAD;
 use outside_net::{Clock, Link, TellingLink};
 use rist_sender::Sender;
 use sender_rules::SendBad;
-
-/// How many octets a payload has at most.
-const MAX_PART: usize = 1500;
 
 /// Sends a part as one payload, at the clock's moment.
 fn send_part<L: Link, C: Clock>(
@@ -22,9 +21,9 @@ fn send_part<L: Link, C: Clock>(
     handed: &mut Handed,
     part: &[u8],
 ) -> Result<(), SendBad>
-    requires part { length part.now ≤ 1500 }
+    requires part { length part.now ≤ MAX_PAYLOAD }
     requires links { length links.old ≡ link_count sender.old.bonding }
-    requires few { length links.old ≤ 16 }
+    requires few { length links.old ≤ MAX_LINKS }
     ensures work { (from : Course)
         → IsFar ⟦<L as TellingLink>⟧.tells sender.old
         (passed_of (C.moments clock.old) handed.old) links.old from
@@ -52,7 +51,7 @@ pub(crate) fn send_parts<L: Link, C: Clock>(
     piece: &[u8],
 ) -> Result<(), SendBad>
     requires links { length links.old ≡ link_count sender.old.bonding }
-    requires few { length links.old ≤ 16 }
+    requires few { length links.old ≤ MAX_LINKS }
     ensures work { (from : Course)
         → IsFar ⟦<L as TellingLink>⟧.tells sender.old
         (passed_of (C.moments clock.old) handed.old) links.old from
@@ -62,8 +61,8 @@ pub(crate) fn send_parts<L: Link, C: Clock>(
     ensures set { StaysSet sender.old sender.new }
 {
     let mut rest = piece;
-    while rest.len() > MAX_PART {
-        let (part, more) = rest.split_at(MAX_PART);
+    while rest.len() > MAX_PAYLOAD {
+        let (part, more) = rest.split_at(MAX_PAYLOAD);
         match send_part(sender, links, clock, handed, part) {
             Ok(()) => {}
             Err(bad) => return Err(bad),

@@ -1,5 +1,6 @@
 //! A run of a receiver whose sink sends on.
 ghost use Rattle.std.specs.Prelude.{◌≡◌, ◌<◌, ◌≤◌, ◌+◌, ◌^◌, [], IfOk, IfErr, length, vec_capacity};
+ghost use Rattle.link_channels.specs.declared.bounds.TheConstants.{MAX_LINKS};
 ghost use Rattle.outside_io.specs.Told.{IsEmpty};
 ghost use Rattle.rist_desk.specs.Desk.{IsNew, state_of};
 ghost use Rattle.rist_recv.specs.Run.{Receives};
@@ -46,7 +47,7 @@ fn session<
     limits: &ServingLimits,
 ) -> Run<K>
     requires some { 0 < length links.old.items }
-    requires few { length links.old.items + length beside.old.items ≤ 16 }
+    requires few { length links.old.items + length beside.old.items ≤ MAX_LINKS }
     requires clocks { length clocks.old.items ≡ length links.old.items }
     requires turns { (0 < limits.now.turns) × (limits.now.turns ≤ 2 ^ 40) }
     requires made { IsKeptEnd T.list T.limit (length links.old.items) (length beside.old.items) end }
@@ -111,7 +112,7 @@ fn receive_kept<
     limits: &ServingLimits,
 ) -> Run<K>
     requires some { 0 < length links.old.items }
-    requires few { length links.old.items + length beside.old.items ≤ 16 }
+    requires few { length links.old.items + length beside.old.items ≤ MAX_LINKS }
     requires clocks { length clocks.old.items ≡ length links.old.items }
     requires turns { (0 < limits.now.turns) × (limits.now.turns ≤ 2 ^ 40) }
     requires made { IsKeptEnd T.list T.limit (length links.old.items) (length beside.old.items) end }
@@ -150,7 +151,7 @@ pub(crate) fn receive_beside<
     limits: &ServingLimits,
 ) -> Result<Run<K>, K>
     requires some { 0 < length links.old.items }
-    requires few { length links.old.items + length beside.old.items ≤ 16 }
+    requires few { length links.old.items + length beside.old.items ≤ MAX_LINKS }
     requires clocks { length clocks.old.items ≡ length links.old.items }
     requires turns { (0 < limits.now.turns) × (limits.now.turns ≤ 2 ^ 40) }
     requires made { IsReceivingEnd T.list T.limit (length links.old.items) (length beside.old.items) end }

@@ -1,5 +1,6 @@
 //! The receiving end of a run, before it begins.
 ghost use Rattle.std.specs.Prelude.{◌≡◌, ◌≤◌, ◌+◌, IfOk, length};
+ghost use Rattle.link_channels.specs.declared.bounds.TheConstants.{MAX_LINKS};
 ghost use Rattle.rist_recv.specs.Setup.{IsMade};
 ghost use Rattle.rist_gateway.specs.Setup.{IsKeptEnd};
 
@@ -47,7 +48,7 @@ pub(crate) fn kept_end<T: MadeTrace + Drop, L: Drop, C: Drop>(
     outputs: usize,
 ) -> Result<KeptEnd<T, L, C>, NoMemory>
     requires made { IsMade T.list T.limit inputs made }
-    requires few { inputs + outputs ≤ 16 }
+    requires few { inputs + outputs ≤ MAX_LINKS }
     ensures made { IfOk result (λ end. end.made ≡ made) }
     ensures end { IfOk result (λ end. IsKeptEnd T.list T.limit inputs outputs end) }
 {

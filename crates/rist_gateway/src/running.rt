@@ -1,5 +1,6 @@
 //! A run over links and clocks.
 ghost use Rattle.std.specs.Prelude.{◌≡◌, ◌<◌, ◌≤◌, ◌^◌, ◌+◌, [], None, Some, IfOk, OnErr, length, vec_capacity};
+ghost use Rattle.link_channels.specs.declared.bounds.TheConstants.{MAX_LINKS};
 ghost use Rattle.rist_gateway.specs.Onward.{IsUncalled, onward_of, passed_of};
 ghost use Rattle.rist_gateway.specs.Inside.Played.{PlaysOn};
 ghost use Rattle.rist_gateway.specs.Run.{AreLookedAt, Forwards};
@@ -67,7 +68,7 @@ fn forward<
     limits: &ServingLimits,
 ) -> Forwarded<L, C>
     requires some { 0 < length links.old.items }
-    requires few { length links.old.items + length beside.old.items ≤ 16 }
+    requires few { length links.old.items + length beside.old.items ≤ MAX_LINKS }
     requires clocks { length clocks.old.items ≡ length links.old.items }
     requires turns { (0 < limits.now.turns) × (limits.now.turns ≤ 2 ^ 40) }
     requires made { IsReceivingEnd T.list T.limit (length links.old.items) (length beside.old.items) receiving }
@@ -138,7 +139,7 @@ pub fn gate_on<
     limits: &ServingLimits,
 ) -> Result<Gated, NoMemory>
     requires some { (0 < inputs) × (0 < outputs) }
-    requires few { inputs + outputs ≤ 16 }
+    requires few { inputs + outputs ≤ MAX_LINKS }
     requires links { length links.old.items ≡ inputs + outputs }
     requires clocks { length clocks.old.items ≡ inputs + outputs + 1 }
     requires turns { (0 < limits.now.turns) × (limits.now.turns ≤ 2 ^ 40) }

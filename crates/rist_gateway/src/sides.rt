@@ -1,5 +1,6 @@
 //! The links of both ends, served together.
 ghost use Rattle.std.specs.Prelude.{◌≡◌, ◌<◌, ◌≤◌, ◌+◌, ◌++◌, ◌∷◌, ◌^◌, ℕ, List, [], length, map, reverse, take, drop};
+ghost use Rattle.link_channels.specs.declared.bounds.TheConstants.{MAX_LINKS};
 ghost use Rattle.std.specs.Prelude.{slice_index_or, vec_capacity};
 ghost use Rattle.rist_desk.specs.Serving.{MayServe};
 ghost use Rattle.rist_desk.specs.declared.worker.Worker.{Worker as ServedWorker};
@@ -24,7 +25,7 @@ pub(crate) fn seat_sides<L: Drop, C: Drop, U: Drop, P: Drop>(
     passes: &mut Vec<P>,
     parts: &mut Vec<EitherWorker<L, C, U, C, P>>,
 )
-    requires few { length clocks.old.items ≤ 16 }
+    requires few { length clocks.old.items ≤ MAX_LINKS }
     requires many { length clocks.old.items ≤ length passes.old.items }
     requires room { length clocks.old.items ≤ vec_capacity parts.old }
     requires no_parts { parts.old.items ≡ [] }
@@ -179,7 +180,7 @@ pub(crate) fn serve_both<
     limits: &ServingLimits,
 )
     requires some { 0 < length workers.old.items }
-    requires few { length workers.old.items ≤ 16 }
+    requires few { length workers.old.items ≤ MAX_LINKS }
     requires turns { (0 < limits.now.turns) × (limits.now.turns ≤ 2 ^ 40) }
     requires room { HasRoom parts.old.items (vec_capacity parts.old) (length workers.old.items) }
     requires may { (i : ℕ) (d : _) → i < length workers.old.items

@@ -6,10 +6,10 @@ ghost use Rattle.rist_wire.specs.Sent.{media_channel, media_datagram};
 ghost use Rattle.rist_pack.specs.Capture.{time_of, stamp_of, media_with, piece_octets, HasGiven};
 
 use crate::PackSettings;
-use link_channels::Channel;
+use link_channels::{Channel, MAX_DATAGRAM, MAX_PAYLOAD};
 use receiver_rules::tick_of;
 use rist_wire::Shutter;
-use ts_nulls::{BLOCK_LEN, Strip, strip};
+use ts_nulls::{Strip, strip};
 
 // The time of piece k, in microseconds from the first.
 pub(crate) fn time_of(settings: &PackSettings, k: u64) -> u64
@@ -35,14 +35,14 @@ fn put_sent(
     k: u64,
     strip: Option<Strip>,
     payload: &[u8],
-    block: &mut [u8; 2048],
+    block: &mut [u8; MAX_DATAGRAM],
 ) -> (Channel, usize)
     requires paired { is_some shutter.old.sealer ≡ is_some shutter.old.session.pass }
     requires given { HasGiven k shutter.old.sealer }
     requires flow { settings.now.flow % 2 ≡ 0 }
     requires place { k < 2 ^ 32 }
     requires gap { settings.now.gap ≤ 1000000 }
-    requires payload { length payload.now ≤ BLOCK_LEN }
+    requires payload { length payload.now ≤ MAX_PAYLOAD }
     requires strip { IsSome strip → shutter.old.session.nulls ≡ true }
     requires whole { can_restore strip payload.now ≡ true }
     ensures channel { result.0 ≡ media_channel shutter.old.session }
@@ -50,7 +50,7 @@ fn put_sent(
         ≡ media_datagram shutter.old.session (next_pair shutter.old.sealer)
         (media_with settings.now k (record { strip = strip; payload = payload.now })) }
     ensures state { shutter.new ≡ record shutter.old { sealer = after_pair shutter.old.sealer } }
-    ensures within { result.1 ≤ 2048 }
+    ensures within { result.1 ≤ MAX_DATAGRAM }
 {
     let number = settings.first as u64 + k;
     let stamp = stamp_of(settings, k);
@@ -69,7 +69,7 @@ pub(crate) fn put_piece(
     settings: &PackSettings,
     k: u64,
     piece: &[u8],
-    block: &mut [u8; 2048],
+    block: &mut [u8; MAX_DATAGRAM],
 ) -> (Channel, usize)
     requires paired { is_some shutter.old.sealer ≡ is_some shutter.old.session.pass }
     requires given { HasGiven k shutter.old.sealer }
@@ -82,9 +82,9 @@ pub(crate) fn put_piece(
     ensures octets { take result.1 block.new
         ≡ piece_octets shutter.old.session (next_pair shutter.old.sealer) settings.now k piece.now }
     ensures state { shutter.new ≡ record shutter.old { sealer = after_pair shutter.old.sealer } }
-    ensures within { result.1 ≤ 2048 }
+    ensures within { result.1 ≤ MAX_DATAGRAM }
 {
-    let mut kept = [0; BLOCK_LEN];
+    let mut kept = [0; MAX_PAYLOAD];
     if nulls {
         if let Some((told, len)) = strip(piece, &mut kept) {
             return put_sent(shutter, settings, k, Some(told), &kept[..len], block);

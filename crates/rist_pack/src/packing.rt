@@ -14,6 +14,7 @@ use crate::datagram::{put_piece, time_of};
 use crate::{PackBad, PackSettings};
 use block_source::{PIECE_LEN, PieceFault, read_piece};
 use capture_file::{Head, WriteFault, Writer};
+use link_channels::MAX_DATAGRAM;
 use outside_io::{Sink, Source};
 use psk_seal::Sealer;
 use rist_wire::{Session, Shutter};
@@ -43,7 +44,7 @@ fn write_piece<K: Sink>(
     ensures state { shutter.new ≡ record shutter.old { sealer = after_pair shutter.old.sealer } }
     ensures cause { HasCause capture.old.faults capture.new.faults result }
 {
-    let mut block = [0; 2048];
+    let mut block = [0; MAX_DATAGRAM];
     let (channel, end) = put_piece(shutter, nulls, settings, k, piece, &mut block);
     let head = Head {
         link: 0,

@@ -1,5 +1,6 @@
 //! The run.
 ghost use Rattle.std.specs.Prelude.{◌≡◌, ◌<◌, ◌≤◌, ◌^◌, ℕ, List, length, reverse, slice_index_or, is_some, true, false};
+ghost use Rattle.link_channels.specs.declared.bounds.TheConstants.{MAX_LINKS};
 ghost use Rattle.std.specs.Prelude.{Some};
 ghost use Rattle.outside_io.specs.Causes.{RoseWhere};
 ghost use Rattle.rist_compare.specs.declared.tear.Tear.{Tear};
@@ -39,7 +40,7 @@ pub fn conclude<N: DeskOrigin, T: StepTrace + Drop, K: Sink + Drop, L, C, U: Ste
     desk: Desk<N, T, K>,
     workers: &[Worker<L, C, U>],
 ) -> Received<T, K>
-    requires few { length workers.now ≤ 16 }
+    requires few { length workers.now ≤ MAX_LINKS }
     // However it ends, the kept list is a legal history of the receiver, and the sink holds what it releases.
     ensures stands { (steps : List Step) → T.list result.trace ≡ Some steps → StandsFor N.given
         (state_of result.receiver (T.list result.trace) (T.limit result.trace)
@@ -94,7 +95,7 @@ fn session<
     requires fresh { IsNew N.given
         (state_of receiver (T.list trace) (T.limit trace) (K.contents sink) (K.faults sink)) }
     requires some { 0 < length workers.old }
-    requires few { length workers.old ≤ 16 }
+    requires few { length workers.old ≤ MAX_LINKS }
     requires turns { (0 < limits.now.turns) × (limits.now.turns ≤ 2 ^ 40) }
     ensures served { (i : ℕ) (d : _) → i < length workers.old → Serves C.moments
         ⟦<L as TellingLink>⟧.tells
@@ -150,7 +151,7 @@ pub fn receive<
     requires unused { IsUnused
         (state_of receiver (T.list trace) (T.limit trace) (K.contents sink) (K.faults sink)) }
     requires some { 0 < length workers.old }
-    requires few { length workers.old ≤ 16 }
+    requires few { length workers.old ≤ MAX_LINKS }
     requires turns { (0 < limits.now.turns) × (limits.now.turns ≤ 2 ^ 40) }
     // Each worker's own list and link hold its turns' steps and what these made.
     ensures served { (i : ℕ) (d : _) → i < length workers.old → Serves C.moments

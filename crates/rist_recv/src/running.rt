@@ -1,5 +1,6 @@
 //! A run over links, clocks and a sink.
 ghost use Rattle.std.specs.Prelude.{◌≡◌, ◌<◌, ◌≤◌, ◌^◌, length};
+ghost use Rattle.link_channels.specs.declared.bounds.TheConstants.{MAX_LINKS};
 ghost use Rattle.outside_io.specs.Told.{IsEmpty};
 ghost use Rattle.rist_recv.specs.Run.{Receives};
 ghost use Rattle.rist_recv.specs.Setup.{IsMade, setup_of};
@@ -41,7 +42,7 @@ pub fn receive_on<
     limits: &ServingLimits,
 ) -> Run<K>
     requires some { 0 < length links.old.items }
-    requires few { length links.old.items ≤ 16 }
+    requires few { length links.old.items ≤ MAX_LINKS }
     requires clocks { length clocks.old.items ≡ length links.old.items }
     requires turns { (0 < limits.now.turns) × (limits.now.turns ≤ 2 ^ 40) }
     requires made { IsMade T.list T.limit (length links.old.items) made }

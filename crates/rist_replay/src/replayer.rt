@@ -7,11 +7,11 @@ ghost use Rattle.rist_replay.specs.Inside.Visiting.{answer_of};
 
 use capture_file::Head;
 use capture_walk::{VisitBad, Visitor};
+use link_channels::MAX_PAYLOAD;
 use outside_io::{Failed, NoMemory, Sink};
 use rist_ends::{Answer, Outs, Receiver, Settings, Told, What, what_of};
 use rist_wire::{Opener, Session};
 use std::alloc::Global;
-use ts_nulls::BLOCK_LEN;
 
 /// Opens a session's datagrams, and steps their items on a receiver.
 #[derive(Drop)]
@@ -23,7 +23,7 @@ pub struct Replayer {
     /// Where it puts the datagrams that it makes. A muted one makes none.
     pub outs: Outs,
     /// Where a payload is put whose null packets were deleted.
-    pub block: [u8; BLOCK_LEN],
+    pub block: [u8; MAX_PAYLOAD],
 }
 
 impl Replayer {
@@ -43,7 +43,7 @@ impl Replayer {
             opener,
             receiver,
             outs: Outs::none(),
-            block: [0; BLOCK_LEN],
+            block: [0; MAX_PAYLOAD],
         })
     }
 }

@@ -1,5 +1,6 @@
 -- What a receiver keeps of its links, against the history that it stands for.
 use Rattle.std.specs.Prelude.{◌≡◌, ℕ, zero, suc, ◌<◌, List, length, slice_get, slice_index_or, Option, None}
+use Rattle.link_channels.specs.declared.bounds.TheConstants.{MAX_LINKS}
 use Rattle.request_rules.specs.Steps.{Step, rtt_of, longer}
 use Rattle.link_channels.specs.Intervals.{report_interval}
 use Rattle.link_channels.specs.Intervals.{keepalive_interval}
@@ -29,9 +30,9 @@ pub record HasEntries (l : LinksState) : Type 0 where
 -- they are those of the history
 pub record AreLinksAfter (l : LinksState) (history : List Step) : Type 0 where
   pub sixteen : HasEntries l
-  pub rtts : (link : ℕ) → link < 16 → entry_at l.rtts link ≡ rtt_of link history
-  pub reports : (link : ℕ) → link < 16 → entry_at l.reports link ≡ newest (times_each report_interval link history)
-  pub keepalives : (link : ℕ) → link < 16
+  pub rtts : (link : ℕ) → link < MAX_LINKS → entry_at l.rtts link ≡ rtt_of link history
+  pub reports : (link : ℕ) → link < MAX_LINKS → entry_at l.reports link ≡ newest (times_each report_interval link history)
+  pub keepalives : (link : ℕ) → link < MAX_LINKS
       → entry_at l.keepalives link ≡ newest (times_each keepalive_interval link history)
 
 -- the greatest round-trip time of so many links from 0 on

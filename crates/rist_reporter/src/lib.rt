@@ -13,7 +13,6 @@ mod requests;
 mod ticking;
 
 pub use answer::{ANSWER_LEN, answer_compound};
-pub use links::LINKS;
 pub use out::{Out, Outs};
 pub use report::{REPORT_LEN, Report, tick_compound};
 pub use reporter::Reporter;

@@ -8,19 +8,16 @@ ghost use Rattle.link_channels.specs.Intervals.{keepalive_interval};
 ghost use Rattle.rist_reporter.specs.Links.{entry_at, longest_of};
 ghost use Rattle.rist_reporter.specs.Inside.Noted.{noted, sampled};
 
-use link_channels::{KEEPALIVE_INTERVAL, REPORT_INTERVAL, has_passed_since};
+use link_channels::{KEEPALIVE_INTERVAL, MAX_LINKS, REPORT_INTERVAL, has_passed_since};
 use rist_rtt::{Echo, Rtt};
 use std::marker::Model;
-
-/// How many links there are at most.
-pub const LINKS: usize = 16;
 
 /// The entries of sixteen links: the smoothed round-trip time of each, and the times of its last report and keepalive.
 #[derive(Drop)]
 pub struct Links {
-    rtts: [Rtt; 16],
-    reports: [Option<u64>; 16],
-    keepalives: [Option<u64>; 16],
+    rtts: [Rtt; MAX_LINKS],
+    reports: [Option<u64>; MAX_LINKS],
+    keepalives: [Option<u64>; MAX_LINKS],
 }
 
 impl Model for Links {
@@ -32,8 +29,8 @@ impl Model for Links {
 }
 
 /// Notes a tick of a link where the interval has passed.
-fn note(entries: &mut [Option<u64>; 16], interval: u64, at: u64, link: u8)
-    requires link { link < 16 }
+fn note(entries: &mut [Option<u64>; MAX_LINKS], interval: u64, at: u64, link: u8)
+    requires link { link < MAX_LINKS }
     requires time { at < 2 ^ 61 }
     ensures value { entries.new ≡ noted interval at link entries.old }
 {
@@ -60,9 +57,9 @@ impl Links {
         ensures state { AreLinksAfter result [] }
     {
         Links {
-            rtts: [Rtt::new(); 16],
-            reports: [None; 16],
-            keepalives: [None; 16],
+            rtts: [Rtt::new(); MAX_LINKS],
+            reports: [None; MAX_LINKS],
+            keepalives: [None; MAX_LINKS],
         }
     }
 
@@ -71,7 +68,7 @@ impl Links {
         ensures value { result ≡ longest_of 16 self.now.rtts }
     {
         let mut longest = 0;
-        for link in 0..LINKS {
+        for link in 0..MAX_LINKS {
             longest = longer(&self.rtts[link], longest);
         }
         longest
@@ -79,7 +76,7 @@ impl Links {
 
     /// Whether a tick of a link at a time makes a report.
     pub(crate) fn is_report_due(&self, link: u8, at: u64) -> bool
-        requires link { link < 16 }
+        requires link { link < MAX_LINKS }
         requires time { at < 2 ^ 61 }
         ensures value { result ≡ passed_since report_interval at (entry_at self.now.reports link) }
     {
@@ -88,7 +85,7 @@ impl Links {
 
     /// Whether it makes a keepalive.
     pub(crate) fn is_keepalive_due(&self, link: u8, at: u64) -> bool
-        requires link { link < 16 }
+        requires link { link < MAX_LINKS }
         requires time { at < 2 ^ 61 }
         ensures value { result ≡ passed_since keepalive_interval at (entry_at self.now.keepalives link) }
     {
@@ -97,7 +94,7 @@ impl Links {
 
     /// A tick of a link at a time.
     pub(crate) fn tick(&mut self, link: u8, at: u64)
-        requires link { link < 16 }
+        requires link { link < MAX_LINKS }
         requires time { at < 2 ^ 61 }
         ensures value { self.new ≡ record self.old {
           reports = noted report_interval at link self.old.reports;
@@ -110,7 +107,7 @@ impl Links {
 
     /// A link's response to an RTT request, which came at a moment in microseconds.
     pub(crate) fn sample(&mut self, link: u8, us: u64, response: &Echo<'_>)
-        requires link { link < 16 }
+        requires link { link < MAX_LINKS }
         ensures value { self.new ≡ record self.old {
           rtts = sampled link us (echo_seen response.now) self.old.rtts;
         } }

@@ -6,7 +6,7 @@ ghost use Rattle.rtcp_compound.specs.Compound.{Content};
 ghost use Rattle.rist_wire.specs.Writing.{is_spent, after_pair};
 ghost use Rattle.rist_reporter.specs.Control.{Alive, Compound};
 
-use link_channels::Channel;
+use link_channels::{Channel, MAX_DATAGRAM};
 use request_rules::Asked;
 use rist_wire::Shutter;
 use rtcp_compound::CompoundOut;
@@ -17,10 +17,11 @@ use std::marker::Model;
 pub struct Out {
     channel: Channel,
     length: usize,
-    places: [u8; 2048],
+    places: [u8; MAX_DATAGRAM],
 }
 
 impl Model for Out {
+    ghost use Rattle.link_channels.specs.declared.bounds.TheConstants.{MAX_DATAGRAM};
     ghost use Rattle.std.specs.Prelude.{◌≤◌, take};
     ghost use Rattle.rist_reporter.specs.Made.{OutOf};
 
@@ -28,7 +29,7 @@ impl Model for Out {
 
     ghost view = { λ o. record { channel = o.channel; octets = take o.length o.places } };
 
-    ghost invariant = { λ o. o.length ≤ 2048 };
+    ghost invariant = { λ o. o.length ≤ MAX_DATAGRAM };
 }
 
 /// What one step made: one datagram or two, in their order, and the words of the requests in them.
@@ -55,7 +56,7 @@ impl Out {
     /// Its octets.
     pub fn octets(&self) -> &[u8]
         ensures value { result.now ≡ self.now.octets }
-        ensures within { length result.now ≤ 2048 }
+        ensures within { length result.now ≤ MAX_DATAGRAM }
     {
         &self.places[..self.length]
     }
@@ -67,7 +68,7 @@ impl Out {
         Out {
             channel: Channel::Control,
             length: 0,
-            places: [0; 2048],
+            places: [0; MAX_DATAGRAM],
         }
     }
 
@@ -79,7 +80,7 @@ impl Out {
         ensures item { IsOpened shutter.old.session result (Compound compound.now.packets) }
         ensures shutter { shutter.new ≡ record shutter.old { sealer = after_pair shutter.old.sealer } }
     {
-        let mut places = [0; 2048];
+        let mut places = [0; MAX_DATAGRAM];
         let Ok((channel, length)) = shutter.control(compound.octets(), &mut places) else {
             unreachable!()
         };
@@ -98,7 +99,7 @@ impl Out {
         ensures item { IsOpened shutter.old.session result (Alive ssrc) }
         ensures shutter { shutter.new ≡ record shutter.old { sealer = after_pair shutter.old.sealer } }
     {
-        let mut places = [0; 2048];
+        let mut places = [0; MAX_DATAGRAM];
         let Ok((channel, length)) = shutter.keepalive(ssrc, &mut places) else {
             unreachable!()
         };

@@ -1,4 +1,5 @@
 ghost use Rattle.std.specs.Prelude.{◌≡◌, if◌then◌else◌};
+ghost use Rattle.link_channels.specs.declared.bounds.TheConstants.{MAX_LINKS};
 
 use crate::links::Links;
 use crate::out::Outs;
@@ -161,7 +162,7 @@ impl Reporter {
         micros: u64,
         buffer: &Buffer,
     ) -> Result<Option<Outs>, Spent>
-        requires link { link < 16 }
+        requires link { link < MAX_LINKS }
         requires time { at < 2 ^ 61 }
         requires clock { buffer.now.time ≡ at }
         requires running { buffer.now.phase ≡ Open }
@@ -194,7 +195,7 @@ impl Reporter {
         us: u64,
         compound: &Compound<'_>,
     ) -> Result<Option<Outs>, Spent>
-        requires link { link < 16 }
+        requires link { link < MAX_LINKS }
         ensures answer { AnswersControl self.old link us compound.now result }
         ensures state { StandsAfterControl self.old self.new link us compound.now result }
         ensures pairs { TakesPairs (answer_count result) self.old.shutter self.new.shutter }
@@ -215,7 +216,7 @@ impl Reporter {
 
     /// What is due at a tick of a link, beside the words by which it asks.
     fn due_at(&self, at: u64, link: u8, micros: u64, flow: Option<u32>) -> Due
-        requires link { link < 16 }
+        requires link { link < MAX_LINKS }
         requires time { at < 2 ^ 61 }
         ensures value { result ≡ due_of self.now at link micros flow }
     {
@@ -264,7 +265,7 @@ impl Reporter {
 
     /// Takes the sample of a compound's first response, if it has one.
     fn take_sample(&mut self, link: u8, us: u64, compound: &Compound<'_>)
-        requires link { link < 16 }
+        requires link { link < MAX_LINKS }
         ensures value { self.new ≡ record self.old {
           links = links_sampled link us (first_response (echoes_in compound.now)) self.old.links;
         } }

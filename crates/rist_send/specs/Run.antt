@@ -1,5 +1,6 @@
 -- What a run has come to.
 use Rattle.std.specs.Prelude.{ℕ, ◌+◌, ◌*◌, nat_le, List, replicate, Bool, true, false, Option, None, Some, Result, Ok}
+use Rattle.link_channels.specs.declared.bounds.TheConstants.{MAX_LINKS}
 use Rattle.std.specs.Prelude.{Err}
 use Rattle.outside_net.specs.Links.{Answer}
 use Rattle.block_source.specs.declared.fault.PieceFault.{PieceFault}
@@ -39,7 +40,7 @@ pub record Run : Type 0 where
 
 -- no turn was made
 abbrev pub no_progress : Progress
-no_progress = record { start = None; moment = 0; stage = Reading 0; closed = replicate 16 false }
+no_progress = record { start = None; moment = 0; stage = Reading 0; closed = replicate MAX_LINKS false }
 
 -- the start: the first turn's moment
 abbrev pub start_with : ℕ → Option ℕ → ℕ

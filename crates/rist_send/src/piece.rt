@@ -2,7 +2,7 @@
 ghost use Rattle.std.specs.Prelude.{◌≡◌, ◌≤◌, ◌+◌, ◌*◌, ◌^◌, ℕ, [], Err, length, map};
 ghost use Rattle.outside_io.specs.Causes.{HasReadCause, fault_by};
 ghost use Rattle.sender_rules.specs.Bonding.{link_count};
-ghost use Rattle.sender_rules.specs.declared.bounds.TheConstants.{MAX_LINKS};
+ghost use Rattle.link_channels.specs.declared.bounds.TheConstants.{MAX_LINKS};
 ghost use Rattle.rist_sender.specs.Sender.{StaysSet};
 ghost use Rattle.rist_send.specs.Run.{Run, setup_of};
 ghost use Rattle.rist_send.specs.Turns.{BringsPiece, BringsNext, stage_after};

@@ -1,5 +1,6 @@
 //! How far a run has come.
 use crate::settings::SendSettings;
+use link_channels::MAX_LINKS;
 
 /// What a source is at.
 #[derive(Clone, Copy, Debug, PartialEq, Eq)]
@@ -20,7 +21,7 @@ pub(crate) struct Progress {
     /// What its source is at.
     pub stage: Stage,
     /// Of each link, whether a read of it came to an end or failed.
-    pub closed: [bool; 16],
+    pub closed: [bool; MAX_LINKS],
 }
 
 impl Progress {
@@ -36,7 +37,7 @@ impl Progress {
             start: None,
             moment: 0,
             stage: Stage::Reading(0),
-            closed: [false; 16],
+            closed: [false; MAX_LINKS],
         }
     }
 
@@ -99,7 +100,7 @@ impl Progress {
 
     /// Whether a read of a link came to an end or failed.
     pub fn is_closed(&self, link: u8) -> bool
-        requires few { link < 16 }
+        requires few { link < MAX_LINKS }
         ensures value { result ≡ slice_index_or self.now.closed link false }
     {
         self.closed[usize::from(link)]
@@ -107,7 +108,7 @@ impl Progress {
 
     /// A read of a link came to an end or failed.
     pub fn close(&mut self, link: u8)
-        requires few { link < 16 }
+        requires few { link < MAX_LINKS }
         ensures state { self.new ≡ record self.old { closed = set self.old.closed link true } }
     {
         self.closed[usize::from(link)] = true;

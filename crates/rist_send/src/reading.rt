@@ -4,7 +4,7 @@ ghost use Rattle.std.specs.List.{range_with_len};
 ghost use Rattle.outside_io.specs.Causes.{NoFault, fault_by};
 ghost use Rattle.outside_net.specs.Links.{Datagram, Gave, IsWithin, answer_of};
 ghost use Rattle.sender_rules.specs.Bonding.{link_count};
-ghost use Rattle.sender_rules.specs.declared.bounds.TheConstants.{MAX_LINKS};
+ghost use Rattle.link_channels.specs.declared.bounds.TheConstants.{MAX_LINKS};
 ghost use Rattle.rist_sender.specs.Sender.{IsSenderAfter, StaysSet};
 ghost use Rattle.rist_send.specs.Run.{Run};
 ghost use Rattle.rist_sender.specs.Incoming.{compound_in};
@@ -15,8 +15,8 @@ ghost use Rattle.rist_send.specs.Inside.Moves.{MovesBy};
 use crate::SendFault;
 use crate::fault::refusal;
 use crate::progress::Progress;
-use link_channels::Channel;
-use outside_net::{Got, Link, MAX_DATAGRAM, TellingLink};
+use link_channels::{Channel, MAX_DATAGRAM};
+use outside_net::{Got, Link, TellingLink};
 use rist_sender::{Sender, read_at};
 use rist_wire::{Item, Opener};
 use rtcp_compound::Compound;
@@ -76,7 +76,7 @@ fn answer<L: Link>(
 
 // Whether a link is read: it is up, and no read of it came to an end or failed.
 fn is_read(sender: &Sender, link: u8, progress: &Progress) -> bool
-    requires few { link < 16 }
+    requires few { link < MAX_LINKS }
     ensures value { (run : Run) → IsSenderAfter sender.now run.work → run.progress ≡ progress.now
         → result ≡ is_read link run }
 {

@@ -1,5 +1,6 @@
 -- What a contract sees of a sender.
 use Rattle.std.specs.Prelude.{◌≡◌, ◌<◌, ℕ, ◌%◌, ◌^◌, List, ◌++◌, slice_index_or, length, Option, None, Bool, true}
+use Rattle.link_channels.specs.declared.bounds.TheConstants.{MAX_LINKS}
 use Rattle.std.specs.Prelude.{false}
 use Rattle.link_channels.specs.declared.profile.Profile.{Profile}
 use Rattle.link_channels.specs.declared.profile.Profile.TheVariants as profiles
@@ -56,9 +57,9 @@ pub record IsSenderAfter (s : SenderState) (work : Work) : Type 0 where
   pub time : s.time ≡ effective_time work.history
   pub count : s.count ≡ packet_count work.history
   pub octets : s.octets ≡ octet_count work.history % 2 ^ 32
-  pub down : (link : ℕ) → link < 16 → slice_index_or s.down link false ≡ is_down work.history link
-  pub reports : (link : ℕ) → link < 16 → slice_index_or s.reports link None ≡ last_time is_report work.history link
-  pub keepalives : (link : ℕ) → link < 16 → slice_index_or s.keepalives link None ≡ last_time is_alive work.history link
+  pub down : (link : ℕ) → link < MAX_LINKS → slice_index_or s.down link false ≡ is_down work.history link
+  pub reports : (link : ℕ) → link < MAX_LINKS → slice_index_or s.reports link None ≡ last_time is_report work.history link
+  pub keepalives : (link : ℕ) → link < MAX_LINKS → slice_index_or s.keepalives link None ≡ last_time is_alive work.history link
 
 -- what it is set to, and its session, stay
 pub record StaysSet (old new : SenderState) : Type 0 where

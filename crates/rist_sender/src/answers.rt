@@ -6,6 +6,7 @@ use crate::answer::{Answer, is_failed};
 use crate::control::answer_of;
 use crate::numbers::{Number, Numbers};
 use crate::sender::Sender;
+use link_channels::MAX_DATAGRAM;
 use outside_net::{Link, TellingLink};
 use psk_seal::Spent;
 use rist_rtt::{Echo, first_request};
@@ -15,7 +16,7 @@ use sender_rules::{MAX_SENT_AGAIN, SendBad};
 impl Sender {
     ghost use Rattle.std.specs.Prelude.{◌≡◌, ◌≤◌, ◌<◌, length, map, slice_index_or, is_err, List, ◌∷◌, IsSome, IfSome};
     ghost use Rattle.std.specs.Prelude.{Some, false};
-    ghost use Rattle.sender_rules.specs.declared.bounds.TheConstants.{MAX_LINKS};
+    ghost use Rattle.link_channels.specs.declared.bounds.TheConstants.{MAX_LINKS};
     ghost use Rattle.rist_sender.specs.Sender.{IsSenderAfter, StaysSet, Does, rules_of};
     ghost use Rattle.rist_sender.specs.Calls.{Work, status_at, on_link, rtt_answer, packets_again, FeedsBack};
     ghost use Rattle.rist_sender.specs.History.{effective_time};
@@ -62,7 +63,7 @@ impl Sender {
         links: &mut [L],
     ) -> Result<(), Spent>
         requires among { link < length links.old }
-        requires few { length links.old ≤ 16 }
+        requires few { length links.old ≤ MAX_LINKS }
         requires up { slice_index_or self.old.down link false ≡ false }
         ensures set { StaysSet self.old self.new }
         ensures does { (from : Work) → IsSenderAfter self.old from → from.is_short ≡ false → Does
@@ -71,7 +72,7 @@ impl Sender {
             (RttAnswer (status_at us from.history) (echo_seen echo.now)) (is_err result) from) }
     {
         let compound = answer_of(self.flow, us, self.count, self.octets, echo);
-        let mut out = [0; 2048];
+        let mut out = [0; MAX_DATAGRAM];
         let (channel, length) = match self.seal_control(compound.octets(), &mut out) {
             Ok(made) => made,
             Err(spent) => return Err(spent),
@@ -88,7 +89,7 @@ impl Sender {
         links: &mut [L],
     ) -> Result<Answer, Spent>
         requires among { link < length links.old }
-        requires few { length links.old ≤ 16 }
+        requires few { length links.old ≤ MAX_LINKS }
         requires up { slice_index_or self.old.down link false ≡ false }
         requires stored { IsSome (packet_with (packets_in self.old.store) number) }
         ensures set { StaysSet self.old self.new }
@@ -97,7 +98,7 @@ impl Sender {
             ⟦<L as TellingLink>⟧.tells
             self.old self.new links.old links.new from (PutsAgain self.old.time link packet result from) }
     {
-        let mut out = [0; 2048];
+        let mut out = [0; MAX_DATAGRAM];
         let (channel, length) = match self.seal_again(number, &mut out) {
             Ok(made) => made,
             Err(spent) => return Err(spent),
@@ -116,7 +117,7 @@ impl Sender {
         links: &mut [L],
     ) -> Result<(), Spent>
         requires among { link < length links.old }
-        requires few { length links.old ≤ 16 }
+        requires few { length links.old ≤ MAX_LINKS }
         ensures set { StaysSet self.old self.new }
         ensures does { (from : Work) → IsSenderAfter self.old from → from.is_short ≡ false → Does
             ⟦<L as TellingLink>⟧.tells
@@ -141,7 +142,7 @@ impl Sender {
         links: &mut [L],
     ) -> Result<Option<Answer>, Spent>
         requires among { link < length links.old }
-        requires few { length links.old ≤ 16 }
+        requires few { length links.old ≤ MAX_LINKS }
         requires up { slice_index_or self.old.down link false ≡ false }
         ensures set { StaysSet self.old self.new }
         ensures does { (from : Work) → IsSenderAfter self.old from → from.is_short ≡ false → Does
@@ -166,7 +167,7 @@ impl Sender {
         links: &mut [L],
     ) -> Result<u32, Spent>
         requires among { link < length links.old }
-        requires few { length links.old ≤ 16 }
+        requires few { length links.old ≤ MAX_LINKS }
         ensures set { StaysSet self.old self.new }
         ensures does { (from : Work) → IsSenderAfter self.old from → from.is_short ≡ false → Does
             ⟦<L as TellingLink>⟧.tells
@@ -202,7 +203,7 @@ impl Sender {
         links: &mut [L],
     ) -> Result<u32, Spent>
         requires among { link < length links.old }
-        requires few { length links.old ≤ 16 }
+        requires few { length links.old ≤ MAX_LINKS }
         ensures set { StaysSet self.old self.new }
         ensures does { (from : Work) → IsSenderAfter self.old from → from.is_short ≡ false → Does
             ⟦<L as TellingLink>⟧.tells

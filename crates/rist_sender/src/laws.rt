@@ -1,6 +1,7 @@
 //! What the definitions of a sender's datagrams mean at the other end, and what its history means where flows follow
 //! one another.
 ghost use Rattle.std.specs.Prelude.{◌≡◌, ◌%◌, ◌^◌, ◌<◌, ◌≤◌, ℕ, Bool, true, false, List, [], ◌∷◌, ◌++◌, All};
+ghost use Rattle.link_channels.specs.declared.bounds.TheConstants.{MAX_PAYLOAD};
 ghost use Rattle.std.specs.Prelude.{Option, Ok, is_some};
 ghost use Rattle.std.specs.Prelude.{length, if◌then◌else◌};
 ghost use Rattle.ts_nulls.specs.Nulls.{blanking_of};
@@ -26,7 +27,7 @@ ghost use Rattle.rist_sender.specs.Calls.{Rules, packet_for, packets_again, stat
 pub fn each_payload_is_taken()
     ensures original { (session : Session) (pair : Option Pair) (flow number tick : ℕ) (payload : List ℕ)
         → IsSession session → (session.profile ≡ Main → IsPair pair) → is_some pair ≡ is_some session.pass
-        → flow % 2 ≡ 0 → flow < 2 ^ 32 → length payload ≤ 1500
+        → flow % 2 ≡ 0 → flow < 2 ^ 32 → length payload ≤ MAX_PAYLOAD
         → (session.full ≡ true → All (λ octet. octet < 256) payload)
         → item_of session (message_channel session (Original (packet_for session.nulls number tick payload)))
         (message_datagram flow session pair (Original (packet_for session.nulls number tick payload)))
@@ -34,7 +35,7 @@ pub fn each_payload_is_taken()
         (media_of flow false (packet_for session.nulls number tick payload)))) }
     ensures again { (session : Session) (pair : Option Pair) (flow number tick : ℕ) (payload : List ℕ)
         → IsSession session → (session.profile ≡ Main → IsPair pair) → is_some pair ≡ is_some session.pass
-        → flow % 2 ≡ 0 → flow < 2 ^ 32 → length payload ≤ 1500
+        → flow % 2 ≡ 0 → flow < 2 ^ 32 → length payload ≤ MAX_PAYLOAD
         → (session.full ≡ true → All (λ octet. octet < 256) payload)
         → item_of session (message_channel session (Retransmission (packet_for session.nulls number tick payload)))
         (message_datagram flow session pair (Retransmission (packet_for session.nulls number tick payload)))

@@ -8,7 +8,7 @@ ghost use Rattle.rist_sender.specs.Messages.{media_of};
 ghost use Rattle.rist_sender.specs.Calls.{packet_for};
 ghost use Rattle.rist_sender.specs.Inside.Kept.{IsSendable};
 
-use link_channels::Channel;
+use link_channels::{Channel, MAX_DATAGRAM, MAX_PAYLOAD};
 use psk_seal::Spent;
 use retransmit_store::Sent;
 use rist_wire::Shutter;
@@ -16,13 +16,13 @@ use ts_nulls::strip;
 
 /// The packet that a payload is sent as at an effective time.
 pub(crate) fn sent_as(nulls: bool, number: u64, time: u64, payload: &[u8]) -> Sent
-    requires payload { length payload.now ≤ 1500 }
+    requires payload { length payload.now ≤ MAX_PAYLOAD }
     ensures value { result ≡ packet_for nulls number time payload.now }
     ensures sendable { IsSendable nulls result }
 {
     let stamp = (time % (1 << 32)) as u32;
     if nulls {
-        let mut kept = [0; 1500];
+        let mut kept = [0; MAX_PAYLOAD];
         if let Some((told, len)) = strip(payload, &mut kept) {
             return Sent::with(number, stamp, Some(told), &kept[..len]);
         }
@@ -36,7 +36,7 @@ pub(crate) fn seal_packet(
     flow: u32,
     again: bool,
     sent: &Sent,
-    out: &mut [u8; 2048],
+    out: &mut [u8; MAX_DATAGRAM],
 ) -> Result<(Channel, usize), Spent>
     requires paired { is_some shutter.old.sealer ≡ is_some shutter.old.session.pass }
     requires flow { flow % 2 ≡ 0 }
@@ -44,7 +44,7 @@ pub(crate) fn seal_packet(
     ensures datagram { IfOk result (λ made. IsDatagram shutter.old.session (next_pair shutter.old.sealer)
         kinds.Media (media_octets shutter.old.session.width (media_of flow again sent.now))
         made.0 (take made.1 out.new)) }
-    ensures within { IfOk result (λ made. made.1 ≤ 2048) }
+    ensures within { IfOk result (λ made. made.1 ≤ MAX_DATAGRAM) }
     ensures state { OnOk result (shutter.new ≡ record shutter.old { sealer = after_pair shutter.old.sealer }) }
     ensures spent { is_err result ≡ is_spent shutter.old.sealer }
     ensures same { OnErr result (shutter.new ≡ shutter.old) }

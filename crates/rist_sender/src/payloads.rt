@@ -1,10 +1,12 @@
 //! A payload: it is made into one datagram, stored, and written on its links.
 
+ghost use Rattle.link_channels.specs.declared.bounds.TheConstants.{MAX_PAYLOAD};
+
 use crate::answer::is_failed;
 use crate::media::sent_as;
 use crate::sender::Sender;
 use bond_links::Plan;
-use link_channels::Channel;
+use link_channels::{Channel, MAX_DATAGRAM};
 use outside_net::{Link, TellingLink};
 use psk_seal::Spent;
 use retransmit_store::Sent;
@@ -15,7 +17,7 @@ const NUMBERS: u64 = 1 << 62;
 
 impl Sender {
     ghost use Rattle.std.specs.Prelude.{◌≡◌, ◌≤◌, ◌<◌, ◌+◌, ◌-◌, ◌%◌, ◌^◌, Option, length, is_err, List, ◌∷◌, false};
-    ghost use Rattle.sender_rules.specs.declared.bounds.TheConstants.{MAX_LINKS};
+    ghost use Rattle.link_channels.specs.declared.bounds.TheConstants.{MAX_LINKS};
     ghost use Rattle.rist_sender.specs.Sender.{IsSenderAfter, StaysSet, Does, rules_of};
     ghost use Rattle.rist_sender.specs.Calls.{Work, is_sharing, links_tried, Sends};
     ghost use Rattle.std.specs.List.{range_with_len};
@@ -57,7 +59,7 @@ impl Sender {
         links: &mut [L],
     ) -> bool
         requires among { link < length links.old }
-        requires few { length links.old ≤ 16 }
+        requires few { length links.old ≤ MAX_LINKS }
         ensures set { StaysSet self.old self.new }
         ensures time { self.new.time ≡ self.old.time }
         ensures does { (from : Work) (packet : Packet) (pair : Option Pair) → IsSenderAfter self.old from
@@ -85,7 +87,7 @@ impl Sender {
     ) -> bool
         requires ordered { start ≤ end }
         requires among { end ≤ length links.old }
-        requires few { length links.old ≤ 16 }
+        requires few { length links.old ≤ MAX_LINKS }
         ensures set { StaysSet self.old self.new }
         ensures time { self.new.time ≡ self.old.time }
         ensures does { (from : Work) (packet : Packet) (pair : Option Pair) → IsSenderAfter self.old from
@@ -105,7 +107,7 @@ impl Sender {
     // Writes the datagram of payload k on its links.
     fn spread<L: Link>(&mut self, k: u64, channel: Channel, octets: &[u8], links: &mut [L])
         requires links { length links.old ≡ link_count self.old.bonding }
-        requires few { length links.old ≤ 16 }
+        requires few { length links.old ≤ MAX_LINKS }
         ensures set { StaysSet self.old self.new }
         ensures does { (from : Work) (packet : Packet) (pair : Option Pair) → IsSenderAfter self.old from
             → IsPacketIn self.old pair packet channel octets.now → Does
@@ -128,9 +130,9 @@ impl Sender {
 
     // Sends the next payload.
     fn send_next<L: Link>(&mut self, payload: &[u8], links: &mut [L]) -> Result<(), Spent>
-        requires payload { length payload.now ≤ 1500 }
+        requires payload { length payload.now ≤ MAX_PAYLOAD }
         requires links { length links.old ≡ link_count self.old.bonding }
-        requires few { length links.old ≤ 16 }
+        requires few { length links.old ≤ MAX_LINKS }
         ensures set { StaysSet self.old self.new }
         ensures does { (from : Work) → IsSenderAfter self.old from → from.is_short ≡ false → Does
             ⟦<L as TellingLink>⟧.tells
@@ -142,7 +144,7 @@ impl Sender {
             return Err(Spent);
         }
         let sent = sent_as(self.nulls, number, self.time, payload);
-        let mut out = [0; 2048];
+        let mut out = [0; MAX_DATAGRAM];
         let (channel, length) = match self.seal_first(&sent, &mut out) {
             Ok(made) => made,
             Err(spent) => return Err(spent),
@@ -158,7 +160,7 @@ impl Sender {
     /// sealer has no pair left or the number would be 2^62: then nothing is written or stored. Else `LinksDown` where
     /// every link is down: the payload counts as sent all the same.
     pub fn send<L: Link>(&mut self, us: u64, payload: &[u8], links: &mut [L]) -> Result<(), SendBad>
-        requires payload { length payload.now ≤ 1500 }
+        requires payload { length payload.now ≤ MAX_PAYLOAD }
         requires links { length links.old ≡ link_count self.old.bonding }
         requires few { length links.old ≤ MAX_LINKS }
         ensures work { (from : Work) → IsSenderAfter self.old from → Does

@@ -3,7 +3,8 @@ ghost use Rattle.std.specs.Prelude.{◌<◌, length};
 ghost use Rattle.outside_net.specs.Links.{IsWithin, answer_of};
 ghost use Rattle.rist_sender.specs.Served.{ReadsAt};
 
-use outside_net::{Got, Link, MAX_DATAGRAM, TellingLink};
+use link_channels::MAX_DATAGRAM;
+use outside_net::{Got, Link, TellingLink};
 
 /// Reads the link at a place, once, into a block. The others stay.
 pub fn read_at<L: Link>(links: &mut [L], link: u8, block: &mut [u8; MAX_DATAGRAM]) -> Got

@@ -1,10 +1,12 @@
 //! One datagram: it is made under the sealer's next pair, and written on a link.
 
+ghost use Rattle.link_channels.specs.declared.bounds.TheConstants.{MAX_LINKS};
+
 use crate::answer::Answer;
 use crate::media::seal_packet;
 use crate::on_link::write_on;
 use crate::sender::Sender;
-use link_channels::Channel;
+use link_channels::{Channel, MAX_DATAGRAM};
 use outside_net::Link;
 use psk_seal::Spent;
 use retransmit_store::Sent;
@@ -30,12 +32,12 @@ impl Sender {
     pub(crate) fn seal_control(
         &mut self,
         compound: &[u8],
-        out: &mut [u8; 2048],
+        out: &mut [u8; MAX_DATAGRAM],
     ) -> Result<(Channel, usize), Spent>
         requires compound { length compound.now ≤ 1400 }
         ensures datagram { IfOk result (λ sent. IsDatagram self.old.session (next_pair self.old.sealer)
             kinds.Control compound.now sent.0 (take sent.1 out.new)) }
-        ensures within { IfOk result (λ sent. sent.1 ≤ 2048) }
+        ensures within { IfOk result (λ sent. sent.1 ≤ MAX_DATAGRAM) }
         ensures state { OnOk result (self.new ≡ record self.old { sealer = after_pair self.old.sealer }) }
         ensures spent { is_err result ≡ is_spent self.old.sealer }
         ensures same { OnErr result (self.new ≡ self.old) }
@@ -44,11 +46,14 @@ impl Sender {
     }
 
     /// Makes the datagram of a keepalive.
-    pub(crate) fn seal_keepalive(&mut self, out: &mut [u8; 2048]) -> Result<(Channel, usize), Spent>
+    pub(crate) fn seal_keepalive(
+        &mut self,
+        out: &mut [u8; MAX_DATAGRAM],
+    ) -> Result<(Channel, usize), Spent>
         requires main { has_keepalives self.old.session.profile ≡ true }
         ensures datagram { IfOk result (λ sent. IsDatagram self.old.session (next_pair self.old.sealer)
             kinds.Keepalive (keepalive_spelling (keepalive_of self.old.flow)) sent.0 (take sent.1 out.new)) }
-        ensures within { IfOk result (λ sent. sent.1 ≤ 2048) }
+        ensures within { IfOk result (λ sent. sent.1 ≤ MAX_DATAGRAM) }
         ensures state { OnOk result (self.new ≡ record self.old { sealer = after_pair self.old.sealer }) }
         ensures spent { is_err result ≡ is_spent self.old.sealer }
         ensures same { OnErr result (self.new ≡ self.old) }
@@ -60,13 +65,13 @@ impl Sender {
     pub(crate) fn seal_first(
         &mut self,
         sent: &Sent,
-        out: &mut [u8; 2048],
+        out: &mut [u8; MAX_DATAGRAM],
     ) -> Result<(Channel, usize), Spent>
         requires sendable { IsSendable self.old.session.nulls sent.now }
         ensures datagram { IfOk result (λ made. IsDatagram self.old.session (next_pair self.old.sealer) kinds.Media
             (media_octets self.old.session.width (media_of self.old.flow false sent.now))
             made.0 (take made.1 out.new)) }
-        ensures within { IfOk result (λ made. made.1 ≤ 2048) }
+        ensures within { IfOk result (λ made. made.1 ≤ MAX_DATAGRAM) }
         ensures state { OnOk result (self.new ≡ record self.old { sealer = after_pair self.old.sealer }) }
         ensures spent { is_err result ≡ is_spent self.old.sealer }
         ensures same { OnErr result (self.new ≡ self.old) }
@@ -78,13 +83,13 @@ impl Sender {
     pub(crate) fn seal_again(
         &mut self,
         number: u64,
-        out: &mut [u8; 2048],
+        out: &mut [u8; MAX_DATAGRAM],
     ) -> Result<(Channel, usize), Spent>
         requires stored { IsSome (packet_with (packets_in self.old.store) number) }
         ensures datagram { (packet : Packet) → packet_with (packets_in self.old.store) number ≡ Some packet
             → IfOk result (λ made. IsDatagram self.old.session (next_pair self.old.sealer) kinds.Media
             (media_octets self.old.session.width (media_of self.old.flow true packet)) made.0 (take made.1 out.new)) }
-        ensures within { IfOk result (λ made. made.1 ≤ 2048) }
+        ensures within { IfOk result (λ made. made.1 ≤ MAX_DATAGRAM) }
         ensures state { OnOk result (self.new ≡ record self.old { sealer = after_pair self.old.sealer }) }
         ensures spent { is_err result ≡ is_spent self.old.sealer }
         ensures same { OnErr result (self.new ≡ self.old) }
@@ -104,7 +109,7 @@ impl Sender {
         octets: &[u8],
     ) -> Answer
         requires among { link < length links.old }
-        requires few { link < 16 }
+        requires few { link < MAX_LINKS }
         ensures writes { WritesOn (record {
           taken = L.taken;
           knows = L.knows;

@@ -1,7 +1,7 @@
 //! The sender: what it keeps, and what each of its calls begins and ends with.
 use crate::settings::Settings;
 use bond_links::Bond;
-use link_channels::Profile;
+use link_channels::{MAX_LINKS, Profile};
 use psk_seal::Sealer;
 use receiver_rules::tick_of;
 use retransmit_store::Store;
@@ -26,9 +26,9 @@ pub struct Sender {
     pub(crate) time: u64,
     pub(crate) count: u64,
     pub(crate) octets: u32,
-    pub(crate) down: [bool; 16],
-    pub(crate) reports: [Option<u64>; 16],
-    pub(crate) keepalives: [Option<u64>; 16],
+    pub(crate) down: [bool; MAX_LINKS],
+    pub(crate) reports: [Option<u64>; MAX_LINKS],
+    pub(crate) keepalives: [Option<u64>; MAX_LINKS],
 }
 
 impl Model for Sender {
@@ -58,7 +58,8 @@ impl Model for Sender {
 
 impl Sender {
     ghost use Rattle.std.specs.Prelude.{◌≡◌, ◌≤◌, ◌<◌, ◌*◌, ◌%◌, [], not, slice_index_or, is_some, false, IfOk};
-    ghost use Rattle.sender_rules.specs.declared.bounds.TheConstants.{MAX_STORED, MAX_LINKS};
+    ghost use Rattle.sender_rules.specs.declared.bounds.TheConstants.{MAX_STORED};
+    ghost use Rattle.link_channels.specs.declared.bounds.TheConstants.{MAX_LINKS};
     ghost use Rattle.rist_wire.specs.Session.{IsSession};
     ghost use Rattle.rist_sender.specs.Sender.{IsSenderAfter, rules_of};
     ghost use Rattle.rist_sender.specs.Calls.{Work, called_at, renewed_as, IsAnswer};
@@ -95,9 +96,9 @@ impl Sender {
             time: 0,
             count: 0,
             octets: 0,
-            down: [false; 16],
-            reports: [None; 16],
-            keepalives: [None; 16],
+            down: [false; MAX_LINKS],
+            reports: [None; MAX_LINKS],
+            keepalives: [None; MAX_LINKS],
         })
     }
 
@@ -143,7 +144,7 @@ impl Sender {
 
     /// Whether a link is down.
     pub(crate) fn is_down(&self, link: u8) -> bool
-        requires few { link < 16 }
+        requires few { link < MAX_LINKS }
         ensures value { result ≡ slice_index_or self.now.down link false }
     {
         self.down[usize::from(link)]
@@ -151,7 +152,7 @@ impl Sender {
 
     /// Refuses where every link is down.
     pub(crate) fn check_up(&self, links: usize) -> Result<(), SendBad>
-        requires few { links ≤ 16 }
+        requires few { links ≤ MAX_LINKS }
         ensures answer { (to : Work) → IsSenderAfter self.now to → to.is_short ≡ false
             → IsAnswer links (λ done. Unit {0}) result to }
     {

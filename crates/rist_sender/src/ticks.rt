@@ -3,14 +3,14 @@ ghost use Rattle.std.specs.Prelude.{◌≡◌, ◌≤◌, ◌<◌, ◌^◌};
 
 use crate::control::told_of;
 use crate::sender::Sender;
-use link_channels::{KEEPALIVE_INTERVAL, REPORT_INTERVAL, has_passed_since};
+use link_channels::{KEEPALIVE_INTERVAL, MAX_DATAGRAM, REPORT_INTERVAL, has_passed_since};
 use outside_net::{Link, TellingLink};
 use psk_seal::Spent;
 use sender_rules::SendBad;
 
 impl Sender {
     ghost use Rattle.std.specs.Prelude.{◌≡◌, ◌≤◌, ◌<◌, length, set, slice_index_or, is_err, Some, true, false};
-    ghost use Rattle.sender_rules.specs.declared.bounds.TheConstants.{MAX_LINKS};
+    ghost use Rattle.link_channels.specs.declared.bounds.TheConstants.{MAX_LINKS};
     ghost use Rattle.rist_sender.specs.Sender.{IsSenderAfter, StaysSet, Does, rules_of, has_keepalives};
     ghost use Rattle.rist_sender.specs.Calls.{Work, status_at, on_link, report_due, keepalive_due, Ticks};
     ghost use Rattle.rist_sender.specs.History.{effective_time};
@@ -21,7 +21,7 @@ impl Sender {
 
     // Notes that a link had a report now.
     fn note_report(&mut self, link: u8)
-        requires few { link < 16 }
+        requires few { link < MAX_LINKS }
         ensures state { self.new ≡ record self.old { reports = set self.old.reports link (Some self.old.time) } }
     {
         self.reports[usize::from(link)] = Some(self.time);
@@ -29,7 +29,7 @@ impl Sender {
 
     // Notes that a link had a keepalive now.
     fn note_keepalive(&mut self, link: u8)
-        requires few { link < 16 }
+        requires few { link < MAX_LINKS }
         ensures state { self.new ≡ record self.old { keepalives = set self.old.keepalives link (Some self.old.time) } }
     {
         self.keepalives[usize::from(link)] = Some(self.time);
@@ -38,7 +38,7 @@ impl Sender {
     // Writes the report of a link that is up, which asks for the round-trip time where the session's reports do.
     fn put_report<L: Link>(&mut self, us: u64, link: u8, links: &mut [L]) -> Result<(), Spent>
         requires among { link < length links.old }
-        requires few { length links.old ≤ 16 }
+        requires few { length links.old ≤ MAX_LINKS }
         requires up { slice_index_or self.old.down link false ≡ false }
         ensures set { StaysSet self.old self.new }
         ensures does { (from : Work) → IsSenderAfter self.old from → from.is_short ≡ false → Does
@@ -48,7 +48,7 @@ impl Sender {
     {
         let asks = self.shutter.echo();
         let compound = told_of(asks, self.flow, us, self.count, self.octets);
-        let mut out = [0; 2048];
+        let mut out = [0; MAX_DATAGRAM];
         let (channel, length) = match self.seal_control(compound.octets(), &mut out) {
             Ok(made) => made,
             Err(spent) => return Err(spent),
@@ -61,7 +61,7 @@ impl Sender {
     // Writes the keepalive of a link that is up.
     fn put_keepalive<L: Link>(&mut self, link: u8, links: &mut [L]) -> Result<(), Spent>
         requires among { link < length links.old }
-        requires few { length links.old ≤ 16 }
+        requires few { length links.old ≤ MAX_LINKS }
         requires up { slice_index_or self.old.down link false ≡ false }
         requires main { has_keepalives self.old.session.profile ≡ true }
         ensures set { StaysSet self.old self.new }
@@ -69,7 +69,7 @@ impl Sender {
             ⟦<L as TellingLink>⟧.tells
             self.old self.new links.old links.new from (PutsOn self.old.time link Alive (is_err result) from) }
     {
-        let mut out = [0; 2048];
+        let mut out = [0; MAX_DATAGRAM];
         let (channel, length) = match self.seal_keepalive(&mut out) {
             Ok(made) => made,
             Err(spent) => return Err(spent),
@@ -82,7 +82,7 @@ impl Sender {
     // Writes the report of a link, where it is due.
     fn tick_report<L: Link>(&mut self, us: u64, link: u8, links: &mut [L]) -> Result<(), Spent>
         requires among { link < length links.old }
-        requires few { length links.old ≤ 16 }
+        requires few { length links.old ≤ MAX_LINKS }
         ensures set { StaysSet self.old self.new }
         ensures does { (from : Work) → IsSenderAfter self.old from → from.is_short ≡ false → Does
             ⟦<L as TellingLink>⟧.tells
@@ -100,7 +100,7 @@ impl Sender {
     // Writes the keepalive of a link, where it is due.
     fn tick_keepalive<L: Link>(&mut self, link: u8, links: &mut [L]) -> Result<(), Spent>
         requires among { link < length links.old }
-        requires few { length links.old ≤ 16 }
+        requires few { length links.old ≤ MAX_LINKS }
         ensures set { StaysSet self.old self.new }
         ensures does { (from : Work) → IsSenderAfter self.old from → from.is_short ≡ false → Does
             ⟦<L as TellingLink>⟧.tells
@@ -124,7 +124,7 @@ impl Sender {
     // Writes what a tick makes due on a link.
     fn tick_link<L: Link>(&mut self, us: u64, link: u8, links: &mut [L]) -> Result<(), Spent>
         requires among { link < length links.old }
-        requires few { length links.old ≤ 16 }
+        requires few { length links.old ≤ MAX_LINKS }
         ensures set { StaysSet self.old self.new }
         ensures does { (from : Work) → IsSenderAfter self.old from → from.is_short ≡ false → Does
             ⟦<L as TellingLink>⟧.tells
@@ -139,7 +139,7 @@ impl Sender {
 
     // Writes what a tick makes due, link after link.
     fn tick_links<L: Link>(&mut self, us: u64, links: &mut [L]) -> Result<(), Spent>
-        requires few { length links.old ≤ 16 }
+        requires few { length links.old ≤ MAX_LINKS }
         ensures set { StaysSet self.old self.new }
         ensures does { (from : Work) → IsSenderAfter self.old from → from.is_short ≡ false → Does
             ⟦<L as TellingLink>⟧.tells

@@ -7,14 +7,13 @@ ghost use Rattle.rist_show.specs.Origins.{origin_in};
 
 use capture_file::Head;
 use keepalive_msg::Keepalive;
-use link_channels::Channel;
+use link_channels::{Channel, MAX_PAYLOAD};
 use rist_nack::{Ask, asks};
 use rist_wire::{Item, Media, WireBad};
 use rtcp_compound::Compound;
 use seq_unwrap::Width;
 use serde_json::{Value, json};
 use std::alloc::{AllocError, Global};
-use ts_nulls::BLOCK_LEN;
 
 fn channel_name(channel: Channel) -> &'static str
     ensures value { result.now ≡ channel_name channel }
@@ -36,7 +35,7 @@ fn bits_of(width: Width) -> u8
 }
 
 // The length of a payload with its null packets in their places. The block is scratch.
-fn content_length(media: &Media<'_>, block: &mut [u8; BLOCK_LEN]) -> usize
+fn content_length(media: &Media<'_>, block: &mut [u8; MAX_PAYLOAD]) -> usize
     ensures value { result ≡ length (content_of media.now) }
 {
     if media.is_whole() {
@@ -49,7 +48,7 @@ fn media_value(
     alloc: Global,
     head: &Head,
     media: &Media<'_>,
-    block: &mut [u8; BLOCK_LEN],
+    block: &mut [u8; MAX_PAYLOAD],
 ) -> Result<Value, AllocError>
     ensures value { IfOk result (λ v. view v ≡ media_data (origin_in head.now) media.now) }
 {
@@ -144,7 +143,7 @@ pub(crate) fn item_value(
     alloc: Global,
     head: &Head,
     item: &Result<Item<'_>, WireBad>,
-    block: &mut [u8; BLOCK_LEN],
+    block: &mut [u8; MAX_PAYLOAD],
 ) -> Result<Value, AllocError>
     ensures value { IfOk result (λ v. view v ≡ data_by (origin_in head.now) item.now) }
 {

@@ -8,10 +8,10 @@ ghost use Rattle.capture_walk.specs.declared.visitor.VisitBad.TheVariants.{Write
 use crate::line::line;
 use capture_file::Head;
 use capture_walk::{VisitBad, Visitor};
+use link_channels::MAX_PAYLOAD;
 use outside_io::{Failed, Sink};
 use rist_wire::Opener;
 use std::alloc::Global;
-use ts_nulls::BLOCK_LEN;
 
 // Writes a line at once. Only a failed write is answered.
 fn put_line<K: Sink>(text: &[u8], sink: &mut K) -> Result<(), VisitBad>
@@ -32,7 +32,7 @@ pub(crate) struct Printer {
     pub(crate) alloc: Global,
     pub(crate) opener: Opener,
     /// Where a payload is put whose null packets were deleted.
-    pub(crate) block: [u8; BLOCK_LEN],
+    pub(crate) block: [u8; MAX_PAYLOAD],
 }
 
 impl Visitor for Printer {

@@ -9,10 +9,10 @@ ghost use Rattle.rist_show.specs.Lines.{lines};
 
 use crate::printer::Printer;
 use capture_walk::{Records, WalkBad, walk};
+use link_channels::MAX_PAYLOAD;
 use outside_io::Sink;
 use rist_wire::{Opener, Session};
 use std::alloc::Global;
-use ts_nulls::BLOCK_LEN;
 
 /// Writes a line for each record of a file: what its datagram is in a session, or the first test that fails and where.
 /// A JSON object without blanks, its members in the order of their names, and a line feed. Times are in microseconds;
@@ -43,7 +43,7 @@ pub fn show<R: Records, K: Sink>(
     let mut printer = Printer {
         alloc,
         opener,
-        block: [0; BLOCK_LEN],
+        block: [0; MAX_PAYLOAD],
     };
     walk(reader, &mut printer, sink)
 }

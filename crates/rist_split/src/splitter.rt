@@ -7,12 +7,12 @@ use crate::finding::{item_of, place_of};
 use crate::start::Start;
 use capture_file::Head;
 use capture_walk::{VisitBad, Visitor};
+use link_channels::MAX_PAYLOAD;
 use outside_io::{Failed, Sink};
 use rist_ends::{Told, what_of};
 use rist_fan::{Came, Fan};
 use rist_wire::Opener;
 use std::marker::PhantomData;
-use ts_nulls::BLOCK_LEN;
 
 /// Opens a tunnel's datagrams, and tells their items to the receivers of the ports.
 #[derive(Drop)]
@@ -22,7 +22,7 @@ pub(crate) struct Splitter<'a, B: Start, K: Sink + Drop> {
     pub(crate) fan: Fan<K>,
     pub(crate) came: Vec<Came>,
     /// Where a payload is put whose null packets were deleted.
-    pub(crate) block: [u8; BLOCK_LEN],
+    pub(crate) block: [u8; MAX_PAYLOAD],
     pub(crate) of: PhantomData<B>,
     ghost are_ports: { ArePorts ports.now },
     ghost room: { vec_len came ≡ length (flows_in fan) },

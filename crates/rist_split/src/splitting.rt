@@ -13,11 +13,11 @@ ghost use Rattle.rist_split.specs.Inside.Splitting.{AllSplitFrom, HasSplit};
 use crate::splitter::Splitter;
 use crate::start::Start;
 use capture_walk::{Records, WalkBad, walk};
+use link_channels::MAX_PAYLOAD;
 use outside_io::{Nowhere, Sink};
 use rist_fan::{Came, Fan, Flow};
 use rist_wire::Opener;
 use std::marker::{Brand, PhantomData};
-use ts_nulls::BLOCK_LEN;
 
 /// What a split leaves.
 #[derive(Drop)]
@@ -62,7 +62,7 @@ fn named_split<B: Start, R: Records, K: Sink + Drop>(
         ports,
         fan,
         came,
-        block: [0; BLOCK_LEN],
+        block: [0; MAX_PAYLOAD],
         of: PhantomData,
     };
     let end = walk(reader, &mut splitter, &mut Nowhere);

@@ -2,7 +2,7 @@
 use Rattle.std.specs.Prelude.{◌≡◌, ℕ, ◌%◌, ◌^◌, ◌<◌, ◌≤◌, List, length, true, Option, IfSome}
 use Rattle.link_channels.specs.declared.channel.Channel.{Channel}
 use Rattle.psk_seal.specs.declared.sealer.Pair.{Pair}
-use Rattle.rtp_packet.specs.declared.rtp.TheConstants.{MAX_PAYLOAD}
+use Rattle.link_channels.specs.declared.bounds.TheConstants.{MAX_PAYLOAD}
 use Rattle.ts_nulls.specs.Shape.{IsShape}
 use Rattle.rist_wire.specs.declared.item.Kind.TheVariants.{Media as MediaKind}
 use Rattle.rist_wire.specs.declared.session.Session.{Session}

@@ -2,7 +2,7 @@ ghost use Rattle.std.specs.Prelude.{◌≡◌, ◌≤◌, ◌<◌, true, length,
 ghost use Rattle.seq_unwrap.specs.Nearest.{cycle_of};
 ghost use Rattle.rist_wire.specs.Media.{can_restore, content_of, restored_payload};
 
-use rtp_packet::MAX_PAYLOAD;
+use link_channels::MAX_PAYLOAD;
 use seq_unwrap::Width;
 use std::marker::Model;
 use ts_nulls::{Strip, put_back};
@@ -27,7 +27,7 @@ pub struct Media<'a> {
 impl<'a> Model for Media<'a> {
     ghost use Rattle.std.specs.Prelude.{◌≡◌, ◌≤◌, ◌<◌, true, length};
     ghost use Rattle.seq_unwrap.specs.Nearest.{cycle_of};
-    ghost use Rattle.rtp_packet.specs.declared.rtp.TheConstants.{MAX_PAYLOAD};
+    ghost use Rattle.link_channels.specs.declared.bounds.TheConstants.{MAX_PAYLOAD};
     ghost use Rattle.rist_wire.specs.Media.{MediaValue, can_restore};
 
     ghost Value = { MediaValue };

@@ -1,5 +1,6 @@
 //! The RTP packets of media (RFC 3550, section 5.1).
 ghost use Rattle.gre_tunnel.specs.declared.tunnel.Tunnel.{Tunnel};
+ghost use Rattle.link_channels.specs.declared.bounds.TheConstants.{MAX_PAYLOAD};
 ghost use Rattle.std.specs.Prelude.{◌≡◌, ◌+◌, ◌%◌, ◌≤◌, ◌<◌, Ok, Some, true, length, take, is_none};
 ghost use Rattle.rist_wire.specs.declared.item.Kind.TheVariants.{Media as MediaKind};
 ghost use Rattle.rist_wire.specs.declared.item.Item.TheVariants.{Media as MediaItem};
@@ -8,8 +9,9 @@ ghost use Rattle.rist_wire.specs.Messages.{item_by};
 ghost use Rattle.rist_wire.specs.Writing.{media_out};
 ghost use Rattle.rist_wire.specs.Packets.{upper_for, media_octets, media_value};
 
+use link_channels::MAX_DATAGRAM;
 use rist_ext::{ExtWord, RIST_PROFILE};
-use rtp_packet::{MAX_PAYLOAD, RtpHead, write};
+use rtp_packet::{RtpHead, write};
 use seq_unwrap::Width;
 use ts_nulls::Strip;
 
@@ -31,7 +33,7 @@ pub(crate) fn put_media(
     stamp: u32,
     strip: Option<Strip>,
     payload: &[u8],
-    out: &mut [u8; 2048],
+    out: &mut [u8; MAX_DATAGRAM],
 ) -> usize
     requires flow { flow % 2 ≡ 0 }
     requires payload { length payload.now ≤ MAX_PAYLOAD }

@@ -15,7 +15,7 @@ use crate::session::Session;
 use aes_block::Aes;
 use gre_tunnel::{DATAGRAM, FULL, KEEPALIVE, Tunnel};
 use ipv4_udp::{IpHead, MAX_PAYLOAD};
-use link_channels::{Channel, Profile};
+use link_channels::{Channel, MAX_DATAGRAM, Profile};
 use octet_fields::put_at;
 use psk_seal::Pair;
 
@@ -65,7 +65,7 @@ fn put_header(
     full: bool,
     pair: Option<Pair>,
     kind: Kind,
-    out: &mut [u8; 2048],
+    out: &mut [u8; MAX_DATAGRAM],
 ) -> usize
     ensures fits { IsPair pair }
     ensures octets { take result out.new ≡ header_octets tunnel bits full pair kind }
@@ -85,8 +85,8 @@ fn put_header(
     put_at(out, 0, &header[..end])
 }
 
-fn put_ports(out: &mut [u8; 2048], at: usize, port: u16) -> usize
-    requires room { at + 4 ≤ 2048 }
+fn put_ports(out: &mut [u8; MAX_DATAGRAM], at: usize, port: u16) -> usize
+    requires room { at + 4 ≤ MAX_DATAGRAM }
     ensures end { result ≡ at + 4 }
     ensures octets { take result out.new ≡ take at out.old ++ ports_octets port }
 {
@@ -108,9 +108,9 @@ fn full_head(port: u16) -> IpHead
 
 // Writes a full datagram behind what is there, and says where it ends.
 #[tactic(auto, unfolding(crate::specs::Datagrams::full_octets))]
-fn put_full(out: &mut [u8; 2048], at: usize, port: u16, message: &[u8]) -> usize
+fn put_full(out: &mut [u8; MAX_DATAGRAM], at: usize, port: u16, message: &[u8]) -> usize
     requires few { length message.now ≤ MAX_PAYLOAD }
-    requires room { at + 28 + length message.now ≤ 2048 }
+    requires room { at + 28 + length message.now ≤ MAX_DATAGRAM }
     ensures end { result ≡ at + 28 + length message.now }
     ensures octets { take result out.new ≡ take at out.old ++ full_octets port message.now }
 {
@@ -120,9 +120,15 @@ fn put_full(out: &mut [u8; 2048], at: usize, port: u16, message: &[u8]) -> usize
 }
 
 // Writes what goes to a port behind what is there, and says where it ends.
-fn put_carried(out: &mut [u8; 2048], at: usize, full: bool, port: u16, message: &[u8]) -> usize
+fn put_carried(
+    out: &mut [u8; MAX_DATAGRAM],
+    at: usize,
+    full: bool,
+    port: u16,
+    message: &[u8],
+) -> usize
     requires few { length message.now ≤ MAX_PAYLOAD }
-    requires room { at + 28 + length message.now ≤ 2048 }
+    requires room { at + 28 + length message.now ≤ MAX_DATAGRAM }
     ensures within { result ≤ at + 28 + length message.now }
     ensures after { at ≤ result }
     ensures octets { take result out.new ≡ take at out.old ++ carried full port message.now }
@@ -136,7 +142,7 @@ fn put_carried(out: &mut [u8; 2048], at: usize, full: bool, port: u16, message: 
 
 // Writes a text behind what is there, and says where it ends.
 fn put_text(
-    out: &mut [u8; 2048],
+    out: &mut [u8; MAX_DATAGRAM],
     at: usize,
     full: bool,
     port: u16,
@@ -144,7 +150,7 @@ fn put_text(
     message: &[u8],
 ) -> usize
     requires few { length message.now ≤ MAX_PAYLOAD }
-    requires room { at + 28 + length message.now ≤ 2048 }
+    requires room { at + 28 + length message.now ≤ MAX_DATAGRAM }
     requires port { port ≤ 65534 }
     ensures within { result ≤ at + 28 + length message.now }
     ensures after { at ≤ result }
@@ -162,13 +168,13 @@ fn seal(
     session: &Session,
     key: &Option<Aes>,
     pair: Option<Pair>,
-    out: &mut [u8; 2048],
+    out: &mut [u8; MAX_DATAGRAM],
     from: usize,
     end: usize,
 )
     requires derived { key.now ≡ key_by session.now.pass session.now.bits (nonce_of pair) }
     requires order { from ≤ end }
-    requires within { end ≤ 2048 }
+    requires within { end ≤ MAX_DATAGRAM }
     ensures octets { take end out.new
         ≡ take from out.old ++ sealed_text session.now pair (drop from (take end out.old)) }
 {
@@ -182,7 +188,7 @@ fn put_tunnel(
     pair: Option<Pair>,
     kind: Kind,
     message: &[u8],
-    out: &mut [u8; 2048],
+    out: &mut [u8; MAX_DATAGRAM],
 ) -> usize
     requires session { IsSession session.now }
     requires derived { key.now ≡ key_by session.now.pass session.now.bits (nonce_of pair) }
@@ -198,7 +204,7 @@ fn put_tunnel(
 }
 
 // Writes the datagram of a message without the tunnel at the front of a block: the message itself.
-fn put_simple(kind: Kind, message: &[u8], out: &mut [u8; 2048]) -> (Channel, usize)
+fn put_simple(kind: Kind, message: &[u8], out: &mut [u8; MAX_DATAGRAM]) -> (Channel, usize)
     requires room { length message.now ≤ MAX_PAYLOAD }
     ensures channel { result.0 ≡ channel_on Simple kind }
     ensures octets { take result.1 out.new ≡ message.now }
@@ -220,7 +226,7 @@ pub(crate) fn put_datagram(
     pair: Option<Pair>,
     kind: Kind,
     message: &[u8],
-    out: &mut [u8; 2048],
+    out: &mut [u8; MAX_DATAGRAM],
 ) -> (Channel, usize)
     requires session { IsSession session.now }
     requires derived { key.now ≡ key_by session.now.pass session.now.bits (nonce_of pair) }

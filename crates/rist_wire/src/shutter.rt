@@ -1,4 +1,5 @@
 ghost use Rattle.std.specs.Prelude.{◌≡◌, ◌%◌, ◌-◌, ◌≤◌, List, Ok, true, length, take, is_some, is_err, IsSome, IfOk, OnOk, OnErr};
+ghost use Rattle.link_channels.specs.declared.bounds.TheConstants.{MAX_PAYLOAD};
 ghost use Rattle.keepalive_msg.specs.Keepalive.{spelling as keepalive_spelling};
 ghost use Rattle.keepalive_msg.specs.Writing.{message_of as keepalive_of};
 ghost use Rattle.keepalive_msg.specs.Reading.{value_of as keepalive_value_of};
@@ -18,9 +19,8 @@ use crate::item::Kind;
 use crate::packets::put_media;
 use crate::sealing::{nonce_of, put_datagram};
 use crate::session::Session;
-use link_channels::Channel;
+use link_channels::{Channel, MAX_DATAGRAM};
 use psk_seal::{Pair, Sealer, Spent};
-use rtp_packet::MAX_PAYLOAD;
 use std::marker::Model;
 use ts_nulls::Strip;
 
@@ -97,14 +97,14 @@ impl Shutter {
         &mut self,
         kind: Kind,
         message: &[u8],
-        out: &mut [u8; 2048],
+        out: &mut [u8; MAX_DATAGRAM],
     ) -> Result<(Channel, usize), Spent>
         requires paired { is_some self.old.sealer ≡ is_some self.old.session.pass }
         requires tunnel { kind ≡ KeepaliveKind → self.old.session.profile ≡ Main }
         requires room { length message.now ≤ 1560 }
         ensures datagram { IfOk result (λ sent. IsDatagram self.old.session (next_pair self.old.sealer)
             kind message.now sent.0 (take sent.1 out.new)) }
-        ensures within { IfOk result (λ sent. sent.1 ≤ 2048) }
+        ensures within { IfOk result (λ sent. sent.1 ≤ MAX_DATAGRAM) }
         ensures state { OnOk result (self.new ≡ record self.old { sealer = after_pair self.old.sealer }) }
         ensures spent { is_err result ≡ is_spent self.old.sealer }
         ensures same { OnErr result ((self.new ≡ self.old) × (out.new ≡ out.old)) }
@@ -129,7 +129,7 @@ impl Shutter {
         stamp: u32,
         strip: Option<Strip>,
         payload: &[u8],
-        out: &mut [u8; 2048],
+        out: &mut [u8; MAX_DATAGRAM],
     ) -> Result<(Channel, usize), Spent>
         requires paired { is_some self.old.sealer ≡ is_some self.old.session.pass }
         requires flow { flow % 2 ≡ 0 }
@@ -142,12 +142,12 @@ impl Shutter {
         ensures read_back { IfOk result (λ sent. item_of self.old.session sent.0 (take sent.1 out.new)
             ≡ Ok (MediaItem (media_value self.old.session.width
             (media_out flow again number stamp strip payload.now)))) }
-        ensures within { IfOk result (λ sent. sent.1 ≤ 2048) }
+        ensures within { IfOk result (λ sent. sent.1 ≤ MAX_DATAGRAM) }
         ensures state { OnOk result (self.new ≡ record self.old { sealer = after_pair self.old.sealer }) }
         ensures spent { is_err result ≡ is_spent self.old.sealer }
         ensures same { OnErr result ((self.new ≡ self.old) × (out.new ≡ out.old)) }
     {
-        let mut packet = [0; 2048];
+        let mut packet = [0; MAX_DATAGRAM];
         let len = put_media(
             self.session.width,
             flow,
@@ -167,7 +167,7 @@ impl Shutter {
     pub fn control(
         &mut self,
         compound: &[u8],
-        out: &mut [u8; 2048],
+        out: &mut [u8; MAX_DATAGRAM],
     ) -> Result<(Channel, usize), Spent>
         requires paired { is_some self.old.sealer ≡ is_some self.old.session.pass }
         requires compound { length compound.now ≤ 1400 }
@@ -176,7 +176,7 @@ impl Shutter {
         ensures read_back { (packets : List Content) → IsCompound packets compound.now
             → IfOk result (λ sent. item_of self.old.session sent.0 (take sent.1 out.new)
             ≡ Ok (ControlItem packets)) }
-        ensures within { IfOk result (λ sent. sent.1 ≤ 2048) }
+        ensures within { IfOk result (λ sent. sent.1 ≤ MAX_DATAGRAM) }
         ensures state { OnOk result (self.new ≡ record self.old { sealer = after_pair self.old.sealer }) }
         ensures spent { is_err result ≡ is_spent self.old.sealer }
         ensures same { OnErr result ((self.new ≡ self.old) × (out.new ≡ out.old)) }
@@ -187,14 +187,18 @@ impl Shutter {
     /// Writes the datagram of an end's keepalive at the front of `out`, and says on which channel it goes and how
     /// many octets it has. It is enciphered as media is. `Spent` where the sealer has no pair left, and then nothing
     /// is changed.
-    pub fn keepalive(&mut self, ssrc: u32, out: &mut [u8; 2048]) -> Result<(Channel, usize), Spent>
+    pub fn keepalive(
+        &mut self,
+        ssrc: u32,
+        out: &mut [u8; MAX_DATAGRAM],
+    ) -> Result<(Channel, usize), Spent>
         requires paired { is_some self.old.sealer ≡ is_some self.old.session.pass }
         requires tunnel { self.old.session.profile ≡ Main }
         ensures datagram { IfOk result (λ sent. IsDatagram self.old.session (next_pair self.old.sealer)
             KeepaliveKind (keepalive_spelling (keepalive_of ssrc)) sent.0 (take sent.1 out.new)) }
         ensures read_back { IfOk result (λ sent. item_of self.old.session sent.0 (take sent.1 out.new)
             ≡ Ok (KeepaliveItem (keepalive_value_of (keepalive_of ssrc)))) }
-        ensures within { IfOk result (λ sent. sent.1 ≤ 2048) }
+        ensures within { IfOk result (λ sent. sent.1 ≤ MAX_DATAGRAM) }
         ensures state { OnOk result (self.new ≡ record self.old { sealer = after_pair self.old.sealer }) }
         ensures spent { is_err result ≡ is_spent self.old.sealer }
         ensures same { OnErr result ((self.new ≡ self.old) × (out.new ≡ out.old)) }

@@ -1,5 +1,6 @@
 -- The ranges and combinations of a line's values (this profile).
 use Rattle.std.specs.Prelude.{◌≡◌, ◌⊎◌, ℕ, [], ◌+◌, ◌%◌, ◌^◌, ◌<◌, ◌≤◌, false, None, IfSome, length, slice_index}
+use Rattle.link_channels.specs.declared.bounds.TheConstants.{MAX_LINKS}
 use Rattle.std.specs.Prelude.{slice_index_or}
 use Rattle.std.specs.List.{All}
 use Rattle.gre_tunnel.specs.declared.tunnel.Tunnel.TheVariants.{Own}
@@ -105,7 +106,7 @@ pub record IsInSend (c : SendCommand) : Type 0 where
   pub session : IsInSession c.session
   pub stream : IsInStream c.session.profile c.stream
   pub some_link : 1 ≤ length c.links
-  pub links : length c.links ≤ 16
+  pub links : length c.links ≤ MAX_LINKS
   pub some_gap : gaps.least ≤ c.gap
   pub gap : c.gap ≤ gaps.most
   pub lead : c.lead ≤ leads.most
@@ -142,7 +143,7 @@ pub record IsInServing (s : Serving) : Type 0 where
 pub record IsInRecv (c : RecvCommand) : Type 0 where
   pub session : IsInSession c.session
   pub some_link : 1 ≤ length c.links
-  pub links : length c.links ≤ 16
+  pub links : length c.links ≤ MAX_LINKS
   pub receiver : IsInReceiver c.receiver
   pub serving : IsInServing c.serving
 
@@ -154,7 +155,7 @@ pub record IsInGate (c : GateCommand) : Type 0 where
   pub stream : IsInStream c.session.profile c.stream
   pub some_input : 1 ≤ length c.inputs
   pub some_output : 1 ≤ length c.outputs
-  pub links : length c.inputs + length c.outputs ≤ 16
+  pub links : length c.inputs + length c.outputs ≤ MAX_LINKS
   pub receiver : IsInReceiver c.receiver
   pub serving : IsInServing c.serving
   pub some_store : stores.least ≤ c.store

@@ -6,12 +6,9 @@ ghost use Rattle.rist_words.specs.Links.{address_of, each_link, gate_links_of, i
 use crate::lines::Refused;
 use crate::values::{Numbers, given, number, number_in};
 use clap::ArgMatches;
-use link_channels::Profile;
+use link_channels::{MAX_LINKS, Profile};
 use outside_net::LinkSpec;
 use std::alloc::{AllocError, Global};
-
-/// How many links there are at most.
-const MAX_LINKS: usize = 16;
 
 const ADDRESS: Numbers = Numbers {
     default: 0,

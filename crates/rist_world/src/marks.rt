@@ -4,8 +4,8 @@ ghost use Rattle.world_rules.specs.Counts.{media_read, media_if};
 ghost use Rattle.rist_world.specs.World.{AreMarked};
 
 use crate::wire::Wire;
+use link_channels::MAX_DATAGRAM;
 use outside_io::NoMemory;
-use outside_net::MAX_DATAGRAM;
 use rist_wire::{Item, Opener, WireBad};
 use std::alloc::Global;
 use std::marker::Model;

@@ -1,5 +1,6 @@
 //! A run of a script.
 ghost use Rattle.std.specs.Prelude.{◌≡◌, ◌≤◌, ◌%◌, is_some, IfOk};
+ghost use Rattle.link_channels.specs.declared.bounds.TheConstants.{MAX_LINKS};
 ghost use Rattle.sender_rules.specs.declared.bounds.TheConstants.{MAX_STORED};
 ghost use Rattle.sender_rules.specs.Bonding.{link_count};
 ghost use Rattle.rist_wire.specs.Session.{IsSession};
@@ -90,7 +91,7 @@ pub fn drill<M: Mover>(
     requires flow { near.flow % 2 ≡ 0 }
     requires store { (1 ≤ near.store) × (near.store ≤ MAX_STORED) }
     requires hold { (1 ≤ near.hold) × (near.hold ≤ 1000) }
-    requires links { (1 ≤ links) × (links ≤ 16) × (link_count near.bond ≡ links) }
+    requires links { (1 ≤ links) × (links ≤ MAX_LINKS) × (link_count near.bond ≡ links) }
     requires settings { IsInRange far.now }
     requires near { is_some near_sealer ≡ is_some session.now.pass }
     requires far { is_some far_sealer ≡ is_some session.now.pass }

@@ -1,10 +1,10 @@
 //! All datagrams that were ever put on a link, one way.
 ghost use Rattle.std.specs.Prelude.{◌≡◌, ◌≤◌, ◌++◌, ◌∷◌, [], length, take, IfOk, IfSome, OnErr, option_map, slice_get};
-ghost use Rattle.outside_net.specs.declared.link.TheConstants.{MAX_DATAGRAM};
+ghost use Rattle.link_channels.specs.declared.bounds.TheConstants.{MAX_DATAGRAM};
 
-use link_channels::Channel;
+use link_channels::{Channel, MAX_DATAGRAM};
 use outside_io::{Failed, NoMemory, copy_front};
-use outside_net::{Got, Link, MAX_DATAGRAM, Octets};
+use outside_net::{Got, Link, Octets};
 use std::alloc::Global;
 use std::marker::Model;
 
@@ -16,6 +16,7 @@ pub(crate) struct Put {
 }
 
 impl Model for Put {
+    ghost use Rattle.link_channels.specs.declared.bounds.TheConstants.{MAX_DATAGRAM};
     ghost use Rattle.std.specs.Prelude.{◌≤◌, length};
     ghost use Rattle.outside_net.specs.Links.{Datagram};
 
@@ -23,7 +24,7 @@ impl Model for Put {
 
     ghost view = { λ p. record { channel = p.channel; octets = p.octets } };
 
-    ghost invariant = { λ p. length p.octets ≤ 2048 };
+    ghost invariant = { λ p. length p.octets ≤ MAX_DATAGRAM };
 }
 
 /// A link that keeps each datagram which is written, and gives none by itself: what comes out of it is taken by its
@@ -117,7 +118,7 @@ impl Link for Wire {
 
     ghost ends = { λ wire. 0 };
 
-    fn read(&mut self, _buf: &mut [u8; 2048]) -> Got {
+    fn read(&mut self, _buf: &mut [u8; MAX_DATAGRAM]) -> Got {
         Got::Quiet
     }
 

@@ -1,5 +1,6 @@
 //! A sender and a receiver, and the links between them.
 ghost use Rattle.std.specs.Prelude.{◌≡◌, ◌≤◌, ◌++◌, ◌==◌, [], None, IfOk, IfSome, replicate, length, take, map, set, get_or, slice_get};
+ghost use Rattle.link_channels.specs.declared.bounds.TheConstants.{MAX_LINKS};
 ghost use Rattle.std.specs.Prelude.{nat_lt, option_map, if◌then◌else◌, ◌&&◌, ◌%◌, not};
 ghost use Rattle.std.specs.List.{list_any};
 ghost use Rattle.rist_reporter.specs.OneMore.{outs_of};
@@ -10,11 +11,9 @@ use crate::marks::{Marks, mark_all, media_in};
 use crate::tally::Tally;
 use crate::wire::Wire;
 use crate::written::Written;
-use link_channels::Channel;
+use link_channels::{Channel, MAX_DATAGRAM, MAX_PAYLOAD};
 use outside_io::NoMemory;
-use outside_net::MAX_DATAGRAM;
 use psk_seal::Sealer;
-use reorder_buffer::MAX_PAYLOAD;
 use rist_ends::{Outcome, Outs, Receiver, Settings as ReceiverSettings, Told, What, what_of};
 use rist_sender::{Sender, Settings as SenderSettings};
 use rist_wire::{Item, Opener, Session};
@@ -61,7 +60,7 @@ impl Model for World {
     } };
 
     ghost invariant = { λ w. (length w.forward.items ≡ link_count w.sender.bonding)
-        × (length w.forward.items ≤ 16) × (length w.backward.items ≡ length w.forward.items) };
+        × (length w.forward.items ≤ MAX_LINKS) × (length w.backward.items ≡ length w.forward.items) };
 }
 
 // Links on which nothing was put, so many.
@@ -123,7 +122,7 @@ impl World {
         requires flow { near.flow % 2 ≡ 0 }
         requires store { (1 ≤ near.store) × (near.store ≤ MAX_STORED) }
         requires hold { (1 ≤ near.hold) × (near.hold ≤ 1000) }
-        requires links { (1 ≤ links) × (links ≤ 16) × (link_count near.bond ≡ links) }
+        requires links { (1 ≤ links) × (links ≤ MAX_LINKS) × (link_count near.bond ≡ links) }
         requires settings { IsInRange far.now }
         requires near { is_some near_sealer ≡ is_some session.now.pass }
         requires far { is_some far_sealer ≡ is_some session.now.pass }
@@ -232,7 +231,7 @@ impl World {
 
     /// A payload of at most 1,500 octets is sent at a moment.
     pub(crate) fn send(&mut self, us: u64, payload: &[u8]) -> Result<(), NoMemory>
-        requires payload { length payload.now ≤ 1500 }
+        requires payload { length payload.now ≤ MAX_PAYLOAD }
         ensures value { IfOk result (λ done. GoesOn self.old self.new
             (λ setup from to. Works (SendsIn setup us payload.now) from to)) }
     {
@@ -388,7 +387,7 @@ fn datagram_at(
 ) -> Option<(Channel, usize)>
     ensures value { option_map (λ d. record { channel = d.0; octets = take d.1 block.new }) result
         ≡ (if nat_lt link (length wires.now) then slice_get (get_or wires.now link none).put place else None) }
-    ensures within { IfSome result (λ d. d.1 ≤ 2048) }
+    ensures within { IfSome result (λ d. d.1 ≤ MAX_DATAGRAM) }
 {
     match wires.get(usize::from(link)) {
         Some(wire) => wire.at(place, block),

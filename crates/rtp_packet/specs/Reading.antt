@@ -6,7 +6,7 @@ use Rattle.std.specs.Borrow.{Bor}
 use Rattle.std.specs.Int.{w16, w32, from_be_bytes, bit_at}
 use Rattle.rtp_packet.specs.declared.bad.RtpBad.{RtpBad}
 use Rattle.rtp_packet.specs.declared.bad.RtpBad.TheVariants.{Short, Version, Sources, Extension, Padding, Long}
-use Rattle.rtp_packet.specs.declared.rtp.TheConstants.{MAX_PAYLOAD}
+use Rattle.link_channels.specs.declared.bounds.TheConstants.{MAX_PAYLOAD}
 use Rattle.rtp_packet.specs.Rtp.{RtpPacket}
 
 -- what a reader is given of a packet

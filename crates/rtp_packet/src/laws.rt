@@ -4,7 +4,7 @@ ghost use Rattle.rtp_packet.specs.Reading.{RtpValue, value_of, reading_of};
 ghost use Rattle.rtp_packet.specs.Rtp.{RtpPacket, Spells};
 ghost use Rattle.rtp_packet.specs.declared.bad.RtpBad.TheVariants.{Long};
 
-use crate::rtp::MAX_PAYLOAD;
+use link_channels::MAX_PAYLOAD;
 
 /// Octets spell one packet at most.
 pub fn one_packet_is_spelled()

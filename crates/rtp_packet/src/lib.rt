@@ -8,5 +8,5 @@ mod rtp;
 mod writing;
 
 pub use bad::RtpBad;
-pub use rtp::{MAX_PAYLOAD, Rtp};
+pub use rtp::Rtp;
 pub use writing::{RtpHead, write};

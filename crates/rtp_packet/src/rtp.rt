@@ -4,11 +4,9 @@ ghost use Rattle.rtp_packet.specs.Reading.{extension_shown, extension_at, after_
 ghost use Rattle.rtp_packet.specs.Rtp.{RtpPacket, Spells};
 
 use crate::bad::RtpBad;
+use link_channels::MAX_PAYLOAD;
 use octet_fields::{is_set, u16_at, u32_at};
 use std::marker::Model;
-
-/// The most octets that a payload has (this profile).
-pub const MAX_PAYLOAD: usize = 1500;
 
 /// How many octets a header without sources has (RFC 3550, section 5.1).
 pub(crate) const FIXED_LEN: usize = 12;
@@ -28,7 +26,7 @@ pub struct Rtp<'a> {
 impl<'a> Model for Rtp<'a> {
     ghost use Rattle.std.specs.Prelude.{◌≤◌, length};
     ghost use Rattle.rtp_packet.specs.Reading.{RtpValue, extension_shown};
-    ghost use Rattle.rtp_packet.specs.declared.rtp.TheConstants.{MAX_PAYLOAD};
+    ghost use Rattle.link_channels.specs.declared.bounds.TheConstants.{MAX_PAYLOAD};
 
     ghost Value = { RtpValue };
 

@@ -1,11 +1,13 @@
 ghost use Rattle.std.specs.Prelude.{◌≡◌, ◌+◌, ◌^◌, ◌<◌, ◌≤◌, IfSome, ◌++◌, Ok, Some, None, length, take, drop};
+ghost use Rattle.link_channels.specs.declared.bounds.TheConstants.{MAX_PAYLOAD};
 ghost use Rattle.std.specs.Option.{ForSome};
 ghost use Rattle.octet_fields.specs.Writing.{KeepsFrom};
 ghost use Rattle.rtp_packet.specs.Reading.{extension_shown, reading_of, value_of};
 ghost use Rattle.rtp_packet.specs.Rtp.{AreWords, extension_octets, spelling};
 ghost use Rattle.rtp_packet.specs.Writing.{packet_with, header_octets, IsHead};
 
-use crate::rtp::{FIXED_LEN, MAX_PAYLOAD};
+use crate::rtp::FIXED_LEN;
+use link_channels::MAX_DATAGRAM;
 use octet_fields::put_at;
 
 /// What the header of a packet to be written says.
@@ -72,7 +74,7 @@ pub fn write(
     head: &RtpHead,
     extension: Option<(u16, &[u8])>,
     payload: &[u8],
-    out: &mut [u8; 2048],
+    out: &mut [u8; MAX_DATAGRAM],
 ) -> usize
     requires extension { ForSome extension (λ e. AreWords 8 e.1.now) }
     requires payload { length payload.now ≤ MAX_PAYLOAD }

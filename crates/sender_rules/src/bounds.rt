@@ -7,6 +7,3 @@ pub const MAX_LOOKED_AT: usize = 65_536;
 
 /// How many packets are sent again for one compound (this profile).
 pub const MAX_SENT_AGAIN: usize = 256;
-
-/// How many links packets are spread over (this profile).
-pub const MAX_LINKS: usize = 16;

@@ -7,5 +7,5 @@ mod bounds;
 pub mod laws;
 mod send_bad;
 
-pub use bounds::{MAX_LINKS, MAX_LOOKED_AT, MAX_SENT_AGAIN, MAX_STORED};
+pub use bounds::{MAX_LOOKED_AT, MAX_SENT_AGAIN, MAX_STORED};
 pub use send_bad::SendBad;

@@ -7,11 +7,12 @@ ghost use Rattle.plain_rules.specs.Requests.Told.{IsFit, IsFitInput, IsSmallPoli
 ghost use Rattle.nack_timer.specs.State.{IsInRange};
 
 use crate::expecting::expect;
+use link_channels::MAX_PAYLOAD;
 use nack_timer::{Settings, Timer};
 use outside_io::Store8;
 use plain_rules::requests::{Input, Step, asked, longest_rtt};
 use receiver_rules::{Arrival, Limits, tick_of};
-use reorder_buffer::{Buffer, MAX_PAYLOAD};
+use reorder_buffer::Buffer;
 use request_rules::{AskWord, Asked, NackKind, Policy};
 use seq_unwrap::Width;
 use std::alloc::{AllocError, Global};

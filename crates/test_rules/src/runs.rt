@@ -5,10 +5,11 @@ ghost use Rattle.std.specs.List.{All};
 ghost use Rattle.plain_rules.specs.Receiver.Told.{IsFit};
 ghost use Rattle.reorder_buffer.specs.StateAfter.{IsStateAfter};
 
+use link_channels::MAX_PAYLOAD;
 use outside_io::Store8;
 use plain_rules::receiver::{Event, Step, released, verdicts};
 use receiver_rules::Limits;
-use reorder_buffer::{Arrival, Buffer, MAX_PAYLOAD, Phase, Verdict, WriteFault};
+use reorder_buffer::{Arrival, Buffer, Phase, Verdict, WriteFault};
 use seq_unwrap::Width;
 use std::alloc::{AllocError, Global};
 use std::process::Abort;

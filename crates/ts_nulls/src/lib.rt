@@ -9,6 +9,6 @@ mod restoring;
 mod stripping;
 
 pub use nulls::{NullBad, Strip};
-pub use packets::{BLOCK_LEN, MAX_PACKETS_LEN};
+pub use packets::MAX_PACKETS_LEN;
 pub use restoring::{can_restore, put_back, restore};
 pub use stripping::strip;

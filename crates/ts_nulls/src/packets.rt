@@ -21,9 +21,6 @@ pub(crate) const MAX_PACKETS: u8 = 7;
 /// How many octets the longest payload of packets has.
 pub const MAX_PACKETS_LEN: usize = 1428;
 
-/// How many octets a block has that any payload fits into.
-pub const BLOCK_LEN: usize = 1500;
-
 /// How many octets a packet has.
 pub(crate) fn packet_len(long: bool) -> usize
     ensures value { result ≡ packet_len long }

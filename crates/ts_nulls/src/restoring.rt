@@ -4,7 +4,8 @@ ghost use Rattle.ts_nulls.specs.Nulls.{null_flags, kept_count, restored, restori
 ghost use Rattle.ts_nulls.specs.Packets.{packet_len, null_packet};
 
 use crate::nulls::{NullBad, Strip};
-use crate::packets::{BLOCK_LEN, LONG_LEN, MAX_PACKETS, MAX_PACKETS_LEN, SYNC_BYTE, packet_len};
+use crate::packets::{LONG_LEN, MAX_PACKETS, MAX_PACKETS_LEN, SYNC_BYTE, packet_len};
+use link_channels::MAX_PAYLOAD;
 use octet_fields::put_at;
 
 // Whether the packet at this place was null.
@@ -72,7 +73,13 @@ fn put_next<'a>(
 }
 
 // Writes all packets of a payload, and says how many octets they are.
-fn put_packets(octets: &[u8], units: u8, long: bool, nulls: u8, out: &mut [u8; BLOCK_LEN]) -> usize
+fn put_packets(
+    octets: &[u8],
+    units: u8,
+    long: bool,
+    nulls: u8,
+    out: &mut [u8; MAX_PAYLOAD],
+) -> usize
     requires few { units ≤ MAX_PACKETS }
     requires whole { length octets.now ≡ packet_len long * kept_count (null_flags 7 units nulls) }
     ensures octets { take result out.new ≡ restored long (null_flags 7 units nulls) octets.now }
@@ -97,7 +104,7 @@ pub fn can_restore(strip: &Strip, payload: &[u8]) -> bool
 
 /// Copies a payload that can be restored to the front of `out`, with its null packets put back, and says how many octets
 /// that makes.
-pub fn put_back(strip: &Strip, payload: &[u8], out: &mut [u8; BLOCK_LEN]) -> usize
+pub fn put_back(strip: &Strip, payload: &[u8], out: &mut [u8; MAX_PAYLOAD]) -> usize
     requires whole { is_ok (restoring_of strip.now payload.now) ≡ true }
     ensures octets { Ok (take result out.new) ≡ restoring_of strip.now payload.now }
     ensures within { result ≤ MAX_PACKETS_LEN }
@@ -107,7 +114,7 @@ pub fn put_back(strip: &Strip, payload: &[u8], out: &mut [u8; BLOCK_LEN]) -> usi
 
 /// Copies a payload with its null packets put back to the front of `out`, and says how many octets it has.
 /// Where they can't be put back, nothing is written.
-pub fn restore(strip: &Strip, payload: &[u8], out: &mut [u8; BLOCK_LEN]) -> Result<usize, NullBad>
+pub fn restore(strip: &Strip, payload: &[u8], out: &mut [u8; MAX_PAYLOAD]) -> Result<usize, NullBad>
     ensures value { written out.new result ≡ restoring_of strip.now payload.now }
     ensures within { IfOk result (λ len. len ≤ MAX_PACKETS_LEN) }
     ensures same { OnErr result (out.new ≡ out.old) }

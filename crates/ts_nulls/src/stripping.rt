@@ -5,9 +5,9 @@ ghost use Rattle.ts_nulls.specs.Packets.{packet_len, packets_of, begins_packet, 
 
 use crate::nulls::Strip;
 use crate::packets::{
-    BLOCK_LEN, MAX_PACKETS, MAX_PACKETS_LEN, SHORT_LEN, begins_packet, is_null, packet_len,
-    packets_in,
+    MAX_PACKETS, MAX_PACKETS_LEN, SHORT_LEN, begins_packet, is_null, packet_len, packets_in,
 };
+use link_channels::MAX_PAYLOAD;
 use octet_fields::put_at;
 
 // The bit of a packet at its place: 0 if it isn't null.
@@ -35,7 +35,7 @@ fn put_kept(out: &mut [u8], at: usize, packet: &[u8]) -> usize
 
 // Copies the packets that aren't null, and says the bits of those that are and where the copy ends. None
 // where one doesn't begin as a packet.
-fn keep(payload: &[u8], size: usize, count: u8, out: &mut [u8; BLOCK_LEN]) -> Option<(u8, usize)>
+fn keep(payload: &[u8], size: usize, count: u8, out: &mut [u8; MAX_PAYLOAD]) -> Option<(u8, usize)>
     requires size { SHORT_LEN ≤ size }
     requires whole { size * count ≡ length payload.now }
     requires within { length payload.now ≤ MAX_PACKETS_LEN }
@@ -64,7 +64,7 @@ fn keep(payload: &[u8], size: usize, count: u8, out: &mut [u8; BLOCK_LEN]) -> Op
 /// Copies a payload without its null packets to the front of `out`, and says what was deleted and how many
 /// octets were copied. None exactly where the payload isn't one to seven whole packets that each begin as
 /// one, or none of them is null; `out` may be written then.
-pub fn strip(payload: &[u8], out: &mut [u8; BLOCK_LEN]) -> Option<(Strip, usize)>
+pub fn strip(payload: &[u8], out: &mut [u8; MAX_PAYLOAD]) -> Option<(Strip, usize)>
     ensures value { stripped_into out.new result ≡ stripping_of payload.now }
     ensures within { IfSome result (λ x. x.1 ≤ MAX_PACKETS_LEN) }
 {

@@ -2,6 +2,7 @@
 -- between them. Nothing that was put is removed: a datagram is carried where a move says so, at any time, as often as
 -- moves say so.
 use Rattle.std.specs.Prelude.{◌≡◌, ◌≤◌, ◌<◌, ◌^◌, ℕ, ◌%◌, List, [], ◌∷◌, ◌++◌, length, map, replicate, set, get_or}
+use Rattle.link_channels.specs.declared.bounds.TheConstants.{MAX_PAYLOAD}
 use Rattle.std.specs.Prelude.{slice_get, Bool, false, not, ◌&&◌, nat_le, nat_lt, ◌==◌, if◌then◌else◌, Option, None}
 use Rattle.std.specs.Prelude.{Some, is_some, IfSome, Result, Ok, Err}
 use Rattle.receiver_rules.specs.Steps.{tick_of, has_ended}
@@ -221,7 +222,7 @@ is_new setup from flow =
 -- new do nothing
 abbrev pub Makes : Setup → Move → Course → Course → Type 0
 Makes setup (moves.Send micros payload) from to =
-    IfElse (nat_le (length payload) 1500) (Works (SendsIn setup micros payload) from to) (to ≡ from)
+    IfElse (nat_le (length payload) MAX_PAYLOAD) (Works (SendsIn setup micros payload) from to) (to ≡ from)
 Makes setup (moves.Carry link place micros) from to =
     CarriesIf setup link place micros (forward_at setup from link place) from to
 Makes setup (moves.CarryBack link place micros) from to =

@@ -1,5 +1,7 @@
 -- What the steps of a reader answer, by the octets that remained and that remain now, where those are told.
 use Rattle.std.specs.Prelude.{◌≡◌, ◌≢◌, ℕ, ◌+◌, ◌^◌, ◌<◌, ◌≤◌, List, [], length, take, None, Some, Result, Ok, Err}
+use Rattle.link_channels.specs.declared.bounds.TheConstants.{MAX_LINKS}
+use Rattle.link_channels.specs.declared.bounds.TheConstants.{MAX_DATAGRAM}
 use Rattle.std.specs.Prelude.{IfSome}
 use Rattle.std.specs.declared.option.Option.{Option}
 use Rattle.outside_io.specs.Told.{Takes, IsEmpty}
@@ -22,7 +24,7 @@ ReadsName old new (Err ReadFault) = IsCutShort old new (λ part. length part < 8
 abbrev pub ReadsHead : ℕ → Option (List ℕ) → Option (List ℕ) → Result (Option Head) CapBad → Type 0
 ReadsHead at old new (Ok None) = Takes old new [] × IsEmpty new
 ReadsHead at old new (Ok (Some head)) =
-    ((head.link < 16) × (head.length ≤ 2048) × (head.us < 2 ^ 64) × (at + 12 + head.length ≤ 2 ^ 40))
+    ((head.link < MAX_LINKS) × (head.length ≤ MAX_DATAGRAM) × (head.us < 2 ^ 64) × (at + 12 + head.length ≤ 2 ^ 40))
     × (fault_of_head at (head_octets head) ≡ None) × (length_said (head_octets head) ≡ head.length)
     × Takes old new (head_octets head)
 ReadsHead at old new (Err (Bad kind place)) =

@@ -1,5 +1,6 @@
 -- How places and blocks show the packets that wait.
 use Rattle.std.specs.Prelude.{◌≡◌, ℕ, ◌+◌, ◌-◌, ◌^◌, ◌<◌, ◌≤◌, ◌%◌, pos, List, [], ◌∷◌, length, map, take, min, max}
+use Rattle.link_channels.specs.declared.bounds.TheConstants.{MAX_PAYLOAD}
 use Rattle.std.specs.Prelude.{nat_lt, Bool, false, slice_index_or, Option, None, Some}
 use Rattle.receiver_rules.specs.declared.bounds.TheConstants.{MAX_SPAN}
 use Rattle.receiver_rules.specs.Packets.{Packet, insert_by_number, IsRising}
@@ -70,7 +71,7 @@ pub record IsPlaced (capacity place : ℕ) (held : Held) : Type 0 where
   pub stands : held.number % capacity ≡ place
   pub number : held.number < 2 ^ 62
   pub deadline : held.deadline < 2 ^ 62
-  pub length : held.length ≤ 1500
+  pub length : held.length ≤ MAX_PAYLOAD
 
 -- what is kept beside the packets follows from them
 pub record IsRing (places : List (Option Held)) (blocks : List (List ℕ)) (ticks : List ℕ) (ends : Option Ends)

@@ -1,5 +1,6 @@
 -- What a sender keeps true of its parts.
 use Rattle.std.specs.Prelude.{◌≡◌, ◌<◌, ◌≤◌, ℕ, ◌+◌, ◌%◌, ◌^◌, List, set, length, Bool, true, IsSome, is_some}
+use Rattle.link_channels.specs.declared.bounds.TheConstants.{MAX_PAYLOAD}
 use Rattle.std.specs.List.{AllByRecursion}
 use Rattle.sender_rules.specs.Sendings.{Packet}
 use Rattle.retransmit_store.specs.State.{StoreState, packets_in, IsNext}
@@ -13,7 +14,7 @@ use Rattle.rist_sender.specs.Sender.{has_keepalives}
 -- a packet can be sent: its payload fits, and null packets were deleted from it only where the session deletes them, so
 -- that they can be put back
 pub record IsSendable (nulls : Bool) (packet : Packet) : Type 0 where
-  pub payload : length packet.payload ≤ 1500
+  pub payload : length packet.payload ≤ MAX_PAYLOAD
   pub strip : IsSome packet.strip → nulls ≡ true
   pub whole : can_restore packet.strip packet.payload ≡ true
 
