@@ -7,7 +7,8 @@ use Rattle.outside_io.specs.Told.{Passage, Appends, AppendsBetween, IsReadTo, Ta
 use Rattle.outside_io.proofs.ToldLemmas.{appends_both}
 use Rattle.capture_file.specs.Capture.{Record}
 use Rattle.capture_walk.specs.Form.{Form}
-use Rattle.capture_walk.specs.Leaves.{HasGiven, EndsAfter, IfBrought, WantsMemory, IsUnbegun, Leaves, passage}
+use Rattle.capture_walk.specs.Leaves.{HasGiven, EndsAfter, Brought, IfBrought, WantsMemory, IsUnbegun, Leaves, passage}
+use Rattle.capture_walk.specs.Inside.Turns.{EndsBy}
 use Rattle.capture_walk.specs.declared.walk_bad.WalkBad.{WalkBad}
 use Rattle.capture_walk.specs.declared.walk_bad.WalkBad.TheVariants as bads
 
@@ -156,3 +157,12 @@ brought (Err bads.TooLong) P p = p
 brought (Err bads.ReadFault) P p = p
 brought (Err bads.WriteFault) P p = tt
 brought (Err bads.Memory) P p = tt
+
+-- a walk ended so, by what its form and its visitor were at first
+pub ends_as : (f g : Form) (s t w v : List Record → List ℕ) (has_ended : List Record → Type 0) (p : Passage) (end : Result Unit WalkBad) → f ≡ g → s ≡ t → w ≡ v
+    → EndsBy f s w has_ended p end → EndsBy g t v has_ended p end
+ends_as f g s t w v has_ended p end form so_far whole ends = record {
+  leaves = subst (λ (x : Form). Leaves x t v 0 p end) form
+      (subst (λ (x : List Record → List ℕ). Leaves f x v 0 p end) so_far (subst (λ (x : List Record → List ℕ). Leaves f s x 0 p end) whole ends.leaves));
+  seen = subst (λ (x : Form). IfBrought end (Brought x p.had p.left has_ended end)) form ends.seen;
+}

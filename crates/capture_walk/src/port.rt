@@ -5,7 +5,6 @@ ghost use Rattle.capture_file.specs.Capture.{Fits};
 ghost use Rattle.capture_file.specs.Heads.{record_of};
 ghost use Rattle.pcap_file.specs.Converted.{datagram_of, records_at};
 ghost use Rattle.pcap_file.specs.Reader.{new_reader};
-ghost use Rattle.capture_walk.specs.Port.{PortState};
 ghost use Rattle.capture_walk.specs.Inside.Frames.{HasReadPort, IsTurn, IfGiven, IfFrame, length_given, records_given, spent_after, turn_fault};
 ghost use Rattle.capture_walk.specs.declared.walk_bad.WalkBad.TheVariants.{ReadFault, WriteFault, Memory};
 
@@ -35,7 +34,9 @@ pub struct PortReader<S: Source> {
 }
 
 impl<S: Source> Model for PortReader<S> {
+    ghost use Rattle.std.specs.Prelude.{◌≤◌, take};
     ghost use Rattle.link_channels.specs.declared.bounds.TheConstants.{MAX_DATAGRAM};
+    ghost use Rattle.capture_walk.specs.Port.{PortState};
 
     ghost Value = { PortState };
 

@@ -6,7 +6,7 @@ ghost use Rattle.capture_file.specs.Capture.{Record, Fits};
 ghost use Rattle.capture_file.specs.Heads.{record_of};
 ghost use Rattle.capture_walk.specs.Causes.{walk_fault, visit_fault};
 ghost use Rattle.capture_walk.specs.Leaves.{Brought, IfBrought, Leaves, passage};
-ghost use Rattle.capture_walk.specs.Inside.Turns.{IfOn, IfOver};
+ghost use Rattle.capture_walk.specs.Inside.Turns.{EndsBy, IfOn, IfOver};
 ghost use Rattle.capture_walk.specs.Inside.Sofar.{Sofar};
 ghost use Rattle.capture_walk.specs.declared.walk_bad.WalkBad.TheVariants.{ReadFault, WriteFault, Memory};
 ghost use Rattle.capture_walk.specs.declared.visitor.VisitBad.TheVariants.{Memory as VisitMemory};
@@ -64,11 +64,8 @@ fn visit_next<R: Records, V: Visitor, K: Sink>(
         → Sofar (V.so_far visitor.old) R.has_read V.has_seen first reader.new visitor.new u (K.contents sink.new)) }
     ensures over { IfOver result (λ end. (first u : Option (List ℕ))
         → Sofar (V.so_far visitor.old) R.has_read V.has_seen first reader.old visitor.old u (K.contents sink.old)
-        → Leaves (R.form reader.old) (V.so_far visitor.old) (V.whole visitor.old) 0
+        → EndsBy (R.form reader.old) (V.so_far visitor.old) (V.whole visitor.old) (V.has_ended visitor.new)
         (passage first (R.remaining reader.new) u (K.contents sink.new)) end) }
-    ensures seen { IfOver result (λ end. (first u : Option (List ℕ))
-        → Sofar (V.so_far visitor.old) R.has_read V.has_seen first reader.old visitor.old u (K.contents sink.old)
-        → IfBrought end (Brought (R.form reader.old) first (R.remaining reader.new) (V.has_ended visitor.new) end)) }
     ensures same { IfOn result ((V.so_far visitor.new ≡ V.so_far visitor.old)
         × (V.whole visitor.new ≡ V.whole visitor.old)) }
     ensures form { R.form reader.new ≡ R.form reader.old }
