@@ -1,4 +1,4 @@
--- What links were given, part after part.
+-- What a read leaves of its link, and what links were given, part after part.
 use Rattle.std.proofs.Common.{◌≡◌, ◌≢◌, ◌∙◌, ℕ, suc, ◌<◌, ◌≤◌, Bool, true, false, List, [], ◌∷◌, ◌++◌, length, get_or, set, map, Option, None, Some, option_map, refl, sym, ap, subst, arith, append_assoc, append-nil}
 use Rattle.std.specs.Prelude.{◌||◌, ◌==◌}
 use Rattle.std.proofs.lemmas.Bool.{eq-eqb, eqb-true}
@@ -8,16 +8,36 @@ use Rattle.std.proofs.lemmas.Grind.{get_or-set_at}
 use Rattle.std.proofs.lemmas.List.Folds.{list_any-append}
 use Rattle.outside_io.specs.Causes.{RoseWhere}
 use Rattle.outside_net.specs.Streams.{later}
-use Rattle.outside_net.specs.Links.{Datagram, Answer}
+use Rattle.link_channels.specs.declared.channel.Channel.{Channel}
+use Rattle.outside_net.specs.declared.link.Got.{Got}
+use Rattle.outside_net.specs.declared.link.Got.TheVariants as gots
+use Rattle.outside_net.specs.Links.{Datagram, Answer, KnowsAfter, answer_of, has_read_failed, has_come_to_end}
 use Rattle.rist_wire.specs.declared.session.Session.{Session}
 use Rattle.outside_net.specs.Links.{LinkTells}
 use Rattle.rist_sender.specs.Links.{Tried, taken_as, datagrams_taken, is_failed}
 use Rattle.rist_sender.specs.History.{Event, tried_as, tried_on}
 use Rattle.rist_sender.specs.Sender.{IsGiven, AreGiven}
-use Rattle.rist_sender.specs.Served.{RisesWith}
-use Rattle.rist_sender.specs.Served.{IsServed}
-use Rattle.rist_sender.specs.Served.{AreServed}
-use Rattle.rist_sender.specs.Served.{ReadsAt}
+use Rattle.rist_sender.specs.Served.{RisesWith, IsServed, AreServed, ReadsAt, KnowsWith, says_failed, says_end}
+
+-- ---- a read, by the answer that it gave
+
+pub faults_by : (got : Got) (block : List ℕ) (before now : ℕ) → RoseWhere (has_read_failed got) before now → RoseWhere (says_failed (answer_of got block)) before now
+faults_by (gots.Datagram channel count) block before now rose = rose
+faults_by gots.Quiet block before now rose = rose
+faults_by gots.End block before now rose = rose
+faults_by gots.Failed block before now rose = rose
+
+pub ends_by : (got : Got) (block : List ℕ) (before now : ℕ) → RoseWhere (has_come_to_end got) before now → RoseWhere (says_end (answer_of got block)) before now
+ends_by (gots.Datagram channel count) block before now rose = rose
+ends_by gots.Quiet block before now rose = rose
+ends_by gots.End block before now rose = rose
+ends_by gots.Failed block before now rose = rose
+
+pub knows_by : (got : Got) (block : List ℕ) (old new : Channel → Bool) → KnowsAfter old new got → KnowsWith old new (answer_of got block)
+knows_by (gots.Datagram channel count) block old new knows = knows
+knows_by gots.Quiet block old new knows = knows
+knows_by gots.End block old new knows = knows
+knows_by gots.Failed block old new knows = knows
 
 -- ---- one link
 
@@ -45,6 +65,11 @@ rises_both false false a b c r s = omega (arith, r, s)
 rises_by : (p : Bool) (a b : ℕ) → RoseWhere p a b → RisesWith p a b
 rises_by true a b r = r
 rises_by false a b r = omega (arith, r)
+
+-- a count that rose, or stands, didn't fall
+never_falls : (p : Bool) (a b : ℕ) → RoseWhere p a b → a ≤ b
+never_falls true a b r = omega (arith, r)
+never_falls false a b r = omega (arith, r)
 
 served_then : {L : Type 0} (line : LinkTells L) (h i j : List Tried) (a b c : L) → IsServed line h i a b → IsServed line i j b c → IsServed line h j a c
 served_then line h i j a b c x y = record {
@@ -90,7 +115,8 @@ all_read {L} line flow session h place answer a b r link d among =
           let is : place ≡ link = sym (eqb-true link place yes) in
           served_same line _ (get_or a link d) (get_or b link d)
           (subst (λ (k : ℕ). line.taken (get_or b k d) ≡ line.taken (get_or a k d)) is (r.taken d))
-          (subst (λ (k : ℕ). line.faults (get_or a k d) ≤ line.faults (get_or b k d)) is (r.faults d))
+          (subst (λ (k : ℕ). line.faults (get_or a k d) ≤ line.faults (get_or b k d)) is
+          (never_falls (says_failed answer) (line.faults (get_or a place d)) (line.faults (get_or b place d)) (r.faults d)))
       | false ↦ λ no.
           let other : link ≢ place = λ (e : link ≡ place). cc (eq-eqb link place e) in
           let same : get_or b link d ≡ get_or a link d = r.others link d other in

@@ -2,9 +2,10 @@
 use Rattle.std.specs.Prelude.{◌≡◌, ◌≢◌, ◌≤◌, ◌<◌, ℕ, List, ◌++◌, length, slice_index_or, Bool, true, false}
 use Rattle.std.specs.Option.{option_map}
 use Rattle.std.specs.List.{list_any}
-use Rattle.outside_io.specs.Causes.{Rose}
+use Rattle.outside_io.specs.Causes.{Rose, RoseWhere}
+use Rattle.link_channels.specs.declared.channel.Channel.{Channel}
 use Rattle.outside_net.specs.Streams.{later, IsFirst}
-use Rattle.outside_net.specs.Links.{Answer, LinkTells}
+use Rattle.outside_net.specs.Links.{Answer, Gave, Quiet, End, Failed, LinkTells, IsOver, LearnsOf}
 use Rattle.rist_wire.specs.declared.session.Session.{Session}
 use Rattle.rist_sender.specs.Links.{Tried, datagrams_taken, is_failed}
 use Rattle.rist_sender.specs.History.{Event, tried_as, tried_on}
@@ -29,11 +30,40 @@ AreServed {L} line flow session old new was is =
     → IsServed line (tried_on (tried_as flow session) link old) (tried_on (tried_as flow session) link new)
     (slice_index_or was link d) (slice_index_or is link d)
 
--- one link gave an answer to a read, and the others stay
+-- the answer says that the read failed
+abbrev pub says_failed : Answer → Bool
+says_failed (Gave datagram) = false
+says_failed Quiet = false
+says_failed End = false
+says_failed Failed = true
+
+-- the answer says that no datagram will come any more
+abbrev pub says_end : Answer → Bool
+says_end (Gave datagram) = false
+says_end Quiet = false
+says_end End = true
+says_end Failed = false
+
+-- after a datagram its channel's peer is known, and of the others as it was; after any other answer the same peers are
+abbrev pub KnowsWith : (Channel → Bool) → (Channel → Bool) → Answer → Type 0
+KnowsWith old new (Gave datagram) = LearnsOf datagram.channel old new
+KnowsWith old new Quiet = (c : Channel) → new c ≡ old c
+KnowsWith old new End = (c : Channel) → new c ≡ old c
+KnowsWith old new Failed = (c : Channel) → new c ≡ old c
+
+-- One link gave an answer to a read, and the others stay. The answer is the first that it had to give, and no datagram
+-- is left after an end. Its count of faults rose exactly where the read failed, and its count of ends exactly where the
+-- answer is an end.
 pub record ReadsAt {L : Type 0} (line : LinkTells L) (link : ℕ) (answer : Answer) (was is : List L) : Type 0 where
   pub first : (d : L) → IsFirst (line.reads (slice_index_or was link d)) answer
   pub reads : (d : L) → line.reads (slice_index_or is link d)
       ≡ option_map later (line.reads (slice_index_or was link d))
+  pub over : (d : L) → IsOver answer (line.reads (slice_index_or is link d))
   pub taken : (d : L) → line.taken (slice_index_or is link d) ≡ line.taken (slice_index_or was link d)
-  pub faults : (d : L) → line.faults (slice_index_or was link d) ≤ line.faults (slice_index_or is link d)
+  pub knows : (d : L)
+      → KnowsWith (line.knows (slice_index_or was link d)) (line.knows (slice_index_or is link d)) answer
+  pub faults : (d : L) → RoseWhere (says_failed answer) (line.faults (slice_index_or was link d))
+      (line.faults (slice_index_or is link d))
+  pub ends : (d : L) → RoseWhere (says_end answer) (line.ends (slice_index_or was link d))
+      (line.ends (slice_index_or is link d))
   pub others : (k : ℕ) (d : L) → k ≢ link → slice_index_or is k d ≡ slice_index_or was k d
