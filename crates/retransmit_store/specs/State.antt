@@ -5,13 +5,13 @@ use Rattle.sender_rules.specs.Sendings.{Packet, Sending, last_sent_again}
 use Rattle.sender_rules.specs.Stored.{stored_packets}
 use Rattle.retransmit_store.specs.declared.store.Stored.{Stored}
 
--- how many packets there is room for, and the packets, the newest first, each with the tick at which it was last sent
--- again
+-- how many packets a store has room for, and its packets, the newest first, each with the tick at which it was last
+-- sent again
 pub record StoreState : Type 0 where
   pub size : ℕ
   pub packets : List Stored
 
--- the packets alone
+-- stored packets without the ticks at which they were sent again
 abbrev pub packets_of : List Stored → List Packet
 packets_of stored = map (λ p. p.sent) stored
 
@@ -27,7 +27,7 @@ stored_after history packet = record { sent = packet; mark = last_sent_again his
 pub record IsStoreAfter (state : StoreState) (history : List Sending) : Type 0 where
   pub packets : state.packets ≡ map (stored_after history) (stored_packets state.size history)
 
--- a number is one above that of the newest packet, or there is none
+-- a number is one above that of the newest packet, where there is one
 abbrev pub IsNext : List Stored → ℕ → Type 0
 IsNext [] number = Unit {0}
 IsNext (newest ∷ packets) number = number ≡ newest.sent.number + 1
@@ -41,7 +41,7 @@ abbrev pub stored_at : List Stored → Option ℕ → Option Stored
 stored_at packets None = None
 stored_at packets (Some place) = slice_get packets place
 
--- its mark
+-- the mark of a stored packet, if there is one
 abbrev pub mark_in : Option Stored → Option ℕ
 mark_in None = None
 mark_in (Some p) = p.mark
@@ -50,6 +50,6 @@ mark_in (Some p) = p.mark
 abbrev pub marked_with : ℕ → Stored → Stored
 marked_with at p = record { sent = p.sent; mark = Some at }
 
--- the packets, where the one with a number is marked
+-- stored packets, where the one with a number is marked
 abbrev pub with_mark : ℕ → ℕ → List Stored → List Stored
 with_mark number at packets = map (λ p. if number == p.sent.number then marked_with at p else p) packets

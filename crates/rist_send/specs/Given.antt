@@ -29,13 +29,13 @@ pub record GivesFirst (fault : SendFault) (octets : List ℕ) (left : Option (Li
   pub first : pieces_of octets ≡ given ++ pieces_of (dropped ++ rest)
   pub drops : Drops fault (length (joined given)) dropped rest
 
--- one that came to the end gave them all
+-- a run that came to the end gave all pieces
 pub record GivesAll (octets : List ℕ) (left : Option (List ℕ)) (given : List (List ℕ)) : Type 0 where
   pub ended : left ≡ Some []
   pub within : length octets ≤ 2 ^ 40
   pub all : given ≡ pieces_of octets
 
--- by the answer of a run
+-- what a run gave, by its answer
 abbrev pub Gives : Result Unit SendFault → List ℕ → Option (List ℕ) → List (List ℕ) → Type 0
 Gives (Ok done) octets left given = GivesAll octets left given
 Gives (Err fault) octets left given = GivesFirst fault octets left given

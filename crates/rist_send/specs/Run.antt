@@ -24,12 +24,12 @@ pub record Setup : Type 0 where
   pub session : Session
   pub links : ℕ
 
--- that of a sender over so many links
+-- what a run of a sender over so many links is set to
 abbrev pub setup_of : SendSettings → SenderState → ℕ → Setup
 setup_of settings s links = record { settings = settings; rules = rules_of s; session = s.session; links = links }
 
--- what its sender did; the pieces that it sent, the oldest first; how far it has come; and what its clock, its source
--- and the reads of each of its links have still to give, where they tell it
+-- what a run's sender did; the pieces that it sent, the oldest first; how far the run has come; and what its clock, its
+-- source and the reads of each of its links have still to give, where they tell it
 pub record Run : Type 0 where
   pub work : Work
   pub sent : List (List ℕ)

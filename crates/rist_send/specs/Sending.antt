@@ -19,7 +19,7 @@ abbrev pub StopsWith : Setup → Result Unit SendFault → Run → Type 0
 StopsWith setup (Ok done) to = is_over setup.settings.linger to.progress ≡ true
 StopsWith setup (Err fault) to = Unit {0}
 
--- all turns were made: whether the source had ended
+-- the answer of a run that made all its turns: Ok exactly where the source had ended
 abbrev pub result_at_last : Run → Result Unit SendFault
 result_at_last run = if has_ended run.progress.stage then Ok tt else Err TurnsSpent
 
@@ -29,7 +29,7 @@ pub record Stops (setup : Setup) (count : ℕ) (result : Result Unit SendFault) 
   pub turn : Turn setup result from to
   pub stops : StopsWith setup result to
 
--- all turns were made
+-- a run made all its turns
 pub record IsSpent (setup : Setup) (count : ℕ) (result : Result Unit SendFault) (from to : Run) : Type 0 where
   pub all : count ≡ setup.settings.turns
   pub same : to ≡ from

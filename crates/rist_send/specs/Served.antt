@@ -24,8 +24,8 @@ new_run work outside = record {
   answers = outside.answers;
 }
 
--- A run: it came to something of which this holds. The sender stands for its work; clock, source and links have given
--- just what it took; and each link was given just the datagrams of its work.
+-- A run came to something of which P holds. The sender stands for its work; clock, source and links have given just
+-- what it took; and each link was given just the datagrams of its work.
 pub record Runs {L : Type 0} (line : LinkTells L) (old new : SenderState) (outside : Outside) (was is : List L)
     (from : Work)
     (P : Run → Type 0) : Type 0 where

@@ -3,7 +3,7 @@ use Rattle.std.specs.Prelude.{ℕ, List, codes}
 use Rattle.rist_send.specs.declared.fault.SendFault.{SendFault}
 use Rattle.rist_send.specs.declared.fault.SendFault.TheVariants.{ReadFault, LinksDown, Spent, TooLong, TurnsSpent}
 
--- the text of each
+-- the text of an answer
 abbrev pub text_of : SendFault → List ℕ
 text_of ReadFault = codes "read failed"
 text_of LinksDown = codes "all links down"

@@ -64,7 +64,7 @@ abbrev pub with_piece : ℕ → ℕ → Run → Run
 with_piece k count run =
     record run { progress = record run.progress { stage = stage_after run.progress.moment k count } }
 
--- piece k was read, or why not
+-- what follows a read of piece k: the piece is sent, or the read's fault is answered
 abbrev pub SendsRead : Setup → ℕ → Result (List ℕ) PieceFault → Result Unit SendFault → Run → Run → Type 0
 SendsRead setup k (Err fault) result from to = (result ≡ Err (fault_of fault)) × (to ≡ from)
 SendsRead setup k (Ok []) result from to = Stays result (with_piece k 0 from) to
@@ -78,7 +78,7 @@ pub record BringsPiece (setup : Setup) (k : ℕ) (result : Result Unit SendFault
   pub reads : ReadsPiece k from.octets left reading
   pub sends : SendsRead setup k reading result (record from { octets = left }) to
 
--- the next piece, where it is due
+-- the next piece is read and sent, where it is due
 abbrev pub BringsNext : Setup → Stage → Result Unit SendFault → Run → Run → Type 0
 BringsNext setup (Reading k) result from to =
     IfElse (is_due setup.settings from.progress k) (BringsPiece setup k result from to) (Stays result from to)
@@ -127,12 +127,12 @@ pub record ReadsOn (setup : Setup) (link : ℕ) (result : Result Unit SendFault)
   pub first : IsFirst (slice_index_or from.answers link None) answer
   pub answers : AnswersIf setup link (compound_in setup.session answer) result (with_answer link answer from) to
 
--- a link, where it is read
+-- a link is read once, where it is still read
 abbrev pub ReadsLink : Setup → ℕ → Result Unit SendFault → Run → Run → Type 0
 ReadsLink setup link result from to =
     IfElse (is_read link from) (ReadsOn setup link result from to) (Stays result from to)
 
--- one link after another
+-- one link after another is read
 abbrev pub ReadsInTurn : Setup → List ℕ → Result Unit SendFault → Run → Run → Type 0
 ReadsInTurn setup [] result from to = Stays result from to
 ReadsInTurn setup (link ∷ links) result from to =
@@ -149,16 +149,16 @@ pub record TicksOnce (setup : Setup) (result : Result Unit SendFault) (from to :
 
 -- ---- the turn
 
--- links, and then the tick
+-- the links are read, and then the sender's clock ticks
 abbrev pub ReadsAndTicks : Setup → Result Unit SendFault → Run → Run → Type 0
 ReadsAndTicks setup result from to =
     Follows (ReadsInTurn setup (range_with_len 0 setup.links)) (TicksOnce setup) result from to
 
--- the moment was given
+-- the clock gave this moment
 abbrev pub with_moment : ℕ → Run → Run
 with_moment moment run = record run { progress = begun_at moment run.progress; moments = option_map later run.moments }
 
--- a turn
+-- a turn: a moment, the next piece, the links, and the tick
 pub record Turn (setup : Setup) (result : Result Unit SendFault) (from to : Run) : Type 0 where
   pub moment : ℕ
   pub first : IsFirst from.moments moment

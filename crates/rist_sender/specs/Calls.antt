@@ -33,15 +33,16 @@ pub record Work : Type 0 where
   pub sealer : Option SealerState
   pub is_short : Bool
 
--- one more event
+-- the work after one more event
 abbrev pub with_event : Event → Work → Work
 with_event event work = record { history = event ∷ work.history; sealer = work.sealer; is_short = work.is_short }
 
--- a call begins
+-- the work where a call begins
 abbrev pub called_at : ℕ → Work → Work
 called_at micros work = record { history = Called micros ∷ work.history; sealer = work.sealer; is_short = false }
 
--- another flow begins: its numbers and counts are its own, and sealer, effective time and links are those of before
+-- the work where another flow begins: numbers and counts are those of this flow, and sealer, effective time and links
+-- are those of before
 abbrev pub renewed_as : ℕ → ℕ → Work → Work
 renewed_as flow first work = record {
   history = Renewed flow first ∷ work.history;
@@ -49,7 +50,7 @@ renewed_as flow first work = record {
   is_short = false;
 }
 
--- a datagram has no pair
+-- the work where a datagram has no pair
 abbrev pub without_pair : Work → Work
 without_pair work = record { history = work.history; sealer = work.sealer; is_short = true }
 
@@ -84,7 +85,7 @@ after_due tick due answer work =
     if is_down work.history due.link then work
     else (if is_spent work.sealer then without_pair work else after_write tick due answer work)
 
--- one datagram after another, each with whatever its link answers
+-- datagrams that are due are written one after another, each with whatever its link answers
 abbrev pub WritesInTurn : ℕ → List Due → Work → Work → Type 0
 WritesInTurn tick [] from to = to ≡ from
 WritesInTurn tick (due ∷ dues) from to = (answer : Answer) × WritesInTurn tick dues (after_due tick due answer from) to
@@ -109,22 +110,22 @@ abbrev pub links_tried : Bonding → ℕ → List ℕ
 links_tried (Duplicate links) k = range_with_len 0 links
 links_tried (Share weights) k = links_from (link_for weights k) (length weights)
 
--- one link is enough
+-- one link is enough for a payload: by sharing, not by duplication
 abbrev pub is_sharing : Bonding → Bool
 is_sharing (Duplicate links) = false
 is_sharing (Share weights) = true
 
--- the one datagram of a payload, enciphered once, is written on a link unless that is down
+-- the work after the one datagram of a payload, enciphered once, was tried on a link: it is written unless that is down
 abbrev pub after_copy : ℕ → Option Pair → Message → ℕ → Answer → Work → Work
 after_copy tick pair message link answer work =
     if is_down work.history link then work
     else with_event (Wrote (written_as tick pair (record { link = link; message = message }) answer)) work
 
--- it went on a link, where one is enough: the link was up, and the write didn't fail
+-- a payload's datagram went on a link, and one is enough: the link was up, and the write didn't fail
 abbrev pub is_settled : Bool → ℕ → Answer → Work → Bool
 is_settled one link answer work = one && (not (is_down work.history link) && not (is_failed answer))
 
--- the datagram on one link after another; where one is enough, up to the first write that doesn't fail
+-- a payload's datagram is tried on one link after another; where one is enough, up to the first write that doesn't fail
 abbrev pub Spreads : Bool → ℕ → Option Pair → Message → List ℕ → Work → Work → Type 0
 Spreads one tick pair message [] from to = to ≡ from
 Spreads one tick pair message (link ∷ links) from to =
@@ -187,7 +188,7 @@ abbrev pub rtt_answer : Status → Option EchoOf → List Message
 rtt_answer status None = []
 rtt_answer status (Some echo) = RttAnswer status echo ∷ []
 
--- these messages are due on a link
+-- messages that are due on a link
 abbrev pub on_link : ℕ → List Message → List Due
 on_link link messages = map (λ message. record { link = link; message = message }) messages
 
@@ -213,7 +214,7 @@ report_due micros history link =
     if has_passed_since report_interval (effective_time history) (last_time is_report history link)
     then Report (status_at micros history) ∷ [] else []
 
--- its keepalive, where it is due
+-- the keepalive of a link, where it is due
 abbrev pub keepalive_due : Bool → List Event → ℕ → List Message
 keepalive_due keepalives history link =
     if keepalives && has_passed_since keepalive_interval (effective_time history) (last_time is_alive history link)
@@ -227,7 +228,7 @@ pub record TicksOn (keepalives : Bool) (micros link : ℕ) (from to : Work) : Ty
   pub keepalive : WritesInTurn (effective_time between.history)
       (on_link link (keepalive_due keepalives between.history link)) between to
 
--- link after link
+-- a tick on one link after another
 abbrev pub TicksInTurn : Bool → ℕ → List ℕ → Work → Work → Type 0
 TicksInTurn keepalives micros [] from to = to ≡ from
 TicksInTurn keepalives micros (link ∷ links) from to =

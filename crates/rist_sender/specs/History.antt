@@ -28,7 +28,7 @@ pub data Event : Type 0 where
   Wrote : Write → Event
   Renewed : ℕ → ℕ → Event
 
--- the effective time: the greatest tick so far. A clock may go back, and this does not
+-- the effective time is the greatest tick so far: a clock may go back, and this time does not
 abbrev pub effective_time : List Event → ℕ
 effective_time [] = 0
 effective_time (Called micros ∷ before) = max (tick_of micros) (effective_time before)
@@ -67,7 +67,7 @@ octet_count (Sent packet ∷ before) = octet_count before + length packet.payloa
 octet_count (Wrote write ∷ before) = octet_count before
 octet_count (Renewed flow first ∷ before) = 0
 
--- one for a retransmission that didn't fail
+-- a message counts as one where it is a retransmission whose write didn't fail, else as none
 abbrev pub counted_again : Message → Answer → ℕ
 counted_again (Original packet) answer = 0
 counted_again (Retransmission packet) answer = if is_failed answer then 0 else 1

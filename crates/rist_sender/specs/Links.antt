@@ -14,18 +14,18 @@ pub record Tried : Type 0 where
   pub octets : List ℕ
   pub answer : Answer
 
--- the datagram, where the link took it
+-- a datagram that was written, where its link took it
 abbrev pub taken_as : Channel → List ℕ → Answer → List Datagram
 taken_as channel octets Took = record { channel = channel; octets = octets } ∷ []
 taken_as channel octets NoPeer = []
 taken_as channel octets Failed = []
 
--- those that the link took, in order
+-- the datagrams that a link took, of those that were written on it, in order
 abbrev pub datagrams_taken : List Tried → List Datagram
 datagrams_taken [] = []
 datagrams_taken (tried ∷ more) = taken_as tried.channel tried.octets tried.answer ++ datagrams_taken more
 
--- the write failed
+-- the answer says that the write failed
 abbrev pub is_failed : Answer → Bool
 is_failed Took = false
 is_failed NoPeer = false
@@ -37,8 +37,8 @@ IsBy knows channel Took = knows channel ≡ true
 IsBy knows channel NoPeer = knows channel ≡ false
 IsBy knows channel Failed = Unit {0}
 
--- These datagrams were written on a link, in order, and nothing else: it took those that it took behind what it had
--- taken, where it tells that, and its count of faults rose exactly where a write failed.
+-- A link was given these datagrams, in order, and nothing else: it took those that it took behind what it had taken,
+-- where it tells that, and its count of faults rose exactly where a write failed.
 pub record Delivers {L : Type 0} (line : LinkTells L) (tried : List Tried) (was is : L) : Type 0 where
   pub taken : line.taken is ≡ option_map (λ had. had ++ datagrams_taken tried) (line.taken was)
   pub answers : AllByRecursion (λ t. IsBy (line.knows was) t.channel t.answer) tried

@@ -56,7 +56,7 @@ report_packets flow status =
     (status.packets % 2 ^ 32) (status.octets % 2 ^ 32) []
     ∷ description 1 (to_be_bytes w32 flow ++ name_item) ∷ []
 
--- their octets
+-- the octets that each compound begins with
 abbrev pub report_octets : ℕ → Status → List ℕ
 report_octets flow status =
     sr_octets flow (seconds_of status.micros) (fraction_of status.micros) (rtp_time_of status.micros)
@@ -69,16 +69,16 @@ abbrev pub told_packets : Bool → ℕ → Status → List Content
 told_packets false flow status = report_packets flow status
 told_packets true flow status = report_packets flow status ++ request flow status.micros ∷ []
 
--- their octets
+-- the octets of a report, and of the RTT request behind it where it asks
 abbrev pub told_octets : Bool → ℕ → Status → List ℕ
 told_octets false flow status = report_octets flow status
 told_octets true flow status = report_octets flow status ++ request_octets flow status.micros
 
--- an RTT request is answered without delay
+-- an RTT request is answered without delay, behind a report
 abbrev pub answer_packets : ℕ → Status → EchoOf → List Content
 answer_packets flow status echo = report_packets flow status ++ response echo 0 ∷ []
 
--- their octets
+-- the octets of the answer to an RTT request
 abbrev pub answer_octets : ℕ → Status → EchoOf → List ℕ
 answer_octets flow status echo = report_octets flow status ++ response_octets echo 0
 
@@ -98,7 +98,7 @@ kind_of (Report status) = kinds.Control
 kind_of (RttAnswer status echo) = kinds.Control
 kind_of Alive = kinds.Keepalive
 
--- its octets, without the headers of the tunnel, by how many bits numbers have and whether reports ask
+-- a message's octets, without the headers of the tunnel, by how many bits numbers have and whether reports ask
 abbrev pub message_octets : ℕ → Width → Bool → Message → List ℕ
 message_octets flow width asks (Original packet) = media_octets width (media_of flow false packet)
 message_octets flow width asks (Retransmission packet) = media_octets width (media_of flow true packet)
@@ -106,11 +106,11 @@ message_octets flow width asks (Report status) = told_octets asks flow status
 message_octets flow width asks (RttAnswer status echo) = answer_octets flow status echo
 message_octets flow width asks Alive = keepalive_spelling (keepalive_of flow)
 
--- the channel of its datagram in a session
+-- the channel of a message's datagram in a session
 abbrev pub message_channel : Session → Message → Channel
 message_channel session message = channel_of session (kind_of message)
 
--- its datagram in a session, under a pair where it is enciphered
+-- a message's datagram in a session, under a pair where it is enciphered
 abbrev pub message_datagram : ℕ → Session → Option Pair → Message → List ℕ
 message_datagram flow session pair message =
     datagram_of session pair (kind_of message) (message_octets flow session.width session.echo message)

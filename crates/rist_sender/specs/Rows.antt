@@ -9,7 +9,7 @@ use Rattle.rist_sender.specs.Messages.{Retransmission}
 use Rattle.rist_sender.specs.History.{Event, Called, Sent, Wrote}
 use Rattle.rist_sender.specs.Calls.{Rules, packets_again}
 
--- what it is set to
+-- the rules that the sender is set to
 abbrev pub rules : Rules
 rules =
     record {
@@ -31,7 +31,7 @@ abbrev pub sent : ℕ → ℕ → List Event
 sent first zero = []
 sent first (suc count) = Sent (packet (first + count)) ∷ Called 0 ∷ sent first count
 
--- one was sent again at 0, and the link took it
+-- a packet was sent again at 0, and its link took it
 abbrev pub again : ℕ → List Event → List Event
 again number before =
     Wrote (record { link = 0; message = Retransmission (packet number); pair = None; tick = 0; answer = Took }) ∷ before

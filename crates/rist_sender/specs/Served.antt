@@ -23,7 +23,7 @@ pub record IsServed {L : Type 0} (line : LinkTells L) (had has : List Tried) (wa
   pub taken : line.taken is ≡ option_map (λ held. held ++ datagrams_taken gained) (line.taken was)
   pub faults : RisesWith (list_any (λ tried. is_failed tried.answer) gained) (line.faults was) (line.faults is)
 
--- each link was
+-- each link was given the datagrams that its history gained, and no others
 abbrev pub AreServed : {L : Type 0} → LinkTells L → ℕ → Session → List Event → List Event → List L → List L → Type 0
 AreServed {L} line flow session old new was is =
     (link : ℕ) (d : L) → link < length was

@@ -23,7 +23,7 @@ IsPlace (Ended moment) = Unit {0}
 abbrev pub with_source : Run → Option (List ℕ) → List (Option (ℕ → Answer)) → Outside
 with_source run octets answers = record { moments = run.moments; octets = octets; answers = answers }
 
--- the same run, whose links have these answers still to give
+-- the outside of a run whose links have these answers still to give
 abbrev pub with_links : Run → List (Option (ℕ → Answer)) → Outside
 with_links run answers = record { moments = run.moments; octets = run.octets; answers = answers }
 
@@ -35,7 +35,7 @@ pub record IsAt (s : SenderState) (p : Progress) (outside : Outside) (run : Run)
   pub octets : run.octets ≡ outside.octets
   pub answers : run.answers ≡ outside.answers
 
--- a part of a run: it comes to something of which this holds
+-- a part of a run comes to a run of which P holds
 pub record Moves {L : Type 0} (line : LinkTells L) (old new : SenderState) (progress : Progress) (outside : Outside)
     (was is : List L) (from : Run) (P : Run → Type 0) : Type 0 where
   pub to : Run
@@ -43,8 +43,8 @@ pub record Moves {L : Type 0} (line : LinkTells L) (old new : SenderState) (prog
   pub stands : IsAt new progress outside to
   pub given : AreServed line old.flow old.session from.work.history to.work.history was is
 
--- a part of a run that comes neither to its clock nor to its source: from where a run has come to, it comes to
--- something of which this holds
+-- a part of a run that comes neither to its clock nor to its source: from where a run has come to, it comes to a run of
+-- which P holds
 abbrev pub MovesBy : {L : Type 0} → LinkTells L → SenderState → SenderState → Progress → Progress → List L → List L
     → (Setup → Run → Run → Type 0) → Type 0
 MovesBy line old new before after was is P =

@@ -20,7 +20,7 @@ abbrev pub numbers_from : Width → ℕ → ℕ → List AskedNumber
 numbers_from width next count =
     map (λ word. record { width = width; word = word }) (following (cycle_of width) count next)
 
--- those of the ask that is being read, and those of the asks behind it
+-- the numbers of the ask that is being read, and those of the asks behind it
 abbrev pub numbers_left : Width → ℕ → ℕ → List Ask → List AskedNumber
 numbers_left width next count asks = numbers_from width next count ++ flat_map numbers_of asks
 

@@ -20,27 +20,27 @@ use Rattle.rist_sender.specs.Calls.{Work, Due, Rules, after_due, on_link, Answer
 use Rattle.rist_sender.specs.Calls.{Spreads, WritesInTurn, TicksOn, TicksInTurn}
 use Rattle.rist_sender.specs.Inside.Numbers.{number_again}
 
--- whether it came to a datagram without a pair
+-- whether a part of a call came to a datagram without a pair; where one did, no pair is left
 pub record IsShort (short : Bool) (to : Work) : Type 0 where
   pub pair : to.is_short ≡ short
   pub spent : short ≡ true → is_spent to.sealer ≡ true
 
--- what was done for it, with this answer, and whether it had no pair
+-- what was done for a datagram that was due on a link, with this answer, and whether it had no pair
 pub record PutsWith (tick link : ℕ) (message : Message) (answer : Answer) (short : Bool) (from to : Work) : Type 0 where
   pub is : to ≡ after_due tick (record { link = link; message = message }) answer from
   pub ends : IsShort short to
 
--- the same with whatever its link answered
+-- what was done for a datagram that was due on a link, whatever the link answered
 pub record PutsOn (tick link : ℕ) (message : Message) (short : Bool) (from to : Work) : Type 0 where
   pub answer : Answer
   pub with_answer : PutsWith tick link message answer short from to
 
--- a retransmission, by what the sender says of it
+-- what was done for a retransmission, by what the sender says of it
 abbrev pub PutsAgain : {E : Type 0} → ℕ → ℕ → Packet → Result Answer E → Work → Work → Type 0
 PutsAgain tick link packet (Ok answer) from to = PutsWith tick link (Retransmission packet) answer false from to
 PutsAgain tick link packet (Err spent) from to = PutsWith tick link (Retransmission packet) Took true from to
 
--- these are written in turn, up to one without a pair
+-- datagrams that are due are written in turn, up to one without a pair
 pub record WritesDues (tick : ℕ) (dues : List Due) (short : Bool) (from to : Work) : Type 0 where
   pub writes : WritesInTurn tick dues from to
   pub ends : IsShort short to
@@ -109,8 +109,8 @@ pub record AnswersBefore (size hold tick link count left : ℕ) (asked all : Lis
 
 -- ---- a payload's datagram
 
--- It was tried on these links: where one of them was enough, it stops there, whatever links would follow; else it goes
--- on with those that follow.
+-- A payload's datagram was tried on these links: where one of them was enough, it stops there, whatever links would
+-- follow; else it goes on with those that follow.
 abbrev pub SpreadsOver : Bool → ℕ → Option Pair → Message → List ℕ → Bool → Work → Work → Type 0
 SpreadsOver one tick pair message links true from to =
     (rest : List ℕ) → Spreads one tick pair message (links ++ rest) from to
@@ -118,7 +118,7 @@ SpreadsOver one tick pair message links false from to =
     (rest : List ℕ) (last : Work) → Spreads one tick pair message rest to last
     → Spreads one tick pair message (links ++ rest) from last
 
--- on one link
+-- a payload's datagram was tried on one link, and whether that was enough
 pub record CopiesOn (one : Bool) (tick : ℕ) (pair : Option Pair) (message : Message) (link : ℕ) (settled : Bool)
     (from to : Work) : Type 0 where
   pub answer : Answer
@@ -132,20 +132,20 @@ pub record IsPacketIn (s : SenderState) (pair : Option Pair) (packet : Packet) (
   pub channel : way ≡ message_channel s.session (Original packet)
   pub datagram : octets ≡ message_datagram s.flow s.session pair (Original packet)
 
--- on some links
+-- a payload's datagram was tried on some links, and whether one of them was enough
 pub record SpreadsPart (one : Bool) (tick : ℕ) (pair : Option Pair) (message : Message) (links : List ℕ)
     (settled : Bool) (from to : Work) : Type 0 where
   pub spreads : SpreadsOver one tick pair message links settled from to
   pub short : to.is_short ≡ from.is_short
 
--- it was tried on the links before these: whatever these leave, all of them leave
+-- a payload's datagram was tried on the links before these: whatever these leave, all of them leave
 pub record SpreadsBefore (one : Bool) (tick : ℕ) (pair : Option Pair) (message : Message) (links all : List ℕ)
     (from to : Work) : Type 0 where
   pub rest : (others : List ℕ) (last : Work) → Spreads one tick pair message (links ++ others) to last
       → Spreads one tick pair message (all ++ others) from last
   pub short : to.is_short ≡ from.is_short
 
--- on all its links
+-- a payload's datagram was tried on all its links
 pub record SpreadsAll (one : Bool) (tick : ℕ) (pair : Option Pair) (message : Message) (links : List ℕ)
     (from to : Work) : Type 0 where
   pub spreads : Spreads one tick pair message links from to
@@ -163,7 +163,7 @@ pub record TicksLink (keepalives : Bool) (micros link : ℕ) (short : Bool) (fro
   pub ticks : TicksOn keepalives micros link from to
   pub ends : IsShort short to
 
--- on one link after another
+-- a tick on one link after another, up to a datagram without a pair
 pub record TicksLinks (keepalives : Bool) (micros : ℕ) (links : List ℕ) (short : Bool) (from to : Work) : Type 0 where
   pub ticks : TicksInTurn keepalives micros links from to
   pub ends : IsShort short to
