@@ -108,39 +108,20 @@ fn push_fault(
 ) -> Result<(), NoMemory> {
     match test {
         Test::Name(position) => push_place(text, position, None, "a name isn't empty"),
-        Test::NumberAt(position, numbers) => {
-            push_place(text, position, given(values, position), "")?;
-            push_numbers(text, numbers)
-        }
+        Test::NumberAt(position, numbers) => push_number_at(text, values, position, numbers),
         Test::Number(option, numbers) => push_number(text, option, given(values, option), numbers),
         Test::Profile(option) => push_option(text, option, given(values, option), "simple or main"),
-        Test::Pass(by, option) => match profile_by(values, by) {
-            Profile::Simple => push_main(text, by, option),
-            Profile::Main => push_pass(text, option),
-        },
+        Test::Pass(by, option) => push_pass_by(text, values, by, option),
         Test::MainFlag(by, flag) => push_main(text, by, flag),
-        Test::Tunnel(by, option) => match profile_by(values, by) {
-            Profile::Simple => push_main(text, by, option),
-            Profile::Main => push_tunnel(text, values, option),
-        },
+        Test::Tunnel(by, option) => push_tunnel_by(text, values, by, option),
         Test::Incoming => push_incoming(text, values),
-        Test::First => {
-            push_number(
-                text,
-                "first",
-                given(values, "first"),
-                firsts(is_set(values, "wide")),
-            )
-        }
+        Test::First => push_first(text, values),
         Test::Pcap => push_pcap(text, values, profile_in(values)),
         Test::Nack => push_option(text, "nack", given(values, "nack"), "range or mask"),
         Test::Links => push_links(text, values),
         Test::Inputs => push_inputs(text, values),
         Test::GateLinks => push_gate_links(text, values),
-        Test::SendShare | Test::GateShare => {
-            let why = "a weight of 1 to 100 for each link that sends, as 3:1";
-            push_option(text, "share", given(values, "share"), why)
-        }
+        Test::SendShare | Test::GateShare => push_share(text, values),
         Test::Outs => push_outs(alloc, text, values),
         Test::MainPass(option) => push_pass(text, option),
         Test::MainTunnel(option) => push_tunnel(text, values, option),
@@ -191,6 +172,23 @@ fn push_number(
     push_numbers(text, numbers)
 }
 
+/// A position, what is given there, and the numbers that are taken.
+fn push_number_at(
+    text: &mut String,
+    values: &ArgMatches<'_>,
+    position: &str,
+    numbers: Numbers,
+) -> Result<(), NoMemory> {
+    push_place(text, position, given(values, position), "")?;
+    push_numbers(text, numbers)
+}
+
+/// The first number of a flow, by how many bits numbers have.
+fn push_first(text: &mut String, values: &ArgMatches<'_>) -> Result<(), NoMemory> {
+    let numbers = firsts(is_set(values, "wide"));
+    push_number(text, "first", given(values, "first"), numbers)
+}
+
 /// The numbers that are taken.
 fn push_numbers(text: &mut String, numbers: Numbers) -> Result<(), NoMemory> {
     let (least, most) = (numbers.least, numbers.most);
@@ -225,9 +223,35 @@ fn push_pass(text: &mut String, option: &str) -> Result<(), NoMemory> {
     push_option(text, option, None, "1 to 128 octets")
 }
 
+/// That a passphrase is given in the Simple Profile, or hasn't its length.
+fn push_pass_by(
+    text: &mut String,
+    values: &ArgMatches<'_>,
+    by: &str,
+    option: &str,
+) -> Result<(), NoMemory> {
+    match profile_by(values, by) {
+        Profile::Simple => push_main(text, by, option),
+        Profile::Main => push_pass(text, option),
+    }
+}
+
 /// That the form of the tunnel is none.
 fn push_tunnel(text: &mut String, values: &ArgMatches<'_>, option: &str) -> Result<(), NoMemory> {
     push_option(text, option, given(values, option), "own or librist")
+}
+
+/// That a form of the tunnel is given in the Simple Profile, or is none.
+fn push_tunnel_by(
+    text: &mut String,
+    values: &ArgMatches<'_>,
+    by: &str,
+    option: &str,
+) -> Result<(), NoMemory> {
+    match profile_by(values, by) {
+        Profile::Simple => push_main(text, by, option),
+        Profile::Main => push_tunnel(text, values, option),
+    }
 }
 
 fn push_pcap(text: &mut String, values: &ArgMatches<'_>, profile: Profile) -> Result<(), NoMemory> {
@@ -300,6 +324,12 @@ fn push_inputs(text: &mut String, values: &ArgMatches<'_>) -> Result<(), NoMemor
         }
         _ => push_place(text, "link", None, "a gateway has at least two"),
     }
+}
+
+/// That the weights are none.
+fn push_share(text: &mut String, values: &ArgMatches<'_>) -> Result<(), NoMemory> {
+    let why = "a weight of 1 to 100 for each link that sends, as 3:1";
+    push_option(text, "share", given(values, "share"), why)
 }
 
 fn push_outs(alloc: Global, text: &mut String, values: &ArgMatches<'_>) -> Result<(), NoMemory> {
