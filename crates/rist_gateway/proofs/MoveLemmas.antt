@@ -6,7 +6,7 @@ use Rattle.outside_net.specs.Links.{Answer}
 use Rattle.rist_wire.specs.declared.session.Session.{Session}
 use Rattle.outside_net.specs.Links.{LinkTells}
 use Rattle.rist_sender.specs.Calls.{Work, Rules}
-use Rattle.rist_sender.specs.Sender.{SenderState, StaysSet, Does}
+use Rattle.rist_sender.specs.Sender.{SenderState, StaysSet, DoesWork}
 use Rattle.sender_rules.specs.declared.send_bad.SendBad.{SendBad}
 use Rattle.rist_sender.specs.Served.{AreServed}
 use Rattle.rist_sender.specs.Served.{ReadsAt}
@@ -21,7 +21,7 @@ goes_none line s m ls from P far fact = record { to = from; fact = fact; stands 
 
 -- a call of the sender; the clock gave what it did
 pub goes_call : {L : Type 0} (line : LinkTells L) (s t : SenderState) (m n : Passed) (was is : List L) (from : Course) (P : Work → Type 0) (R : Course → Type 0)
-    → length is ≡ length was → IsFar line s m was from → Does line s t was is from.work P
+    → length is ≡ length was → IsFar line s m was from → DoesWork line s t was is from.work P
     → ((w : Work) → P w → R (record from { work = w; passed = n })) → Goes line s t n was is from R
 goes_call line s t m n was is from P R long far d both = record {
   to = record from { work = d.to; passed = n };

@@ -6,7 +6,7 @@ use Rattle.outside_net.specs.Links.{Answer}
 use Rattle.rist_wire.specs.declared.session.Session.{Session}
 use Rattle.outside_net.specs.Links.{LinkTells}
 use Rattle.rist_sender.specs.Calls.{Work, Rules}
-use Rattle.rist_sender.specs.Sender.{SenderState, StaysSet, Does}
+use Rattle.rist_sender.specs.Sender.{SenderState, StaysSet, DoesWork}
 use Rattle.rist_send.specs.declared.progress.Progress.{Progress}
 use Rattle.rist_send.specs.declared.fault.SendFault.{SendFault}
 use Rattle.rist_send.specs.declared.settings.SendSettings.{SendSettings}
@@ -35,7 +35,7 @@ moves_none line s p o ls from P to same at fact = record {
 
 -- a call of the sender, after which the rest is as in a base
 pub moves_call : {L : Type 0} (line : LinkTells L) (s t : SenderState) (p : Progress) (o : Outside) (was is : List L) (from base : Run) (P : Work → Type 0) (R : Run → Type 0)
-    → base.work ≡ from.work → length is ≡ length was → o.answers ≡ map line.reads was → IsAt s p o base → Does line s t was is from.work P
+    → base.work ≡ from.work → length is ≡ length was → o.answers ≡ map line.reads was → IsAt s p o base → DoesWork line s t was is from.work P
     → ((w : Work) → P w → R (record base { work = w })) → Moves line s t p (with_reads o (map line.reads is)) was is from R
 moves_call line s t p o was is from base P R same long reads at d both = record {
   to = record base { work = d.to };

@@ -15,7 +15,7 @@ use Rattle.rist_sender.specs.Links.{Tried, WritesOn, is_failed}
 use Rattle.rist_sender.specs.Messages.{Message, Original, message_channel, message_datagram, report_octets, told_octets, seconds_of, fraction_of, rtp_time_of}
 use Rattle.rist_sender.specs.History.{Wrote, is_down, tried_as}
 use Rattle.rist_sender.specs.Calls.{Work, Due, Rules, with_event, without_pair, written_as, after_write, after_due, after_copy, is_settled, IfElse, Spreads}
-use Rattle.rist_sender.specs.Sender.{SenderState, IsSenderAfter, StaysSet, AreGiven, Does}
+use Rattle.rist_sender.specs.Sender.{SenderState, IsSenderAfter, StaysSet, AreGiven, DoesWork}
 use Rattle.rist_sender.specs.Inside.Puts.{PutsWith, PutsOn, IsPacketIn, CopiesOn}
 use Rattle.rist_sender.specs.Inside.Kept.{down_with}
 use Rattle.rist_sender.proofs.GivenLemmas.{given_none, given_one}
@@ -44,7 +44,7 @@ as_seen flow session tick pair link message a channel octets on spelled =
 -- no pair was left
 pub put_short : {L : Type 0} (line : LinkTells L) (old new : SenderState) (was is : List L) (from : Work) (tick link : ℕ) (message : Message)
     → IsSenderAfter old from → is_down from.history link ≡ false → is_spent from.sealer ≡ true → new ≡ old → is ≡ was
-    → Does line old new was is from (PutsWith tick link message Took true from)
+    → DoesWork line old new was is from (PutsWith tick link message Took true from)
 put_short {L} line old new was is from tick link message stands up spent same kept = record {
   to = without_pair from;
   fact = record { is = sym (due_short tick (record { link = link; message = message }) Took from up spent); ends = record { pair = refl; spent = λ _. spent } };
@@ -59,7 +59,7 @@ pub put_made : {L : Type 0} (line : LinkTells L) (old new : SenderState) (was is
     → IsSenderAfter new (after_write tick (record { link = link; message = message }) a from)
     → WritesOn line link (record { channel = channel; octets = octets; answer = a }) was is
     → channel ≡ message_channel old.session message → octets ≡ message_datagram old.flow old.session (next_pair from.sealer) message
-    → Does line old new was is from (PutsWith tick link message a false from)
+    → DoesWork line old new was is from (PutsWith tick link message a false from)
 put_made line old new was is from tick link message a channel octets up left fresh stands writes on spelled =
     let due : Due = record { link = link; message = message } in record {
       to = after_write tick due a from;
@@ -106,7 +106,7 @@ told_same true flow micros packets count octets total e f = ap (λ (xs : List �
 
 -- whatever its link answered
 pub does_some : {L : Type 0} (line : LinkTells L) (old new : SenderState) (was is : List L) (from : Work) (tick link : ℕ) (message : Message) (a : Answer) (short : Bool)
-    → Does line old new was is from (PutsWith tick link message a short from) → Does line old new was is from (PutsOn tick link message short from)
+    → DoesWork line old new was is from (PutsWith tick link message a short from) → DoesWork line old new was is from (PutsOn tick link message short from)
 does_some line old new was is from tick link message a short d =
     record { to = d.to; fact = record { answer = a; with_answer = d.fact }; stands = d.stands; given = d.given }
 
@@ -119,7 +119,7 @@ pub copy_made : {L : Type 0} (line : LinkTells L) (old new : SenderState) (was i
     → new ≡ record old { down = down_with link a old.down }
     → WritesOn line link (record { channel = channel; octets = octets; answer = a }) was is
     → (one && not (is_failed a)) ≡ settled
-    → Does line old new was is from (CopiesOn one old.time pair (Original packet) link settled from)
+    → DoesWork line old new was is from (CopiesOn one old.time pair (Original packet) link settled from)
 copy_made line old new was is from one pair packet link a channel octets settled stands few up spells state writes settles =
     let w = written_as old.time pair (record { link = link; message = Original packet }) a in
     let to = with_event (Wrote w) from in

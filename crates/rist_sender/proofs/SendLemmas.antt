@@ -15,7 +15,7 @@ use Rattle.outside_net.specs.Links.{LinkTells}
 use Rattle.rist_sender.specs.Messages.{Message, Original}
 use Rattle.rist_sender.specs.History.{packet_count, effective_time}
 use Rattle.rist_sender.specs.Calls.{Work, Rules, without_pair, after_sent, is_ended, is_sharing, links_tried, packet_for, IfElse, Spreads, SendsPacket, SendsNext, IsAnswer}
-use Rattle.rist_sender.specs.Sender.{SenderState, AreGiven, Does}
+use Rattle.rist_sender.specs.Sender.{SenderState, AreGiven, DoesWork}
 use Rattle.rist_sender.specs.Inside.Puts.{SpreadsOver}
 
 -- ---- the plan
@@ -88,7 +88,7 @@ sends_one rules payload from to packet pair tick k bonding on is paired timed co
 -- a payload took its number, and its datagram is written
 pub does_sent : {L : Type 0} (line : LinkTells L) (a b c : SenderState) (ls ns : List L) (from : Work) (packet : Packet) (Q R : Work → Type 0)
     → b.flow ≡ a.flow → b.session ≡ a.session
-    → Does line b c ls ns (after_sent packet from) Q → ((to : Work) → Q to → R to) → Does line a c ls ns from R
+    → DoesWork line b c ls ns (after_sent packet from) Q → ((to : Work) → Q to → R to) → DoesWork line a c ls ns from R
 does_sent line a b c ls ns from packet Q R flow session e both = record {
   to = e.to;
   fact = both e.to e.fact;

@@ -7,7 +7,7 @@ use Rattle.rist_sender.specs.declared.answer.Answer.TheVariants.{Took}
 use Rattle.outside_net.specs.Links.{LinkTells}
 use Rattle.rist_sender.specs.History.{is_down, effective_time}
 use Rattle.rist_sender.specs.Calls.{Work, Due, Rules, called_at, without_pair, after_due, WritesInTurn, on_link, report_due, keepalive_due, TicksInTurn}
-use Rattle.rist_sender.specs.Sender.{SenderState, IsSenderAfter, StaysSet, AreGiven, Does, rules_of}
+use Rattle.rist_sender.specs.Sender.{SenderState, IsSenderAfter, StaysSet, AreGiven, DoesWork, rules_of}
 use Rattle.rist_sender.proofs.GivenLemmas.{given_none, given_then}
 
 pub stays_then : (a b c : SenderState) → StaysSet a b → StaysSet b c → StaysSet a c
@@ -15,7 +15,7 @@ stays_then a b c f g = record { rules = g.rules ∙ f.rules; session = g.session
 
 -- a part of a call, and then the next
 pub does_then : {L : Type 0} (line : LinkTells L) (a b c : SenderState) (ls ms ns : List L) (from : Work) (P Q R : Work → Type 0) → length ms ≡ length ls → StaysSet a b
-    → (d : Does line a b ls ms from P) → Does line b c ms ns d.to Q → ((to : Work) → Q to → R to) → Does line a c ls ns from R
+    → (d : DoesWork line a b ls ms from P) → DoesWork line b c ms ns d.to Q → ((to : Work) → Q to → R to) → DoesWork line a c ls ns from R
 does_then {L} line a b c ls ms ns from P Q R same set d e both = record {
   to = e.to;
   fact = both e.to e.fact;
@@ -27,13 +27,13 @@ does_then {L} line a b c ls ms ns from P Q R same set d e both = record {
 
 -- the same of which less is said
 pub does_weaker : {L : Type 0} (line : LinkTells L) (a b : SenderState) (ls ms : List L) (from : Work) (P R : Work → Type 0)
-    → Does line a b ls ms from P → ((to : Work) → P to → R to) → Does line a b ls ms from R
+    → DoesWork line a b ls ms from P → ((to : Work) → P to → R to) → DoesWork line a b ls ms from R
 does_weaker line a b ls ms from P R d less = record { to = d.to; fact = less d.to d.fact; stands = d.stands; given = d.given }
 
 -- a call begins, and its parts follow
 pub does_call : {L : Type 0} (line : LinkTells L) (a b c : SenderState) (ls ns : List L) (from : Work) (us : ℕ) (Q R : Work → Type 0)
     → rules_of b ≡ rules_of a → b.session ≡ a.session
-    → Does line b c ls ns (called_at us from) Q → ((to : Work) → IsSenderAfter c to → Q to → R to) → Does line a c ls ns from R
+    → DoesWork line b c ls ns (called_at us from) Q → ((to : Work) → IsSenderAfter c to → Q to → R to) → DoesWork line a c ls ns from R
 does_call {L} line a b c ls ns from us Q R rules session e both = record {
   to = e.to;
   fact = both e.to e.stands e.fact;
@@ -43,7 +43,7 @@ does_call {L} line a b c ls ns from us Q R rules session e both = record {
 }
 
 -- nothing is done
-pub does_none : {L : Type 0} (line : LinkTells L) (a : SenderState) (ls : List L) (from : Work) (P : Work → Type 0) → IsSenderAfter a from → P from → Does line a a ls ls from P
+pub does_none : {L : Type 0} (line : LinkTells L) (a : SenderState) (ls : List L) (from : Work) (P : Work → Type 0) → IsSenderAfter a from → P from → DoesWork line a a ls ls from P
 does_none line a ls from P stands holds = record { to = from; fact = holds; stands = stands; given = given_none line a.flow a.session from.history ls }
 
 -- ---- where no pair is left, and where a link is down, nothing more is written

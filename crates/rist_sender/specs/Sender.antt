@@ -85,7 +85,7 @@ AreGiven {L} line flow session old new was is =
 
 -- A call, or a part of one, does work: P holds of the work after it. The sender stands for that work, and each link was
 -- given just its datagrams.
-pub record Does {L : Type 0} (line : LinkTells L) (old new : SenderState) (was is : List L) (from : Work)
+pub record DoesWork {L : Type 0} (line : LinkTells L) (old new : SenderState) (was is : List L) (from : Work)
     (P : Work → Type 0) : Type 0 where
   pub to : Work
   pub fact : P to

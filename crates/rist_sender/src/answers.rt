@@ -17,7 +17,7 @@ impl Sender {
     ghost use Rattle.std.specs.Prelude.{◌≡◌, ◌≤◌, ◌<◌, length, map, slice_index_or, is_err, List, ◌∷◌, IsSome, IfSome};
     ghost use Rattle.std.specs.Prelude.{Some, false};
     ghost use Rattle.link_channels.specs.declared.bounds.TheConstants.{MAX_LINKS};
-    ghost use Rattle.rist_sender.specs.Sender.{IsSenderAfter, StaysSet, Does, rules_of};
+    ghost use Rattle.rist_sender.specs.Sender.{IsSenderAfter, StaysSet, DoesWork, rules_of};
     ghost use Rattle.rist_sender.specs.Calls.{Work, status_at, on_link, rtt_answer, packets_again, FeedsBack};
     ghost use Rattle.rist_sender.specs.History.{effective_time};
     ghost use Rattle.sender_rules.specs.Bonding.{link_count};
@@ -66,7 +66,7 @@ impl Sender {
         requires few { length links.old ≤ MAX_LINKS }
         requires up { slice_index_or self.old.down link false ≡ false }
         ensures set { StaysSet self.old self.new }
-        ensures does { (from : Work) → IsSenderAfter self.old from → from.is_short ≡ false → Does
+        ensures does { (from : Work) → IsSenderAfter self.old from → from.is_short ≡ false → DoesWork
             ⟦<L as TellingLink>⟧.tells
             self.old self.new links.old links.new from (PutsOn self.old.time link
             (RttAnswer (status_at us from.history) (echo_seen echo.now)) (is_err result) from) }
@@ -94,7 +94,7 @@ impl Sender {
         requires stored { IsSome (packet_with (packets_in self.old.store) number) }
         ensures set { StaysSet self.old self.new }
         ensures does { (from : Work) (packet : Packet) → IsSenderAfter self.old from → from.is_short ≡ false
-            → packet_with (packets_in self.old.store) number ≡ Some packet → packet.number ≡ number → Does
+            → packet_with (packets_in self.old.store) number ≡ Some packet → packet.number ≡ number → DoesWork
             ⟦<L as TellingLink>⟧.tells
             self.old self.new links.old links.new from (PutsAgain self.old.time link packet result from) }
     {
@@ -119,10 +119,11 @@ impl Sender {
         requires among { link < length links.old }
         requires few { length links.old ≤ MAX_LINKS }
         ensures set { StaysSet self.old self.new }
-        ensures does { (from : Work) → IsSenderAfter self.old from → from.is_short ≡ false → Does
+        ensures does { (from : Work) → IsSenderAfter self.old from → from.is_short ≡ false → DoesWork
             ⟦<L as TellingLink>⟧.tells
             self.old self.new links.old links.new from (WritesDues (effective_time from.history)
-            (on_link link (rtt_answer (status_at us from.history) (first_request (echoes_in compound.now)))) (is_err result) from) }
+            (on_link link (rtt_answer (status_at us from.history) (first_request (echoes_in compound.now))))
+            (is_err result) from) }
     {
         if self.is_down(link) {
             return Ok(());
@@ -145,7 +146,7 @@ impl Sender {
         requires few { length links.old ≤ MAX_LINKS }
         requires up { slice_index_or self.old.down link false ≡ false }
         ensures set { StaysSet self.old self.new }
-        ensures does { (from : Work) → IsSenderAfter self.old from → from.is_short ≡ false → Does
+        ensures does { (from : Work) → IsSenderAfter self.old from → from.is_short ≡ false → DoesWork
             ⟦<L as TellingLink>⟧.tells
             self.old self.new links.old links.new from (AnswersNumber self.old.store.size self.old.hold
             (effective_time from.history) link (number_seen asked) result from) }
@@ -169,7 +170,7 @@ impl Sender {
         requires among { link < length links.old }
         requires few { length links.old ≤ MAX_LINKS }
         ensures set { StaysSet self.old self.new }
-        ensures does { (from : Work) → IsSenderAfter self.old from → from.is_short ≡ false → Does
+        ensures does { (from : Work) → IsSenderAfter self.old from → from.is_short ≡ false → DoesWork
             ⟦<L as TellingLink>⟧.tells
             self.old self.new links.old links.new from (SendsAll (effective_time from.history)
             (on_link link (map Retransmission (packets_again (rules_of self.old) from.history compound.now)))
@@ -205,7 +206,7 @@ impl Sender {
         requires among { link < length links.old }
         requires few { length links.old ≤ MAX_LINKS }
         ensures set { StaysSet self.old self.new }
-        ensures does { (from : Work) → IsSenderAfter self.old from → from.is_short ≡ false → Does
+        ensures does { (from : Work) → IsSenderAfter self.old from → from.is_short ≡ false → DoesWork
             ⟦<L as TellingLink>⟧.tells
             self.old self.new links.old links.new from (AnswersAll (rules_of self.old) us link compound.now
             result (is_err result) from) }
@@ -231,7 +232,7 @@ impl Sender {
         requires among { link < length links.old }
         requires links { length links.old ≡ link_count self.old.bonding }
         requires few { length links.old ≤ MAX_LINKS }
-        ensures work { (from : Work) → IsSenderAfter self.old from → Does
+        ensures work { (from : Work) → IsSenderAfter self.old from → DoesWork
             ⟦<L as TellingLink>⟧.tells
             self.old self.new links.old links.new from
             (FeedsBack (rules_of self.old) (length links.old) us link compound.now result from) }

@@ -18,7 +18,7 @@ const NUMBERS: u64 = 1 << 62;
 impl Sender {
     ghost use Rattle.std.specs.Prelude.{◌≡◌, ◌≤◌, ◌<◌, ◌+◌, ◌-◌, ◌%◌, ◌^◌, Option, length, is_err, List, ◌∷◌, false};
     ghost use Rattle.link_channels.specs.declared.bounds.TheConstants.{MAX_LINKS};
-    ghost use Rattle.rist_sender.specs.Sender.{IsSenderAfter, StaysSet, Does, rules_of};
+    ghost use Rattle.rist_sender.specs.Sender.{IsSenderAfter, StaysSet, DoesWork, rules_of};
     ghost use Rattle.rist_sender.specs.Calls.{Work, is_sharing, links_tried, Sends};
     ghost use Rattle.std.specs.List.{range_with_len};
     ghost use Rattle.sender_rules.specs.Bonding.{link_count};
@@ -63,7 +63,7 @@ impl Sender {
         ensures set { StaysSet self.old self.new }
         ensures time { self.new.time ≡ self.old.time }
         ensures does { (from : Work) (packet : Packet) (pair : Option Pair) → IsSenderAfter self.old from
-            → IsPacketIn self.old pair packet channel octets.now → Does
+            → IsPacketIn self.old pair packet channel octets.now → DoesWork
             ⟦<L as TellingLink>⟧.tells
             self.old self.new links.old links.new from
             (CopiesOn one self.old.time pair (Original packet) link result from) }
@@ -91,7 +91,7 @@ impl Sender {
         ensures set { StaysSet self.old self.new }
         ensures time { self.new.time ≡ self.old.time }
         ensures does { (from : Work) (packet : Packet) (pair : Option Pair) → IsSenderAfter self.old from
-            → IsPacketIn self.old pair packet channel octets.now → Does
+            → IsPacketIn self.old pair packet channel octets.now → DoesWork
             ⟦<L as TellingLink>⟧.tells
             self.old self.new links.old links.new from (SpreadsPart one self.old.time pair (Original packet)
             (range_with_len start (end - start)) result from) }
@@ -110,7 +110,7 @@ impl Sender {
         requires few { length links.old ≤ MAX_LINKS }
         ensures set { StaysSet self.old self.new }
         ensures does { (from : Work) (packet : Packet) (pair : Option Pair) → IsSenderAfter self.old from
-            → IsPacketIn self.old pair packet channel octets.now → Does
+            → IsPacketIn self.old pair packet channel octets.now → DoesWork
             ⟦<L as TellingLink>⟧.tells
             self.old self.new links.old links.new from (SpreadsAll (is_sharing self.old.bonding) self.old.time pair
             (Original packet) (links_tried self.old.bonding k) from) }
@@ -134,7 +134,7 @@ impl Sender {
         requires links { length links.old ≡ link_count self.old.bonding }
         requires few { length links.old ≤ MAX_LINKS }
         ensures set { StaysSet self.old self.new }
-        ensures does { (from : Work) → IsSenderAfter self.old from → from.is_short ≡ false → Does
+        ensures does { (from : Work) → IsSenderAfter self.old from → from.is_short ≡ false → DoesWork
             ⟦<L as TellingLink>⟧.tells
             self.old self.new links.old links.new from (SendsOne (rules_of self.old) payload.now (is_err result) from) }
     {
@@ -163,7 +163,7 @@ impl Sender {
         requires payload { length payload.now ≤ MAX_PAYLOAD }
         requires links { length links.old ≡ link_count self.old.bonding }
         requires few { length links.old ≤ MAX_LINKS }
-        ensures work { (from : Work) → IsSenderAfter self.old from → Does
+        ensures work { (from : Work) → IsSenderAfter self.old from → DoesWork
             ⟦<L as TellingLink>⟧.tells
             self.old self.new links.old links.new from
             (Sends (rules_of self.old) (length links.old) us payload.now result from) }

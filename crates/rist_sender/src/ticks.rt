@@ -11,7 +11,7 @@ use sender_rules::SendBad;
 impl Sender {
     ghost use Rattle.std.specs.Prelude.{◌≡◌, ◌≤◌, ◌<◌, length, set, slice_index_or, is_err, Some, true, false};
     ghost use Rattle.link_channels.specs.declared.bounds.TheConstants.{MAX_LINKS};
-    ghost use Rattle.rist_sender.specs.Sender.{IsSenderAfter, StaysSet, Does, rules_of, has_keepalives};
+    ghost use Rattle.rist_sender.specs.Sender.{IsSenderAfter, StaysSet, DoesWork, rules_of, has_keepalives};
     ghost use Rattle.rist_sender.specs.Calls.{Work, status_at, on_link, report_due, keepalive_due, Ticks};
     ghost use Rattle.rist_sender.specs.History.{effective_time};
     ghost use Rattle.std.specs.List.{range_with_len};
@@ -41,7 +41,7 @@ impl Sender {
         requires few { length links.old ≤ MAX_LINKS }
         requires up { slice_index_or self.old.down link false ≡ false }
         ensures set { StaysSet self.old self.new }
-        ensures does { (from : Work) → IsSenderAfter self.old from → from.is_short ≡ false → Does
+        ensures does { (from : Work) → IsSenderAfter self.old from → from.is_short ≡ false → DoesWork
             ⟦<L as TellingLink>⟧.tells
             self.old self.new links.old links.new from (PutsOn self.old.time link
             (Report (status_at us from.history)) (is_err result) from) }
@@ -65,7 +65,7 @@ impl Sender {
         requires up { slice_index_or self.old.down link false ≡ false }
         requires main { has_keepalives self.old.session.profile ≡ true }
         ensures set { StaysSet self.old self.new }
-        ensures does { (from : Work) → IsSenderAfter self.old from → from.is_short ≡ false → Does
+        ensures does { (from : Work) → IsSenderAfter self.old from → from.is_short ≡ false → DoesWork
             ⟦<L as TellingLink>⟧.tells
             self.old self.new links.old links.new from (PutsOn self.old.time link Alive (is_err result) from) }
     {
@@ -84,7 +84,7 @@ impl Sender {
         requires among { link < length links.old }
         requires few { length links.old ≤ MAX_LINKS }
         ensures set { StaysSet self.old self.new }
-        ensures does { (from : Work) → IsSenderAfter self.old from → from.is_short ≡ false → Does
+        ensures does { (from : Work) → IsSenderAfter self.old from → from.is_short ≡ false → DoesWork
             ⟦<L as TellingLink>⟧.tells
             self.old self.new links.old links.new from (WritesDues (effective_time from.history)
             (on_link link (report_due us from.history link)) (is_err result) from) }
@@ -102,7 +102,7 @@ impl Sender {
         requires among { link < length links.old }
         requires few { length links.old ≤ MAX_LINKS }
         ensures set { StaysSet self.old self.new }
-        ensures does { (from : Work) → IsSenderAfter self.old from → from.is_short ≡ false → Does
+        ensures does { (from : Work) → IsSenderAfter self.old from → from.is_short ≡ false → DoesWork
             ⟦<L as TellingLink>⟧.tells
             self.old self.new links.old links.new from (WritesDues (effective_time from.history)
             (on_link link (keepalive_due (has_keepalives self.old.session.profile) from.history link))
@@ -126,7 +126,7 @@ impl Sender {
         requires among { link < length links.old }
         requires few { length links.old ≤ MAX_LINKS }
         ensures set { StaysSet self.old self.new }
-        ensures does { (from : Work) → IsSenderAfter self.old from → from.is_short ≡ false → Does
+        ensures does { (from : Work) → IsSenderAfter self.old from → from.is_short ≡ false → DoesWork
             ⟦<L as TellingLink>⟧.tells
             self.old self.new links.old links.new from
             (TicksLink (has_keepalives self.old.session.profile) us link (is_err result) from) }
@@ -141,7 +141,7 @@ impl Sender {
     fn tick_links<L: Link>(&mut self, us: u64, links: &mut [L]) -> Result<(), Spent>
         requires few { length links.old ≤ MAX_LINKS }
         ensures set { StaysSet self.old self.new }
-        ensures does { (from : Work) → IsSenderAfter self.old from → from.is_short ≡ false → Does
+        ensures does { (from : Work) → IsSenderAfter self.old from → from.is_short ≡ false → DoesWork
             ⟦<L as TellingLink>⟧.tells
             self.old self.new links.old links.new from (TicksLinks (has_keepalives self.old.session.profile) us
             (range_with_len 0 (length links.old)) (is_err result) from) }
@@ -161,7 +161,7 @@ impl Sender {
     pub fn tick<L: Link>(&mut self, us: u64, links: &mut [L]) -> Result<(), SendBad>
         requires links { length links.old ≡ link_count self.old.bonding }
         requires few { length links.old ≤ MAX_LINKS }
-        ensures work { (from : Work) → IsSenderAfter self.old from → Does
+        ensures work { (from : Work) → IsSenderAfter self.old from → DoesWork
             ⟦<L as TellingLink>⟧.tells
             self.old self.new links.old links.new from (Ticks (rules_of self.old) (length links.old) us result from) }
         ensures set { StaysSet self.old self.new }

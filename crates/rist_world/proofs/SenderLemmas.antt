@@ -14,7 +14,7 @@ use Rattle.outside_net.specs.Links.{LinkTells}
 use Rattle.rist_sender.specs.Links.{datagrams_taken}
 use Rattle.rist_sender.specs.History.{tried_as, tried_on}
 use Rattle.rist_sender.specs.Calls.{Work, IfElse, Sends, FeedsBack, Ticks, renewed_as}
-use Rattle.rist_sender.specs.Sender.{SenderState, IsSenderAfter, StaysSet, Does, rules_of}
+use Rattle.rist_sender.specs.Sender.{SenderState, IsSenderAfter, StaysSet, DoesWork, rules_of}
 use Rattle.world_rules.specs.SentFlows.{SentFlow, is_known}
 use Rattle.world_rules.specs.Flows.{flows_of, flow_after, put_on}
 use Rattle.world_rules.specs.World.{Setup, Course, links_of, rules_after, Works, SendsIn, TicksIn, FeedsIn, FeedsIf, compound_carried, compound_read, backward_at, renewed_in, is_new}
@@ -53,7 +53,7 @@ rules_stay setup from to a =
     })
 
 -- a link holds what was put on it, after a call too
-forward_goes : (setup : Setup) (old : WorldState) (s : SenderState) (f : List WireState) (from : Course) (Q : Work → Type 0) (d : Does wire_line old.sender s old.forward f from.work Q) → Adds from.work d.to
+forward_goes : (setup : Setup) (old : WorldState) (s : SenderState) (f : List WireState) (from : Course) (Q : Work → Type 0) (d : DoesWork wire_line old.sender s old.forward f from.work Q) → Adds from.work d.to
     → IsWorldAfter setup old from → (link : ℕ) (w : WireState) → link < links_of setup
     → (get_or f link w).put ≡ datagrams_taken (put_on setup.flow setup.session link d.to.history)
 forward_goes setup old s f from Q d a is link w among =
@@ -68,7 +68,7 @@ forward_goes setup old s f from Q d a is link w among =
     ∙ sym (taken_since setup.flow setup.session link from.work d.to g.gained a more)
 
 -- a link's marks are those of what was put on it, after a call too
-marks_go : (setup : Setup) (old : WorldState) (s : SenderState) (f : List WireState) (m : List (List (Option Bool))) (from : Course) (Q : Work → Type 0) (d : Does wire_line old.sender s old.forward f from.work Q) → Adds from.work d.to
+marks_go : (setup : Setup) (old : WorldState) (s : SenderState) (f : List WireState) (m : List (List (Option Bool))) (from : Course) (Q : Work → Type 0) (d : DoesWork wire_line old.sender s old.forward f from.work Q) → Adds from.work d.to
     → length m ≡ length old.media → AreMarked old.far old.media f m → length f ≡ length old.forward → IsWorldAfter setup old from → (link : ℕ) → link < links_of setup
     → get_or m link [] ≡ map (media_of setup.session) (datagrams_taken (put_on setup.flow setup.session link d.to.history))
 marks_go setup old s f m from Q d a count marks size is link among =
@@ -94,7 +94,7 @@ tally_same setup old from to count t = record { kind = t.kind; sent = t.sent ∙
 
 -- after a call the world goes on
 pub sender_goes : (setup : Setup) (old : WorldState) (far : Session) (s : SenderState) (f : List WireState) (m : List (List (Option Bool))) (t : TallyState) (from : Course) (Q : Work → Type 0) (R : Work → Work → Type 0) → ((to : Work) → Q to → Adds from.work to)
-    → ((to : Work) → Q to → R from.work to) → ((to : Work) → Q to → IsTallyOf setup t (worked to from)) → far ≡ old.far → length m ≡ length old.media → AreMarked old.far old.media f m → IsWorldAfter setup old from → StaysSet old.sender s → length f ≡ length old.forward → Does wire_line old.sender s old.forward f from.work Q
+    → ((to : Work) → Q to → R from.work to) → ((to : Work) → Q to → IsTallyOf setup t (worked to from)) → far ≡ old.far → length m ≡ length old.media → AreMarked old.far old.media f m → IsWorldAfter setup old from → StaysSet old.sender s → length f ≡ length old.forward → DoesWork wire_line old.sender s old.forward f from.work Q
     → GoesTo setup (record { sender = s; near = old.near; receiver = old.receiver; far = far; written = old.written; forward = f; backward = old.backward; media = m; flows = old.flows; tally = t }) (λ to. Works R from to)
 sender_goes setup old far s f m t from Q R adds means counts same count marks is stays size d =
     let a = adds d.to d.fact in
@@ -125,11 +125,11 @@ sender_goes setup old far s f m t from Q R adds means counts same count marks is
 lent_goes : (setup : Setup) (old : WorldState) (far : Session) (s : SenderState) (lent f back shown : List WireState) (m : List (List (Option Bool))) (t : TallyState) (from : Course) (Q : List WireState → Work → Type 0) (R : Work → Work → Type 0) → lent ≡ old.forward → back ≡ f
     → far ≡ old.far → length m ≡ length old.media → shown ≡ back → AreMarked old.far old.media shown m
     → ((to : Work) → Q old.forward to → Adds from.work to) → ((to : Work) → Q old.forward to → R from.work to) → ((to : Work) → Q old.forward to → IsTallyOf setup t (worked to from)) → IsWorldAfter setup old from → StaysSet old.sender s → length f ≡ length lent
-    → Does wire_line old.sender s lent f from.work (Q lent)
+    → DoesWork wire_line old.sender s lent f from.work (Q lent)
     → GoesTo setup (record { sender = s; near = old.near; receiver = old.receiver; far = far; written = old.written; forward = back; backward = old.backward; media = m; flows = old.flows; tally = t }) (λ to. Works R from to)
 lent_goes setup old far s lent f back shown m t from Q R was now same count seen marks adds means counts is stays size d =
     subst (λ fs. GoesTo setup (record { sender = s; near = old.near; receiver = old.receiver; far = far; written = old.written; forward = fs; backward = old.backward; media = m; flows = old.flows; tally = t }) (λ to. Works R from to)) (sym now)
-    (sender_goes setup old far s f m t from (Q old.forward) R adds means counts same count (subst (λ fs. AreMarked old.far old.media fs m) (seen ∙ now) marks) is stays (size ∙ ap length was) (subst (λ fs. Does wire_line old.sender s fs f from.work (Q fs)) was d))
+    (sender_goes setup old far s f m t from (Q old.forward) R adds means counts same count (subst (λ fs. AreMarked old.far old.media fs m) (seen ∙ now) marks) is stays (size ∙ ap length was) (subst (λ fs. DoesWork wire_line old.sender s fs f from.work (Q fs)) was d))
 
 -- what each call means in the setup
 pub sends_in : (setup : Setup) (old : WorldState) (from : Course) (us : ℕ) (payload : List ℕ) (result : Result Unit SendBad) (to : Work) → IsWorldAfter setup old from
@@ -157,7 +157,7 @@ feeds_in setup old from us link compound result to is feeds = record {
 }
 
 pub send_goes : (setup : Setup) (old : WorldState) (far : Session) (s : SenderState) (lent f back shown : List WireState) (m : List (List (Option Bool))) (t : TallyState) (from : Course) (us : ℕ) (payload : List ℕ) (result : Result Unit SendBad) → t ≡ record old.tally { sent = capped (old.tally.sent + sent_by result) } → IsWorldAfter setup old from → StaysSet old.sender s
-    → lent ≡ old.forward → back ≡ f → far ≡ old.far → length m ≡ length old.media → shown ≡ back → AreMarked old.far old.media shown m → length f ≡ length lent → Does wire_line old.sender s lent f from.work (Sends (rules_of old.sender) (length lent) us payload result from.work)
+    → lent ≡ old.forward → back ≡ f → far ≡ old.far → length m ≡ length old.media → shown ≡ back → AreMarked old.far old.media shown m → length f ≡ length lent → DoesWork wire_line old.sender s lent f from.work (Sends (rules_of old.sender) (length lent) us payload result from.work)
     → GoesTo setup (record { sender = s; near = old.near; receiver = old.receiver; far = far; written = old.written; forward = back; backward = old.backward; media = m; flows = old.flows; tally = t }) (λ to. Works (SendsIn setup us payload) from to)
 send_goes setup old far s lent f back shown m t from us payload result counted is stays was now same count seen marks size d =
     lent_goes setup old far s lent f back shown m t from (λ fs. Sends (rules_of old.sender) (length fs) us payload result from.work) (SendsIn setup us payload) was now same count seen marks
@@ -165,7 +165,7 @@ send_goes setup old far s lent f back shown m t from us payload result counted i
     (λ to q. tally_sent setup old.tally t from to (sent_by result) counted (sends_count _ _ us payload result from.work to q) is.tally) is stays size d
 
 pub tick_goes : (setup : Setup) (old : WorldState) (far : Session) (s : SenderState) (lent f back shown : List WireState) (m : List (List (Option Bool))) (from : Course) (us : ℕ) (result : Result Unit SendBad) → IsWorldAfter setup old from → StaysSet old.sender s
-    → lent ≡ old.forward → back ≡ f → far ≡ old.far → length m ≡ length old.media → shown ≡ back → AreMarked old.far old.media shown m → length f ≡ length lent → Does wire_line old.sender s lent f from.work (Ticks (rules_of old.sender) (length lent) us result from.work)
+    → lent ≡ old.forward → back ≡ f → far ≡ old.far → length m ≡ length old.media → shown ≡ back → AreMarked old.far old.media shown m → length f ≡ length lent → DoesWork wire_line old.sender s lent f from.work (Ticks (rules_of old.sender) (length lent) us result from.work)
     → GoesTo setup (record { sender = s; near = old.near; receiver = old.receiver; far = far; written = old.written; forward = back; backward = old.backward; media = m; flows = old.flows; tally = old.tally }) (λ to. Works (TicksIn setup us) from to)
 tick_goes setup old far s lent f back shown m from us result is stays was now same count seen marks size d =
     lent_goes setup old far s lent f back shown m old.tally from (λ fs. Ticks (rules_of old.sender) (length fs) us result from.work) (TicksIn setup us) was now same count seen marks
@@ -173,7 +173,7 @@ tick_goes setup old far s lent f back shown m from us result is stays was now sa
     (λ to q. tally_same setup old.tally from to (ticks_count _ _ us result from.work to q) is.tally) is stays size d
 
 pub feedback_goes : (setup : Setup) (old : WorldState) (far : Session) (s : SenderState) (lent f back shown : List WireState) (m : List (List (Option Bool))) (from : Course) (us link : ℕ) (compound : List Content) (result : Result ℕ SendBad) → IsWorldAfter setup old from → StaysSet old.sender s
-    → lent ≡ old.forward → back ≡ f → far ≡ old.far → length m ≡ length old.media → shown ≡ back → AreMarked old.far old.media shown m → length f ≡ length lent → Does wire_line old.sender s lent f from.work (FeedsBack (rules_of old.sender) (length lent) us link compound result from.work)
+    → lent ≡ old.forward → back ≡ f → far ≡ old.far → length m ≡ length old.media → shown ≡ back → AreMarked old.far old.media shown m → length f ≡ length lent → DoesWork wire_line old.sender s lent f from.work (FeedsBack (rules_of old.sender) (length lent) us link compound result from.work)
     → GoesTo setup (record { sender = s; near = old.near; receiver = old.receiver; far = far; written = old.written; forward = back; backward = old.backward; media = m; flows = old.flows; tally = old.tally }) (λ to. Works (FeedsIn setup us link compound) from to)
 feedback_goes setup old far s lent f back shown m from us link compound result is stays was now same count seen marks size d =
     lent_goes setup old far s lent f back shown m old.tally from (λ fs. FeedsBack (rules_of old.sender) (length fs) us link compound result from.work) (FeedsIn setup us link compound) was now same count seen marks
