@@ -8,9 +8,9 @@ use Rattle.sender_rules.specs.declared.send_bad.SendBad.TheVariants as bads
 use Rattle.rist_ends.specs.declared.counts.Counts.{Counts}
 use Rattle.rist_desk.specs.declared.worker.ServingLimits.{ServingLimits}
 use Rattle.outside_net.specs.Links.{LinkTells}
-use Rattle.rist_recv.specs.declared.ending.Ending.{Ending}
-use Rattle.rist_recv.specs.declared.ending.Ending.TheVariants as endings
-use Rattle.rist_recv.specs.Run.{Receives}
+use Rattle.desk_run.specs.declared.ending.Ending.{Ending}
+use Rattle.desk_run.specs.declared.ending.Ending.TheVariants as endings
+use Rattle.desk_run.specs.Run.{Receives, TimedLinks, outside}
 use Rattle.rist_gateway.specs.declared.ending.GateEnding.{GateEnding}
 use Rattle.rist_gateway.specs.declared.ending.GateEnding.TheVariants as gates
 use Rattle.rist_gateway.specs.declared.side_worker.SideWorker.{SideWorker}
@@ -76,19 +76,19 @@ pub record SendsOnward {L C : Type 0} (moments : C → Option (ℕ → ℕ)) (li
 -- sender: the octets that it took are those that the steps of the receiver's history release. Counts are the
 -- receiver's.
 pub record Forwards {L C : Type 0} (moments : C → Option (ℕ → ℕ)) (line : LinkTells L) (s : GateSetup)
-    (limits : ServingLimits)
-    (inputs : ℕ) (links_were links_are : List L) (clocks_were clocks_are : List C) (counts : Counts)
-    (ending : GateEnding) : Type 0 where
+    (limits : ServingLimits) (inputs : ℕ) (was is : TimedLinks L C) (counts : Counts) (ending : GateEnding)
+    : Type 0 where
   pub first : OnwardState
   pub last : OnwardState
   pub ended : Ending
-  pub receives : Receives moments line s.receiving limits (take inputs links_were) (take inputs links_are)
-      (take inputs clocks_were) (take inputs clocks_are) (Some []) (Some last.passed.sent) 0 last.faults counts ended
+  pub receives : Receives moments line s.receiving limits
+      (outside (take inputs was.links) (take inputs was.clocks) (Some []) 0)
+      (outside (take inputs is.links) (take inputs is.clocks) (Some last.passed.sent) last.faults) counts ended
   pub clock_was : C
   pub clock_is : C
-  pub clock_had : slice_get clocks_were (length links_were) ≡ Some clock_was
-  pub clock_has : slice_get clocks_are (length links_were) ≡ Some clock_is
-  pub sends : SendsOnward moments line s (drop inputs links_were) (drop inputs links_are) clock_was clock_is first last
-  pub looked : AreLookedAt moments limits (drop inputs (take (length links_were) clocks_were))
-      (drop inputs (take (length links_were) clocks_are))
+  pub clock_had : slice_get was.clocks (length was.links) ≡ Some clock_was
+  pub clock_has : slice_get is.clocks (length was.links) ≡ Some clock_is
+  pub sends : SendsOnward moments line s (drop inputs was.links) (drop inputs is.links) clock_was clock_is first last
+  pub looked : AreLookedAt moments limits (drop inputs (take (length was.links) was.clocks))
+      (drop inputs (take (length was.links) is.clocks))
   pub ends : EndsGate ended last.put_bad last.aside_bad ending

@@ -7,8 +7,8 @@ use Rattle.rist_sender.specs.Calls.{Rules}
 use Rattle.rist_sender.specs.Sender.{IsSenderAfter, has_keepalives, rules_of}
 use Rattle.rist_sender.specs.declared.settings.Settings.{Settings}
 use Rattle.rist_desk.specs.declared.step.Step.{Step}
-use Rattle.rist_recv.specs.Setup.{Setup as ReceivingSetup, IsMade as IsReceivingMade, IsMadeInTurns, setup_in_turns}
-use Rattle.rist_recv.specs.Setup.{setup_of as receiving_setup_of}
+use Rattle.desk_run.specs.Setup.{Setup as ReceivingSetup, IsMade as IsReceivingMade, IsMadeInTurns, setup_in_turns}
+use Rattle.desk_run.specs.Setup.{setup_of as receiving_setup_of}
 use Rattle.rist_gateway.specs.Onward.{no_work}
 use Rattle.rist_gateway.specs.declared.making.GateMemory.{GateMemory}
 use Rattle.rist_gateway.specs.declared.receiving_end.KeptEnd.{KeptEnd}

@@ -1,10 +1,10 @@
 //! How a run of a gateway ends.
 ghost use Rattle.std.specs.Prelude.{◌≡◌, true, None};
-ghost use Rattle.rist_recv.specs.Endings.{is_write_fault};
+ghost use Rattle.desk_run.specs.Endings.{is_write_fault};
 ghost use Rattle.rist_gateway.specs.Run.{EndsGate, looked_ending, refused_ending};
 
+use desk_run::Ending;
 use rist_compare::Tear;
-use rist_recv::Ending;
 use sender_rules::SendBad;
 
 /// How a run ended: the first of these that fits. A put that was refused comes before all, and is one of `Spent` and

@@ -5,18 +5,17 @@ ghost use Rattle.std.specs.List.{All};
 ghost use Rattle.outside_io.specs.Told.{IsEmpty};
 ghost use Rattle.rist_desk.specs.Desk.{IsNew, state_of};
 ghost use Rattle.turn_desk.specs.Own.{AreFreshFor, passes_in};
-ghost use Rattle.rist_recv.specs.Run.{Receives};
-ghost use Rattle.rist_recv.specs.Setup.{Setup, IsMadeInTurns, given_to, setup_in_turns};
+ghost use Rattle.desk_run.specs.Run.{Receives, outside};
+ghost use Rattle.desk_run.specs.Setup.{Setup, IsMadeInTurns, given_to, setup_in_turns};
 ghost use Rattle.rist_gateway.specs.Run.{AreLookedAt};
 
 use crate::either_worker::EitherWorker;
-use crate::receiving::Run;
 use crate::sides::{seat_sides, serve_both, unseat_sides};
+use desk_run::{
+    Closed, MadeInTurns, Run, conclude_turns, ending_after, ending_by, seated_with, unseated_with,
+};
 use outside_net::{Clock, Link, TellingLink};
 use rist_desk::{Beside, DeskOrigin, ServingLimits, Step, Worker};
-use rist_recv::{
-    Closed, MadeInTurns, conclude_turns, ending_after, ending_by, seated_with, unseated_with,
-};
 use rist_wire::Opener;
 use std::alloc::Global;
 use std::marker::Brand;
@@ -61,8 +60,10 @@ fn served_in_turns<
         → 1 ≤ s.settings.limits.playout_delay → All (λ session. session ≡ s.session) openers.items
         → Receives C.moments
         ⟦<L as TellingLink>⟧.tells
-        s limits.now links.old.items links.new.items clocks.old.items clocks.new.items
-        contents (K.contents result.sink) faults (K.faults result.sink) result.counts result.ending }
+        s limits.now
+        (outside links.old.items clocks.old.items contents faults)
+        (outside links.new.items clocks.new.items (K.contents result.sink) (K.faults result.sink))
+        result.counts result.ending }
     ensures looked { AreLookedAt C.moments limits.now beside.old.items beside.new.items }
     ensures links { length links.new.items ≡ length links.old.items }
     ensures clocks { length clocks.new.items ≡ length clocks.old.items }
@@ -114,8 +115,10 @@ fn named_in_turns<
     requires fresh { IsNew N.given (state_of made.receiver (Some []) None (K.contents sink) (K.faults sink)) }
     ensures work { IfOk result (λ run. Receives C.moments
         ⟦<L as TellingLink>⟧.tells
-        (setup_in_turns made) limits.now links.old.items links.new.items clocks.old.items clocks.new.items
-        (K.contents sink) (K.contents run.sink) (K.faults sink) (K.faults run.sink) run.counts run.ending) }
+        (setup_in_turns made) limits.now
+        (outside links.old.items clocks.old.items (K.contents sink) (K.faults sink))
+        (outside links.new.items clocks.new.items (K.contents run.sink) (K.faults run.sink))
+        run.counts run.ending) }
     ensures looked { IfOk result (λ run. AreLookedAt C.moments limits.now beside.old.items beside.new.items) }
     ensures memory { IfErr result (λ left. (left ≡ sink) × (links.new.items ≡ links.old.items)
         × (clocks.new.items ≡ clocks.old.items) × (beside.new.items ≡ beside.old.items)) }
@@ -168,8 +171,10 @@ pub(crate) fn receive_in_turns<
     requires empty { IsEmpty (K.contents sink) }
     ensures work { IfOk result (λ run. Receives C.moments
         ⟦<L as TellingLink>⟧.tells
-        (setup_in_turns made) limits.now links.old.items links.new.items clocks.old.items clocks.new.items
-        (K.contents sink) (K.contents run.sink) (K.faults sink) (K.faults run.sink) run.counts run.ending) }
+        (setup_in_turns made) limits.now
+        (outside links.old.items clocks.old.items (K.contents sink) (K.faults sink))
+        (outside links.new.items clocks.new.items (K.contents run.sink) (K.faults run.sink))
+        run.counts run.ending) }
     ensures looked { IfOk result (λ run. AreLookedAt C.moments limits.now beside.old.items beside.new.items) }
     ensures memory { IfErr result (λ left. (left ≡ sink) × (links.new.items ≡ links.old.items)
         × (clocks.new.items ≡ clocks.old.items) × (beside.new.items ≡ beside.old.items)) }

@@ -3,13 +3,13 @@ ghost use Rattle.std.specs.Prelude.{◌≡◌, ◌%◌, ◌≤◌, ◌+◌, IfOk
 ghost use Rattle.link_channels.specs.declared.bounds.TheConstants.{MAX_LINKS};
 ghost use Rattle.sender_rules.specs.Bonding.{link_count};
 ghost use Rattle.rist_wire.specs.Session.{IsSession};
-ghost use Rattle.rist_recv.specs.Setup.{IsMade, IsMadeInTurns, setup_in_turns, setup_of};
+ghost use Rattle.desk_run.specs.Setup.{IsMade, IsMadeInTurns, setup_in_turns, setup_of};
 ghost use Rattle.rist_gateway.specs.Setup.{IsGateMade, IsReceivingEnd, gate_setup_of, received_setup_of, rules_with};
 
 use crate::receiving_end::{ReceivingEnd, kept_end};
+use desk_run::{MadeInTurns, MadeTrace};
 use outside_io::NoMemory;
 use psk_seal::Sealer;
-use rist_recv::{MadeInTurns, MadeTrace};
 use rist_sender::{Sender, Settings};
 use rist_wire::{Opener, Session};
 use std::alloc::Global;
@@ -63,7 +63,7 @@ fn made_with<T: MadeTrace + Drop, L: Drop, C: Drop>(
 /// sealer is handed in exactly where the session has a passphrase.
 pub fn make<T: MadeTrace + Drop, L: Drop, C: Drop>(
     alloc: Global,
-    receiving: rist_recv::Memory<T, L, C>,
+    receiving: desk_run::Memory<T, L, C>,
     inputs: usize,
     settings: Settings,
     session: &Session,

@@ -3,34 +3,24 @@ ghost use Rattle.std.specs.Prelude.{◌≡◌, ◌<◌, ◌≤◌, ◌+◌, ◌^
 ghost use Rattle.link_channels.specs.declared.bounds.TheConstants.{MAX_LINKS};
 ghost use Rattle.outside_io.specs.Told.{IsEmpty};
 ghost use Rattle.rist_desk.specs.Desk.{IsNew, state_of};
-ghost use Rattle.rist_recv.specs.Run.{Receives};
-ghost use Rattle.rist_recv.specs.Setup.{given_to, setup_of};
+ghost use Rattle.desk_run.specs.Run.{Receives, outside};
+ghost use Rattle.desk_run.specs.Setup.{given_to, setup_of};
 ghost use Rattle.rist_gateway.specs.Run.{AreLookedAt};
 ghost use Rattle.rist_gateway.specs.Setup.{IsKeptEnd, IsReceivingEnd, received_setup_of};
 
 use crate::in_turns::receive_in_turns;
 use crate::receiving_end::{KeptEnd, ReceivingEnd};
 use crate::sides::{seat_sides, serve_both, unseat_sides};
+use desk_run::{MadeTrace, Received, Run, conclude, seated, unseated};
 use outside_net::{Clock, Link, TellingLink};
 use rist_desk::{Beside, Desk, DeskOrigin, ServingLimits};
-use rist_ends::Counts;
-use rist_recv::{Ending, MadeTrace, Received, conclude, seated, unseated};
 use std::alloc::Global;
 use std::marker::Brand;
 use std::sync::{Mutex, Wait};
 use std::thread::Threads;
 
-/// What a run leaves.
-#[derive(Drop)]
-pub struct Run<K> {
-    pub ending: Ending,
-    /// What became of the datagrams.
-    pub counts: Counts,
-    pub sink: K,
-}
-
 /// The run of a desk under a name.
-fn session<
+fn named_run<
     N: DeskOrigin + Send + Sync,
     T: MadeTrace + Drop + Send,
     K: Beside + Drop + Send,
@@ -56,8 +46,10 @@ fn session<
         (T.list end.made.trace) (T.limit end.made.trace) (K.contents sink) (K.faults sink)) }
     ensures work { Receives C.moments
         ⟦<L as TellingLink>⟧.tells
-        (setup_of T.limit end.made) limits.now links.old.items links.new.items clocks.old.items clocks.new.items
-        (K.contents sink) (K.contents result.sink) (K.faults sink) (K.faults result.sink) result.counts result.ending }
+        (setup_of T.limit end.made) limits.now
+        (outside links.old.items clocks.old.items (K.contents sink) (K.faults sink))
+        (outside links.new.items clocks.new.items (K.contents result.sink) (K.faults result.sink))
+        result.counts result.ending }
     ensures looked { AreLookedAt C.moments limits.now beside.old.items beside.new.items }
     ensures links { length links.new.items ≡ length links.old.items }
     ensures clocks { length clocks.new.items ≡ length clocks.old.items }
@@ -70,7 +62,7 @@ fn session<
         mut parts,
         mut passes,
     } = end;
-    let rist_recv::Memory {
+    let desk_run::Memory {
         receiver,
         trace,
         seats,
@@ -119,8 +111,10 @@ fn receive_kept<
     requires empty { IsEmpty (K.contents sink) }
     ensures work { Receives C.moments
         ⟦<L as TellingLink>⟧.tells
-        (setup_of T.limit end.made) limits.now links.old.items links.new.items clocks.old.items clocks.new.items
-        (K.contents sink) (K.contents result.sink) (K.faults sink) (K.faults result.sink) result.counts result.ending }
+        (setup_of T.limit end.made) limits.now
+        (outside links.old.items clocks.old.items (K.contents sink) (K.faults sink))
+        (outside links.new.items clocks.new.items (K.contents result.sink) (K.faults result.sink))
+        result.counts result.ending }
     ensures looked { AreLookedAt C.moments limits.now beside.old.items beside.new.items }
     ensures links { length links.new.items ≡ length links.old.items }
     ensures clocks { length clocks.new.items ≡ length clocks.old.items }
@@ -128,7 +122,7 @@ fn receive_kept<
     ensures link_room { vec_capacity links.old ≤ vec_capacity links.new }
     ensures clock_room { vec_capacity clocks.old ≤ vec_capacity clocks.new }
 {
-    session::<Brand, T, K, L, C, R>(rt, end, links, clocks, sink, beside, limits)
+    named_run::<Brand, T, K, L, C, R>(rt, end, links, clocks, sink, beside, limits)
 }
 
 /// Receives on these links, each by its own clock, into an empty sink, with what was made for so many links, and looks
@@ -158,8 +152,10 @@ pub(crate) fn receive_beside<
     requires empty { IsEmpty (K.contents sink) }
     ensures work { IfOk result (λ run. Receives C.moments
         ⟦<L as TellingLink>⟧.tells
-        (received_setup_of T.limit end) limits.now links.old.items links.new.items clocks.old.items clocks.new.items
-        (K.contents sink) (K.contents run.sink) (K.faults sink) (K.faults run.sink) run.counts run.ending) }
+        (received_setup_of T.limit end) limits.now
+        (outside links.old.items clocks.old.items (K.contents sink) (K.faults sink))
+        (outside links.new.items clocks.new.items (K.contents run.sink) (K.faults run.sink))
+        run.counts run.ending) }
     ensures looked { IfOk result (λ run. AreLookedAt C.moments limits.now beside.old.items beside.new.items) }
     ensures memory { IfErr result (λ left. (left ≡ sink) × (links.new.items ≡ links.old.items)
         × (clocks.new.items ≡ clocks.old.items) × (beside.new.items ≡ beside.old.items)) }

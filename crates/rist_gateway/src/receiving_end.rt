@@ -1,12 +1,12 @@
 //! The receiving end of a run, before it begins.
 ghost use Rattle.std.specs.Prelude.{◌≡◌, ◌≤◌, ◌+◌, IfOk, length};
 ghost use Rattle.link_channels.specs.declared.bounds.TheConstants.{MAX_LINKS};
-ghost use Rattle.rist_recv.specs.Setup.{IsMade};
+ghost use Rattle.desk_run.specs.Setup.{IsMade};
 ghost use Rattle.rist_gateway.specs.Setup.{IsKeptEnd};
 
 use crate::either_worker::EitherWorker;
+use desk_run::{MadeInTurns, MadeTrace, Memory};
 use outside_io::NoMemory;
-use rist_recv::{MadeInTurns, MadeTrace, Memory};
 use std::alloc::Global;
 
 /// A receiving end whose steps are kept: what was made for it, room for the parts of both ends, and what each side worker

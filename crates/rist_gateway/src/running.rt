@@ -1,6 +1,7 @@
 //! A run over links and clocks.
 ghost use Rattle.std.specs.Prelude.{◌≡◌, ◌<◌, ◌≤◌, ◌^◌, ◌+◌, [], None, Some, IfOk, OnErr, length, vec_capacity};
 ghost use Rattle.link_channels.specs.declared.bounds.TheConstants.{MAX_LINKS};
+ghost use Rattle.desk_run.specs.Run.{timed_links};
 ghost use Rattle.rist_gateway.specs.Onward.{IsUncalled, onward_of, passed_of};
 ghost use Rattle.rist_gateway.specs.Inside.Played.{PlaysOn};
 ghost use Rattle.rist_gateway.specs.Run.{AreLookedAt, Forwards};
@@ -11,13 +12,13 @@ use crate::lending::{give_back, hand_on};
 use crate::making::GateMemory;
 use crate::onward::Onward;
 use crate::origin::OnwardOrigin;
-use crate::receiving::{Run, receive_beside};
+use crate::receiving::receive_beside;
 use crate::receiving_end::ReceivingEnd;
+use desk_run::{MadeTrace, Run};
 use outside_io::NoMemory;
 use outside_net::{Clock, Link, TellingLink};
 use rist_desk::ServingLimits;
 use rist_ends::Counts;
-use rist_recv::MadeTrace;
 use rist_sender::Sender;
 use rist_wire::Opener;
 use std::alloc::Global;
@@ -78,7 +79,7 @@ fn forward<
         end.sender end.opener end.links.items (passed_of (C.moments end.clock) []) 0 0 None None) }
     ensures work { IfOk result.ended (λ gated. PlaysOn C.moments ⟦<L as TellingLink>⟧.tells
         (received_setup_of T.limit receiving) limits.now
-        links.old.items links.new.items clocks.old.items clocks.new.items
+        (timed_links links.old.items clocks.old.items) (timed_links links.new.items clocks.new.items)
         G.first result.links.items result.clock gated.counts gated.ending) }
     ensures looked { IfOk result.ended (λ gated. AreLookedAt C.moments limits.now beside.old.items beside.new.items) }
     ensures refused { OnErr result.ended ((links.new.items ≡ links.old.items) × (clocks.new.items ≡ clocks.old.items)
@@ -146,7 +147,8 @@ pub fn gate_on<
     requires made { IsGateMade T.list T.limit inputs outputs made }
     ensures work { IfOk result (λ gated. Forwards C.moments ⟦<L as TellingLink>⟧.tells
         (gate_setup_of T.limit made) limits.now inputs
-        links.old.items links.new.items clocks.old.items clocks.new.items gated.counts gated.ending) }
+        (timed_links links.old.items clocks.old.items) (timed_links links.new.items clocks.new.items)
+        gated.counts gated.ending) }
     ensures memory { OnErr result ((links.new.items ≡ links.old.items) × (clocks.new.items ≡ clocks.old.items)) }
     ensures links { length links.new.items ≡ length links.old.items }
     ensures clocks { length clocks.new.items ≡ length clocks.old.items }

@@ -2,28 +2,16 @@
 ghost use Rattle.std.specs.Prelude.{◌≡◌, ◌<◌, ◌≤◌, ◌^◌, length};
 ghost use Rattle.link_channels.specs.declared.bounds.TheConstants.{MAX_LINKS};
 ghost use Rattle.outside_io.specs.Told.{IsEmpty};
-ghost use Rattle.rist_recv.specs.Run.{Receives};
-ghost use Rattle.rist_recv.specs.Setup.{IsMade, setup_of};
+ghost use Rattle.desk_run.specs.Run.{Receives, outside};
+ghost use Rattle.desk_run.specs.Setup.{IsMade, setup_of};
 
-use crate::ending::Ending;
 use crate::receiving::receive;
-use crate::seats::{MadeTrace, Memory};
-use crate::workers::{seated, unseated};
+use desk_run::{MadeTrace, Memory, Run, seated, unseated};
 use outside_io::Sink;
 use outside_net::{Clock, Link, TellingLink};
 use rist_desk::ServingLimits;
-use rist_ends::Counts;
 use std::sync::Wait;
 use std::thread::Threads;
-
-/// What a run leaves.
-#[derive(Drop)]
-pub struct Run<K> {
-    pub ending: Ending,
-    /// What became of the datagrams.
-    pub counts: Counts,
-    pub sink: K,
-}
 
 /// Receives on these links, each by its own clock, into an empty sink, with what was made for so many links. Links and
 /// clocks stand in their lists again when it ends.
@@ -49,8 +37,10 @@ pub fn receive_on<
     requires empty { IsEmpty (K.contents sink) }
     ensures work { Receives C.moments
         ⟦<L as TellingLink>⟧.tells
-        (setup_of T.limit made) limits.now links.old.items links.new.items clocks.old.items clocks.new.items
-        (K.contents sink) (K.contents result.sink) (K.faults sink) (K.faults result.sink) result.counts result.ending }
+        (setup_of T.limit made) limits.now
+        (outside links.old.items clocks.old.items (K.contents sink) (K.faults sink))
+        (outside links.new.items clocks.new.items (K.contents result.sink) (K.faults result.sink))
+        result.counts result.ending }
     ensures links { length links.new.items ≡ length links.old.items }
     ensures clocks { length clocks.new.items ≡ length clocks.old.items }
 {

@@ -17,10 +17,10 @@ use Rattle.sender_rules.specs.declared.send_bad.SendBad.TheVariants as bads
 use Rattle.rist_ends.specs.declared.counts.Counts.{Counts}
 use Rattle.rist_ends.specs.declared.settings.Settings.{Settings as ReceiverSettings}
 use Rattle.rist_compare.specs.declared.tear.Tear.{Tear}
-use Rattle.rist_recv.specs.declared.ending.Ending.{Ending}
-use Rattle.rist_recv.specs.declared.ending.Ending.TheVariants as endings
-use Rattle.rist_recv.specs.Run.{EndsAs}
-use Rattle.rist_recv.specs.Setup.{Setup as ReceiveSetup, given_to, setup_made}
+use Rattle.desk_run.specs.declared.ending.Ending.{Ending}
+use Rattle.desk_run.specs.declared.ending.Ending.TheVariants as endings
+use Rattle.desk_run.specs.Run.{EndsAs}
+use Rattle.desk_run.specs.Setup.{Setup as ReceiveSetup, given_to, setup_made}
 use Rattle.rist_gateway.specs.declared.ending.GateEnding.{GateEnding}
 use Rattle.rist_gateway.specs.declared.ending.GateEnding.TheVariants as gates
 use Rattle.rist_gateway.specs.Onward.{HasRisen, LinkState, shown}

@@ -12,15 +12,15 @@ use Rattle.rist_desk.specs.declared.ended.Ended.TheVariants as ends
 use Rattle.rist_desk.specs.declared.worker.Worker.{Worker}
 use Rattle.rist_desk.specs.Serving.{ServesOn}
 use Rattle.rist_desk.specs.Inside.Going.{is_link_failure}
-use Rattle.rist_recv.specs.declared.ending.Ending.{Ending}
+use Rattle.desk_run.specs.declared.ending.Ending.{Ending}
 use Rattle.outside_net.specs.Links.{LinkTells}
-use Rattle.rist_recv.specs.declared.ending.Ending.TheVariants as endings
-use Rattle.rist_recv.specs.Endings.{all_workers, is_link_failed, is_write_fault}
-use Rattle.rist_recv.specs.Run.{EndsAs, Receives}
-use Rattle.rist_recv.specs.Setup.{Setup as ReceiveSetup, given_to}
+use Rattle.desk_run.specs.declared.ending.Ending.TheVariants as endings
+use Rattle.desk_run.specs.Endings.{all_workers, is_link_failed, is_write_fault}
+use Rattle.desk_run.specs.Run.{EndsAs, Receives, outside}
+use Rattle.desk_run.specs.Setup.{Setup as ReceiveSetup, given_to}
 use Rattle.rist_desk.specs.declared.worker.ServingLimits.{ServingLimits as WorkerLimits}
 use Rattle.rist_ends.specs.declared.counts.Counts.{Counts}
-use Rattle.rist_recv.specs.Workers.{ToldTrace, link_of, told_trace}
+use Rattle.desk_run.specs.Workers.{ToldTrace, link_of, told_trace}
 use Rattle.rist_words.specs.CommandLine.{RecvCommand}
 use Rattle.rist_top.specs.Causes.{CanRefuse}
 use Rattle.rist_top.specs.Complete.{CompletesReceiving, IsHeard, NoWriteFailed, StaysUp}
@@ -60,7 +60,7 @@ link_at ws links i w are less here =
 -- where each link failed, the count of each rose
 pub failed_at : {L C : Type 0} (moments : C → Option (ℕ → ℕ)) (line : LinkTells L) (s : ReceiveSetup) (limits : WorkerLimits) (links_were links_are : List L) (clocks_were clocks_are : List C)
     (contents_were contents_are : Option (List ℕ)) (faults_were faults_are : ℕ) (counts : Counts) (ending : Ending)
-    (run : Receives moments line s limits links_were links_are clocks_were clocks_are contents_were contents_are faults_were faults_are counts ending)
+    (run : Receives moments line s limits (outside links_were clocks_were contents_were faults_were) (outside links_are clocks_are contents_are faults_are) counts ending)
     → all_workers is_link_failed run.are ≡ true → (place : ℕ) → place < length links_were
     → (was : L) × (is : L) × (get_or links_were place was ≡ was) × (get_or links_are place is ≡ is) × Rose (line.faults was) (line.faults is)
 failed_at {L} {C} moments line s limits links_were links_are clocks_were clocks_are contents_were contents_are faults_were faults_are counts ending run failed place among =

@@ -16,12 +16,12 @@ use Rattle.rist_desk.specs.Desk.{DeskState, Given}
 use Rattle.rist_desk.specs.Items.{Planned, erased}
 use Rattle.rist_desk.specs.Sending.{Made, last_in, plan_of, steps_in}
 use Rattle.rist_desk.specs.Serving.{IsFeed, ServesOn}
-use Rattle.rist_recv.specs.declared.ending.Ending.{Ending}
-use Rattle.rist_recv.specs.declared.ending.Ending.TheVariants as endings
-use Rattle.rist_recv.specs.Receiving.{the_end}
-use Rattle.rist_recv.specs.Run.{EndsAs, IsExact, IsNewWorker, Receives, told_lists}
-use Rattle.rist_recv.specs.Setup.{Setup as ReceiveSetup, given_to, no_steps}
-use Rattle.rist_recv.specs.Workers.{ToldTrace, clock_of, link_of, told_trace}
+use Rattle.desk_run.specs.declared.ending.Ending.{Ending}
+use Rattle.desk_run.specs.declared.ending.Ending.TheVariants as endings
+use Rattle.desk_run.specs.Receiving.{the_end}
+use Rattle.desk_run.specs.Run.{EndsAs, IsExact, IsNewWorker, Receives, told_lists, outside}
+use Rattle.desk_run.specs.Setup.{Setup as ReceiveSetup, given_to, no_steps}
+use Rattle.desk_run.specs.Workers.{ToldTrace, clock_of, link_of, told_trace}
 use Rattle.rist_compare.specs.Tears.{Agree}
 use Rattle.rist_gateway.specs.declared.ending.GateEnding.{GateEnding}
 use Rattle.rist_gateway.specs.Run.{EndsGate}
@@ -85,7 +85,7 @@ part_at part ws xs place w x are here is =
 
 module _ {L C : Type 0} (live : TellsLive L C) (s : ReceiveSetup) (limits : WorkerLimits) (links_were links_are : List L) (clocks_were clocks_are : List C)
     (contents_were contents_are : Option (List ℕ)) (faults_were faults_are : ℕ) (counts : Counts) (ending : Ending)
-    (run : Receives live.moments live.line s limits links_were links_are clocks_were clocks_are contents_were contents_are faults_were faults_are counts ending)
+    (run : Receives live.moments live.line s limits (outside links_were clocks_were contents_were faults_were) (outside links_are clocks_are contents_are faults_are) counts ending)
     (tells_it : s.tells ≡ true) where
   -- the list of a worker is what its link brought
   pub brought : (place : ℕ) (link : L) (clock : C) (steps : List Step) → slice_index_or links_were place link ≡ link → slice_index_or clocks_were place clock ≡ clock

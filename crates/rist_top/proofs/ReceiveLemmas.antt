@@ -12,7 +12,7 @@ use Rattle.outside_host.specs.Shelf.{Shelf, HandsOut, TakesBack, ChangesSinks}
 use Rattle.outside_host.specs.Links.{AreOut, AreBack}
 use Rattle.psk_seal.specs.Sealer.{SealerState}
 use Rattle.rist_ends.specs.declared.counts.Counts.{Counts}
-use Rattle.rist_recv.specs.Setup.{setup_made}
+use Rattle.desk_run.specs.Setup.{setup_made}
 use Rattle.rist_ends.specs.declared.settings.Settings.{Settings as ReceiverSettings}
 use Rattle.rist_wire.specs.declared.session.Session.{Session}
 use Rattle.rist_words.specs.CommandLine.{RecvCommand}

@@ -16,6 +16,7 @@ use Rattle.rist_top.specs.Sessions.{setup_gated, limits_served}
 use Rattle.rist_top.specs.Works.{IsFreshFor}
 use Rattle.rist_top.specs.declared.status.Status.{Status}
 use Rattle.rist_top.specs.declared.status.Status.TheVariants as statuses
+use Rattle.desk_run.specs.Run.{timed_links}
 
 -- how a gateway ended, as a status
 abbrev pub gate_status : GateEnding → Status
@@ -33,8 +34,7 @@ pub record GatesAs {L C : Type 0} (live : TellsLive L C) (c : GateCommand) (rece
   pub ending : GateEnding
   pub answer : status ≡ gate_status ending
   pub run : Forwards live.moments live.line (setup_gated c receiving sending) (limits_served c.serving)
-      (length c.inputs) links_were links_are
-      clocks_were clocks_are counts ending
+      (length c.inputs) (timed_links links_were clocks_were) (timed_links links_are clocks_are) counts ending
 
 -- clocks and, under a passphrase, random words were handed out, the links of a line were received on and sent on, and
 -- all came back

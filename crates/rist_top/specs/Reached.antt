@@ -14,7 +14,7 @@ use Rattle.rist_desk.specs.declared.step.Step.{Step}
 use Rattle.rist_desk.specs.Items.{erased}
 use Rattle.rist_desk.specs.Serving.{IsFeed}
 use Rattle.rist_desk.specs.Turns.{Feed, steps_until}
-use Rattle.rist_recv.specs.Exact.{IsRunOf, IsRunOfAll, reached_payloads}
+use Rattle.desk_run.specs.Exact.{IsRunOf, IsRunOfAll, reached_payloads}
 use Rattle.rist_wire.specs.declared.session.Session.{Session}
 use Rattle.rist_desk.specs.declared.worker.ServingLimits.{ServingLimits as WorkerLimits}
 use Rattle.rist_words.specs.CommandLine.{GateCommand, RecvCommand}

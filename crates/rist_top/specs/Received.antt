@@ -8,9 +8,9 @@ use Rattle.outside_host.specs.declared.reception.Reception.{Reception}
 use Rattle.outside_host.specs.Links.{AreAsTheyWere}
 use Rattle.psk_seal.specs.Sealer.{SealerState}
 use Rattle.rist_ends.specs.declared.counts.Counts.{Counts}
-use Rattle.rist_recv.specs.declared.ending.Ending.{Ending}
-use Rattle.rist_recv.specs.declared.ending.Ending.TheVariants as endings
-use Rattle.rist_recv.specs.Run.{Receives}
+use Rattle.desk_run.specs.declared.ending.Ending.{Ending}
+use Rattle.desk_run.specs.declared.ending.Ending.TheVariants as endings
+use Rattle.desk_run.specs.Run.{Receives, outside}
 use Rattle.rist_words.specs.CommandLine.{RecvCommand}
 use Rattle.rist_top.specs.Objects.{Tells}
 use Rattle.rist_top.specs.Places.{IsAsItWas}
@@ -52,9 +52,9 @@ pub record ReceivesAs {L C : Type 0} (live : TellsLive L C) (c : RecvCommand) (s
     (faults_were faults_are : ℕ) (counts : Counts) (status : Status) : Type 0 where
   pub ending : Ending
   pub answer : status ≡ receive_status ending
-  pub run : Receives live.moments live.line (setup_received c sealer) (limits_received c) links_were
-      links_are clocks_were clocks_are
-      contents_were contents_are faults_were faults_are counts ending
+  pub run : Receives live.moments live.line (setup_received c sealer) (limits_received c)
+      (outside links_were clocks_were contents_were faults_were)
+      (outside links_are clocks_are contents_are faults_are) counts ending
 
 -- objects were handed out from the first places, one for each link of a line, and came back there
 pub record FromTheFirst {X : Type 0} (old new : ℕ → Place X) (were are : List X) : Type 0 where

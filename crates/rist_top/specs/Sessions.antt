@@ -11,7 +11,7 @@ use Rattle.rist_words.specs.CommandLine as lines
 use Rattle.rist_ends.specs.Settings.{limits_of, muted_settings}
 use Rattle.rist_ends.specs.declared.settings.Settings.{Settings as ReceiverSettings}
 use Rattle.rist_desk.specs.declared.worker.ServingLimits.{ServingLimits as WorkerLimits}
-use Rattle.rist_recv.specs.Setup.{Setup as ReceiveSetup, setup_made}
+use Rattle.desk_run.specs.Setup.{Setup as ReceiveSetup, setup_made}
 use Rattle.sender_rules.specs.Bonding.{Bonding, Duplicate, Share}
 use Rattle.rist_sender.specs.Calls.{Rules}
 use Rattle.rist_sender.specs.Sender.{has_keepalives}

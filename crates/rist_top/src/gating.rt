@@ -76,7 +76,7 @@ fn made_kept<L: Drop, C: Drop>(
         (length line.now.inputs.items) (length line.now.outputs.items) made) }
 {
     let session = session_of(&line.incoming, false, false);
-    let receiving = match rist_recv::make::<ListTrace<Step>, L, C>(
+    let receiving = match desk_run::make::<ListTrace<Step>, L, C>(
         alloc,
         &settings_of(&line.receiver),
         &session,
@@ -116,7 +116,7 @@ fn made_in_turns<L: Drop, C: Drop>(
         (length line.now.inputs.items) (length line.now.outputs.items) made) }
 {
     let session = session_of(&line.incoming, false, false);
-    let receiving = match rist_recv::make_in_turns(
+    let receiving = match desk_run::make_in_turns(
         alloc,
         &settings_of(&line.receiver),
         &session,

@@ -1,12 +1,13 @@
 //! How a command ended.
 use capture_file::CapKind;
 use capture_walk::WalkBad;
+use desk_run::Ending;
 use outside_host::HostBad;
 use pcap_file::PcapKind;
 use rist_compare::Tear;
 use rist_gateway::GateEnding;
 use rist_pack::PackBad;
-use rist_recv::{Ending, TearText};
+use rist_recv::TearText;
 use rist_send::SendFault;
 use std::fmt::{self, Display, Formatter, Write};
 

@@ -4,12 +4,13 @@ ghost use Rattle.rist_desk.specs.declared.step.Step.{Step};
 
 use crate::desk::{count_of, simple};
 use crate::links::{link, worker};
+use desk_run::{Ending, Received};
 use outside_io::Store8;
 use outside_net::{ListTrace, ScriptClock, ScriptLink, Trace};
 use receiver_rules::Verdict;
 use rist_desk::{Event, Mark, ServingLimits, Step, StepTrace, Worker};
 use rist_ends::{Receiver, Settings};
-use rist_recv::{Ending, Received, receive};
+use rist_recv::receive;
 use std::alloc::Global;
 use std::process::Abort;
 use std::sync::Wait;

@@ -3,11 +3,12 @@ ghost use Rattle.std.specs.Prelude.{◌≡◌, IfOk, length};
 
 use crate::desk::simple;
 use crate::serving::{GateLink, gate_link};
+use desk_run::{Ending, Run, make_in_turns};
 use outside_io::Store8;
 use outside_net::ScriptClock;
 use rist_desk::ServingLimits;
 use rist_ends::Settings;
-use rist_recv::{Ending, Run, make_in_turns, receive_in_turns};
+use rist_recv::receive_in_turns;
 use std::alloc::Global;
 use std::process::Abort;
 use std::sync::atomic::AtomicU64;

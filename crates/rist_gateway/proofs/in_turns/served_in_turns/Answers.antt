@@ -6,12 +6,12 @@ use Rattle.outside_net.specs.Links.{LinkTells}
 use Rattle.rist_desk.specs.Serving.{ServesOn}
 use Rattle.turn_lock.specs.declared.pass.Pass.{Pass}
 use Rattle.turn_desk.specs.Own.{IsBeside, IsOf, own_list}
-use Rattle.rist_recv.specs.Receiving.{own_lists}
-use Rattle.rist_recv.specs.Run.{Receives}
-use Rattle.rist_recv.specs.Setup.{given_to}
-use Rattle.rist_recv.specs.Turns.{AreOwned, FitsAfter, HasConcluded}
-use Rattle.rist_recv.specs.Workers.{link_of, clock_of, trace_of}
-use Rattle.rist_recv.proofs.TurnsLemmas.{RunsInTurns, owned_first, pass_at, pass_tells, receives}
+use Rattle.desk_run.specs.Receiving.{own_lists}
+use Rattle.desk_run.specs.Run.{Receives, outside}
+use Rattle.desk_run.specs.Setup.{given_to}
+use Rattle.desk_run.specs.Turns.{AreOwned, FitsAfter, HasConcluded}
+use Rattle.desk_run.specs.Workers.{link_of, clock_of, trace_of}
+use Rattle.desk_run.proofs.TurnsLemmas.{RunsInTurns, owned_first, pass_at, pass_tells, receives}
 use Rattle.rist_gateway.specs.Parts.{LookedAt, side_clock}
 use Rattle.rist_gateway.specs.Inside.Sides.{seated_sides, side_pass, without_pass}
 use Rattle.rist_desk.specs.declared.step.Step.{Step}
@@ -204,7 +204,7 @@ returns-clause-work g c = λ s contents faults given_is free told delay session.
     let concluded = subst (λ x. HasConcluded x (own_lists own_list later) c.unseat_sides.new.passes.items closed.cut closed.receiver (g.K.Sink.contents closed.sink) (g.K.Sink.faults closed.sink)) given_is
     (c.conclude_turns-cut.ensures.concluded (own_lists own_list later)
     (subst (AreOwned (own_lists own_list later)) (sym back) (owned_first (map side_pass are) (sides_none c.args.desk (length later) are (sides_of g served)) later))) in
-    subst (λ e. Receives g.C.Clock.moments tells s limits c.args.links.now.items c.unseated_with.new.links.items c.args.clocks.now.items c.unseated_with.new.clocks.items contents (g.K.Sink.contents closed.sink) faults (g.K.Sink.faults closed.sink) c.counts.result e) (sym c.ending_by.ensures.value)
+    subst (λ e. Receives g.C.Clock.moments tells s limits (outside c.args.links.now.items c.args.clocks.now.items contents faults) (outside c.unseated_with.new.links.items c.unseated_with.new.clocks.items (g.K.Sink.contents closed.sink) (g.K.Sink.faults closed.sink)) c.counts.result e) (sym c.ending_by.ensures.value)
     (receives g.C.Clock.moments tells s limits ws later c.args.openers.items first after contents faults runs free told
     c.unseat_sides.new.passes.items closed.cut closed.receiver (g.K.Sink.contents closed.sink) (g.K.Sink.faults closed.sink) c.counts.result
     c.args.links.now.items c.unseated_with.new.links.items c.args.clocks.now.items c.unseated_with.new.clocks.items

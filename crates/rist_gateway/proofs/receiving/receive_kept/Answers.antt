@@ -4,9 +4,9 @@ use Rattle.std.specs.Prelude.{is_some, IfSome}
 use Rattle.outside_io.specs.Told.{IsEmpty}
 use Rattle.rist_desk.specs.declared.step.Step.{Step}
 use Rattle.rist_desk.specs.Desk.{Given, state_of}
-use Rattle.rist_recv.proofs.RunLemmas.{none_told, same_given}
-use Rattle.rist_recv.specs.Receiving.{given_by}
-use Rattle.rist_recv.specs.Setup.{no_steps}
+use Rattle.desk_run.proofs.RunLemmas.{none_told, same_given}
+use Rattle.desk_run.specs.Receiving.{given_by}
+use Rattle.desk_run.specs.Setup.{no_steps}
 use Rattle.rist_gateway.proofs.receiving.receive_kept.Goals as goal
 
 pub session-requires-clause-given : goal.session-requires-clause-given

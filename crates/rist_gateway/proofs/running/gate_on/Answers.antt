@@ -3,8 +3,8 @@ use Rattle.outside_net.specs.Links.{LinkTells}
 use Rattle.std.proofs.Common.{◌≡◌, ◌∙◌, ◌++◌, ◌∷◌, ◌≤◌, ℕ, ◌+◌, List, [], length, map, take, drop, Some, None, refl, ap, sym, subst, arith, rules}
 use Rattle.std.proofs.lemmas.List.{append_assoc, length-append, length-map}
 use Rattle.std.specs.Prelude.{vec_capacity}
-use Rattle.rist_recv.specs.Run.{Receives}
-use Rattle.rist_recv.proofs.SeatLemmas.{one_less, pushed}
+use Rattle.desk_run.specs.Run.{Receives, outside}
+use Rattle.desk_run.proofs.SeatLemmas.{one_less, pushed}
 use Rattle.rist_gateway.specs.Onward.{onward_of, passed_of, shown}
 use Rattle.rist_gateway.specs.Setup.{IsReceivingEnd, received_setup_of}
 use Rattle.rist_gateway.specs.Run.{AreLookedAt}
@@ -166,7 +166,7 @@ returns-clause-work g c =
     ok_both f.result.ended _ _ _ f.ensures.work f.ensures.looked
     (λ gated played looked.
     let received : List g.row.L.Denot → List g.row.L.Denot → List g.row.C.Denot → List g.row.C.Denot → Type 0 = λ a b x y.
-    Receives g.C.Clock.moments line (received_setup_of g.T.Trace.limit c.args.made.receiving) c.args.limits.now a b x y (Some []) (Some played.last.passed.sent) 0 played.last.faults gated.counts played.ended in
+    Receives g.C.Clock.moments line (received_setup_of g.T.Trace.limit c.args.made.receiving) c.args.limits.now (outside a x (Some []) 0) (outside b y (Some played.last.passed.sent) played.last.faults) gated.counts played.ended in
     record {
       first = onward_of line c.args.made.sender c.args.made.opener c.hand_on.new.onward.items (passed_of (g.C.Clock.moments clock) []) 0 0 None None;
       last = played.last;

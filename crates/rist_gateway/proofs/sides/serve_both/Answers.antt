@@ -1,6 +1,6 @@
 -- The parts of both ends, put together and apart again.
 use Rattle.std.proofs.Common.{◌≡◌, ◌∙◌, ◌++◌, ◌<◌, ℕ, List, length, map, reverse, get_or, ap, sym, subst, arith, rules}
-use Rattle.rist_recv.proofs.SeatLemmas.{put_front}
+use Rattle.desk_run.proofs.SeatLemmas.{put_front}
 use Rattle.rist_desk.specs.declared.worker.Worker.{Worker}
 use Rattle.outside_net.specs.Links.{LinkTells}
 use Rattle.rist_desk.specs.Serving.{MayServe}

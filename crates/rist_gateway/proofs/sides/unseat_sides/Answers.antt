@@ -1,6 +1,6 @@
 -- One more clock and pass are back, and then all are.
 use Rattle.std.proofs.Common.{◌≡◌, [], rules, arith}
-use Rattle.rist_recv.proofs.SeatLemmas.{one_less}
+use Rattle.desk_run.proofs.SeatLemmas.{one_less}
 use Rattle.rist_gateway.specs.Parts.{side_clock}
 use Rattle.rist_gateway.specs.Inside.Sides.{side_pass}
 use Rattle.rist_gateway.proofs.LendLemmas.{returned_step, returned_all}

@@ -1,5 +1,5 @@
 -- The name of this run's desk.
-use Rattle.rist_recv.specs.Setup.{given_to, setup_in_turns}
+use Rattle.desk_run.specs.Setup.{given_to, setup_in_turns}
 use Rattle.rist_recv.proofs.in_turns.receive_in_turns.Given as goal
 
 abbrev pub ghosts-named_in_turns : goal.ghosts-named_in_turns

@@ -6,13 +6,13 @@ use Rattle.outside_net.specs.Links.{LinkTells}
 use Rattle.rist_desk.specs.Serving.{MayServe, ServesOn}
 use Rattle.turn_lock.specs.Passes.{turns_left}
 use Rattle.turn_desk.specs.Own.{IsOf, own_list}
-use Rattle.rist_recv.specs.Receiving.{own_lists}
-use Rattle.rist_recv.specs.Run.{Receives}
-use Rattle.rist_recv.specs.Setup.{given_to}
-use Rattle.rist_recv.specs.Turns.{AreOwned, FitsAfter, HasConcluded}
-use Rattle.rist_recv.specs.Workers.{link_of, clock_of, trace_of}
-use Rattle.rist_recv.proofs.SeatLemmas.{put_front}
-use Rattle.rist_recv.proofs.TurnsLemmas.{RunsInTurns, may_serve, owned_all, pass_at, pass_tells, receives, still_all}
+use Rattle.desk_run.specs.Receiving.{own_lists}
+use Rattle.desk_run.specs.Run.{Receives, outside}
+use Rattle.desk_run.specs.Setup.{given_to}
+use Rattle.desk_run.specs.Turns.{AreOwned, FitsAfter, HasConcluded}
+use Rattle.desk_run.specs.Workers.{link_of, clock_of, trace_of}
+use Rattle.desk_run.proofs.SeatLemmas.{put_front}
+use Rattle.desk_run.proofs.TurnsLemmas.{RunsInTurns, may_serve, owned_all, pass_at, pass_tells, receives, still_all}
 use Rattle.rist_recv.proofs.in_turns.served_in_turns.Goals as goal
 
 pub serve-requires-clause-own : goal.serve-requires-clause-own
@@ -65,7 +65,7 @@ returns-clause-work g c = λ s contents faults given free told delay session.
     let back = c.unseated_with.ensures.own ∙ ap (map trace_of) front in
     let concluded = subst (λ x. HasConcluded x (own_lists own_list later) c.unseated_with.new.own.items c.conclude_turns-cut.result.cut c.conclude_turns-cut.result.receiver (g.K.Sink.contents c.conclude_turns-cut.result.sink) (g.K.Sink.faults c.conclude_turns-cut.result.sink)) given
     (c.conclude_turns-cut.ensures.concluded (own_lists own_list later) (subst (AreOwned (own_lists own_list later)) (sym back) (owned_all later))) in
-    subst (λ e. Receives g.C.Clock.moments tells s limits c.args.links.now.items c.unseated_with.new.links.items c.args.clocks.now.items c.unseated_with.new.clocks.items contents (g.K.Sink.contents c.conclude_turns-cut.result.sink) faults (g.K.Sink.faults c.conclude_turns-cut.result.sink) c.counts.result e) (sym c.ending_by.ensures.value)
+    subst (λ e. Receives g.C.Clock.moments tells s limits (outside c.args.links.now.items c.args.clocks.now.items contents faults) (outside c.unseated_with.new.links.items c.unseated_with.new.clocks.items (g.K.Sink.contents c.conclude_turns-cut.result.sink) (g.K.Sink.faults c.conclude_turns-cut.result.sink)) c.counts.result e) (sym c.ending_by.ensures.value)
     (receives g.C.Clock.moments tells s limits ws later c.args.openers.items c.args.passes.items c.ending_after-after.result contents faults runs free told
     c.unseated_with.new.own.items c.conclude_turns-cut.result.cut c.conclude_turns-cut.result.receiver (g.K.Sink.contents c.conclude_turns-cut.result.sink) (g.K.Sink.faults c.conclude_turns-cut.result.sink) c.counts.result
     c.args.links.now.items c.unseated_with.new.links.items c.args.clocks.now.items c.unseated_with.new.clocks.items

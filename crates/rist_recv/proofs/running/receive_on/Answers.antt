@@ -6,12 +6,12 @@ use Rattle.rist_desk.specs.Desk.{DeskState, Given, StandsFor, state_of}
 use Rattle.outside_net.specs.Links.{LinkTells}
 use Rattle.rist_desk.specs.Serving.{ServesOn, TraceTells}
 use Rattle.rist_desk.specs.declared.step.Step.{Step}
-use Rattle.rist_recv.proofs.RunLemmas.{Finds, all_new, all_served, clocks_told, ends_as, exactly, kept_sure, links_told, none_told, same_given}
-use Rattle.rist_recv.proofs.SeatLemmas.{put_front}
-use Rattle.rist_recv.specs.Receiving.{given_by}
-use Rattle.rist_recv.specs.Run.{EndsAs}
-use Rattle.rist_recv.specs.Setup.{given_to, setup_of}
-use Rattle.rist_recv.specs.Workers.{told_by, link_of, clock_of}
+use Rattle.desk_run.proofs.RunLemmas.{Finds, all_new, all_served, clocks_told, ends_as, exactly, kept_sure, links_told, none_told, same_given}
+use Rattle.desk_run.proofs.SeatLemmas.{put_front}
+use Rattle.desk_run.specs.Receiving.{given_by}
+use Rattle.desk_run.specs.Run.{EndsAs}
+use Rattle.desk_run.specs.Setup.{given_to, setup_of}
+use Rattle.desk_run.specs.Workers.{told_by, link_of, clock_of}
 use Rattle.rist_recv.proofs.running.receive_on.Goals as goal
 
 pub returns-clause-work : goal.returns-clause-work

@@ -5,6 +5,7 @@ use Rattle.rist_gateway.specs.Run.{Forwards}
 use Rattle.rist_words.specs.Shown.{shown_gate}
 use Rattle.rist_top.specs.Sessions.{limits_served, setup_gated}
 use Rattle.rist_top.proofs.gating.gate_with.Goals as goal
+use Rattle.desk_run.specs.Run.{timed_links}
 
 pub returns-in-Ok-gate_on-clause-work : goal.returns-in-Ok-gate_on-clause-work
 returns-in-Ok-gate_on-clause-work g c =
@@ -16,11 +17,9 @@ returns-in-Ok-gate_on-clause-work g c =
       ending = gated.ending;
       answer = c.of_gate.ensures.value;
       run = subst
-          (λ n. Forwards g.C.Clock.moments tells (setup_gated line c.args.sealers.receiving c.args.sealers.sending) (limits_served line.serving) n
-          c.args.links.now.items c.gate_on.new.links.items c.args.clocks.now.items c.gate_on.new.clocks.items
+          (λ n. Forwards g.C.Clock.moments tells (setup_gated line c.args.sealers.receiving c.args.sealers.sending) (limits_served line.serving) n (timed_links c.args.links.now.items c.args.clocks.now.items) (timed_links c.gate_on.new.links.items c.gate_on.new.clocks.items)
           gated.counts gated.ending) inputs
           (subst
-          (λ s. Forwards g.C.Clock.moments tells s (limits_served line.serving) c.len.result
-          c.args.links.now.items c.gate_on.new.links.items c.args.clocks.now.items c.gate_on.new.clocks.items
+          (λ s. Forwards g.C.Clock.moments tells s (limits_served line.serving) c.len.result (timed_links c.args.links.now.items c.args.clocks.now.items) (timed_links c.gate_on.new.links.items c.gate_on.new.clocks.items)
           gated.counts gated.ending) c.in-Ok.ensures.setup c.in-Ok-gate_on.ensures.work);
     }

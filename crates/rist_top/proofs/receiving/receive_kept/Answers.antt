@@ -1,7 +1,7 @@
 -- What was made is what the line says, and what the run left is the line's.
 use Rattle.std.proofs.Common.{◌∙◌, Some, subst}
 use Rattle.outside_net.specs.Links.{LinkTells}
-use Rattle.rist_recv.specs.Run.{Receives}
+use Rattle.desk_run.specs.Run.{Receives, outside}
 use Rattle.rist_words.specs.Shown.{shown_recv}
 use Rattle.rist_top.specs.Sessions.{limits_received}
 use Rattle.rist_top.proofs.ReceiveLemmas.{kept_some, same_setup}
@@ -19,7 +19,6 @@ returns-clause-work g c =
       ending = c.receive_on-ending.result.ending;
       answer = c.of_ending.ensures.value;
       run = subst
-          (λ s. Receives g.C.Clock.moments tells s (limits_received line) c.args.links.now.items c.receive_on-ending.new.links.items c.args.clocks.now.items c.receive_on-ending.new.clocks.items
-          (g.K.Sink.contents c.args.sink) (g.K.Sink.contents c.receive_on-ending.result.sink) (g.K.Sink.faults c.args.sink) (g.K.Sink.faults c.receive_on-ending.result.sink)
+          (λ s. Receives g.C.Clock.moments tells s (limits_received line) (outside c.args.links.now.items c.args.clocks.now.items (g.K.Sink.contents c.args.sink) (g.K.Sink.faults c.args.sink)) (outside c.receive_on-ending.new.links.items c.receive_on-ending.new.clocks.items (g.K.Sink.contents c.receive_on-ending.result.sink) (g.K.Sink.faults c.receive_on-ending.result.sink))
           c.receive_on-ending.result.counts c.receive_on-ending.result.ending) setup c.receive_on-ending.ensures.work;
     }

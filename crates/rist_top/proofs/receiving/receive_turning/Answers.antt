@@ -1,7 +1,7 @@
 -- What was made is what the line says, and what the run left is the line's.
 use Rattle.std.proofs.Common.{◌∙◌, None, subst}
 use Rattle.outside_net.specs.Links.{LinkTells}
-use Rattle.rist_recv.specs.Run.{Receives}
+use Rattle.desk_run.specs.Run.{Receives, outside}
 use Rattle.rist_words.specs.Shown.{shown_recv}
 use Rattle.rist_top.specs.Sessions.{limits_received}
 use Rattle.rist_top.proofs.ReceiveLemmas.{kept_none, same_setup}
@@ -20,7 +20,6 @@ returns-in-Ok-receive_in_turns-clause-work g c =
       ending = ran.ending;
       answer = c.of_ending.ensures.value;
       run = subst
-          (λ s. Receives g.C.Clock.moments tells s (limits_received line) c.args.links.now.items c.receive_in_turns.new.links.items c.args.clocks.now.items c.receive_in_turns.new.clocks.items
-          (g.K.Sink.contents c.args.sink) (g.K.Sink.contents ran.sink) (g.K.Sink.faults c.args.sink) (g.K.Sink.faults ran.sink)
+          (λ s. Receives g.C.Clock.moments tells s (limits_received line) (outside c.args.links.now.items c.args.clocks.now.items (g.K.Sink.contents c.args.sink) (g.K.Sink.faults c.args.sink)) (outside c.receive_in_turns.new.links.items c.receive_in_turns.new.clocks.items (g.K.Sink.contents ran.sink) (g.K.Sink.faults ran.sink))
           ran.counts ran.ending) setup c.in-Ok-receive_in_turns.ensures.work;
     }

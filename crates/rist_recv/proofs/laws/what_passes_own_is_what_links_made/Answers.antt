@@ -1,6 +1,0 @@
--- Step by step, by the pass that added it.
-use Rattle.rist_recv.proofs.AgreeLemmas.{agrees}
-use Rattle.rist_recv.proofs.laws.what_passes_own_is_what_links_made.Goals as goal
-
-pub returns : goal.returns
-returns c = agrees

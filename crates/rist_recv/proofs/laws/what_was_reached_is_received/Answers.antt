@@ -1,6 +1,0 @@
--- The release set of the rules, over the steps that were kept.
-use Rattle.rist_recv.proofs.EndLemmas.{whole_is_exact}
-use Rattle.rist_recv.proofs.laws.what_was_reached_is_received.Goals as goal
-
-pub returns : goal.returns
-returns c given p run steps kept contents octets whole told is some steady stays honest = whole_is_exact given p run steps kept contents octets whole told is some steady stays honest
