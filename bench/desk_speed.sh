@@ -32,7 +32,7 @@ lay() {
         done
     done
     rm -r "$work/$1/tree"
-    echo 'speed: gre_tunnel outside_io outside_net seq_unwrap request_rules rist_wire rist_ends rist_desk rist_recv' >> "$work/$1/crates.txt"
+    echo "speed: gre_tunnel outside_io outside_net seq_unwrap request_rules rist_wire rist_ends rist_desk rist_recv $3" >> "$work/$1/crates.txt"
 }
 add() {
     local name
@@ -43,8 +43,8 @@ add() {
         esac
     done
 }
-lay turns HEAD
-lay lock "$earlier"
+lay turns HEAD "link_channels desk_run"
+lay lock "$earlier" ""
 cat > "$work/turns/crates/speed/src/main.rt" <<'RATTLE'
 #![tactic(auto)]
 ghost use Rattle.std.specs.Prelude.{◌≡◌, ◌<◌, ◌≤◌, None, Some, length};
@@ -52,10 +52,11 @@ ghost use Rattle.rist_wire.specs.Session.{IsSession};
 ghost use Rattle.rist_ends.specs.Settings.{IsInRange};
 
 use gre_tunnel::Tunnel;
-use outside_io::{Channel, Failed, Profile, Store8};
+use link_channels::{Channel, Profile};
+use outside_io::{Failed, Store8};
 use outside_net::{Clock, Got, Link};
 use request_rules::NackKind;
-use rist_desk::Limits;
+use rist_desk::ServingLimits;
 use rist_ends::Settings;
 use rist_wire::Session;
 use seq_unwrap::Width;
@@ -169,10 +170,13 @@ fn room(count: u64) -> usize {
     (count.min(1 << 20) as usize) * 1_316
 }
 RATTLE
-cp "$work/turns/crates/speed/src/main.rt" "$work/lock/crates/speed/src/main.rt"
+# The earlier tree has these names elsewhere.
+sed -e 's/^use link_channels::/use outside_io::/' -e 's/ServingLimits/Limits/' \
+    "$work/turns/crates/speed/src/main.rt" > "$work/lock/crates/speed/src/main.rt"
 cat >> "$work/turns/crates/speed/src/main.rt" <<'RATTLE'
 
-use rist_recv::{make_in_turns, receive_in_turns};
+use desk_run::make_in_turns;
+use rist_recv::receive_in_turns;
 
 // How many packets were kept behind a turn lock.
 fn kept_of<R: Threads + Wait + Sync>(
@@ -186,7 +190,7 @@ fn kept_of<R: Threads + Wait + Sync>(
     requires few { length links.old.items ≤ 16 }
     requires clocks { length clocks.old.items ≡ length links.old.items }
 {
-    let limits = Limits { turns: 1 << 40, idle: 0 };
+    let limits = ServingLimits { turns: 1 << 40, idle: 0 };
     let Ok(sink) = Store8::with(alloc, room(count), &[]) else {
         return None;
     };
