@@ -9,7 +9,7 @@ use Rattle.rist_desk.specs.Serving.{MayServe}
 use Rattle.rist_gateway.specs.declared.either_worker.EitherWorker.{EitherWorker}
 use Rattle.rist_gateway.specs.declared.either_worker.EitherWorker.TheVariants as parts
 use Rattle.rist_gateway.specs.declared.side_worker.SideWorker.{SideWorker}
-use Rattle.rist_gateway.specs.Parts.{IsPlaced, LooksWith, MayBegin, MayLook, ServesPart, ServesWith, SharedTells}
+use Rattle.rist_gateway.specs.Workers.{IsPlaced, LooksWith, MayBegin, MayLook, ServesPart, ServesWith, SharedTells}
 use Rattle.rist_gateway.specs.Inside.Sides.{receiving_part, sending_part}
 
 -- ---- lists that are moved, the last first

@@ -5,7 +5,7 @@ use Rattle.rist_desk.proofs.ListLemmas.{reverse_more}
 use Rattle.rist_gateway.specs.declared.either_worker.EitherWorker.{EitherWorker}
 use Rattle.rist_gateway.specs.declared.either_worker.EitherWorker.TheVariants as parts
 use Rattle.rist_gateway.specs.declared.side_worker.SideWorker.{SideWorker}
-use Rattle.rist_gateway.specs.Parts.{LookedAt, SidesTell, side_clock, side_workers}
+use Rattle.rist_gateway.specs.Workers.{LookedAt, SidesTell, side_clock, side_workers}
 use Rattle.rist_gateway.specs.Inside.Sides.{LookedWith, seated_sides, sending_part, sending_parts, without_pass}
 use Rattle.rist_gateway.specs.Sides.{ServesSide}
 use Rattle.rist_desk.specs.declared.worker.ServingLimits.{ServingLimits}

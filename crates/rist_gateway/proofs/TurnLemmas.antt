@@ -13,7 +13,7 @@ use Rattle.turn_desk.specs.declared.shared.Shared.{Shared}
 use Rattle.turn_desk.specs.Own.{AreFreshFor, AreOf, IsBeside, IsOf}
 use Rattle.desk_run.specs.Workers.{trace_of}
 use Rattle.rist_gateway.specs.declared.side_worker.SideWorker.{SideWorker}
-use Rattle.rist_gateway.specs.Parts.{MayLook, sides_as}
+use Rattle.rist_gateway.specs.Workers.{MayLook, sides_as}
 use Rattle.rist_gateway.specs.Inside.Sides.{seated_sides, side_pass}
 
 -- ---- places

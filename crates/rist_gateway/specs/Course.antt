@@ -67,7 +67,8 @@ SendsParts setup (part ∷ parts) result from to =
 -- The octets in parts of 1,500, of which the last may have fewer: what a receiver plays out at once is one part.
 abbrev pub AreParts : List (List ℕ) → List ℕ → Type 0
 AreParts [] octets = octets ≡ []
-AreParts (part ∷ parts) octets = (0 < length octets) × (part ≡ take MAX_PAYLOAD octets) × AreParts parts (drop MAX_PAYLOAD octets)
+AreParts (part ∷ parts) octets =
+    (0 < length octets) × (part ≡ take MAX_PAYLOAD octets) × AreParts parts (drop MAX_PAYLOAD octets)
 
 -- a piece is sent on
 pub record SendsOn (setup : Setup) (piece : List ℕ) (result : Result Unit SendBad) (from to : Course) : Type 0 where

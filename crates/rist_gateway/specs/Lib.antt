@@ -1,7 +1,7 @@
 pub mod Course
 pub mod Onward
 pub mod Sides
-pub mod Parts
+pub mod Workers
 pub mod Inside
 pub mod Setup
 pub mod Run

@@ -16,7 +16,7 @@ use Rattle.rist_gateway.specs.declared.ending.GateEnding.TheVariants as gates
 use Rattle.rist_gateway.specs.declared.side_worker.SideWorker.{SideWorker}
 use Rattle.rist_gateway.specs.Onward.{OnwardState, IsOnward, IsUncalled, shown}
 use Rattle.rist_gateway.specs.Setup.{GateSetup}
-use Rattle.rist_gateway.specs.Parts.{LookedAt, side_clock, side_workers}
+use Rattle.rist_gateway.specs.Workers.{LookedAt, side_clock, side_workers}
 
 -- ---- endings
 

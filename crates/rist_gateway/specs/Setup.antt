@@ -10,7 +10,7 @@ use Rattle.rist_desk.specs.declared.step.Step.{Step}
 use Rattle.desk_run.specs.Setup.{Setup as ReceivingSetup, IsMade as IsReceivingMade, IsMadeInTurns, setup_in_turns}
 use Rattle.desk_run.specs.Setup.{setup_of as receiving_setup_of}
 use Rattle.rist_gateway.specs.Onward.{no_work}
-use Rattle.rist_gateway.specs.declared.making.GateMemory.{GateMemory}
+use Rattle.rist_gateway.specs.declared.memory.GateMemory.{GateMemory}
 use Rattle.rist_gateway.specs.declared.receiving_end.KeptEnd.{KeptEnd}
 use Rattle.rist_gateway.specs.declared.receiving_end.ReceivingEnd.{ReceivingEnd}
 use Rattle.rist_gateway.specs.declared.receiving_end.ReceivingEnd.TheVariants as ends

@@ -2,32 +2,32 @@
 //! sees what the sending end did, deed by deed, and what each of its links was given.
 #![tactic(auto)]
 
+mod cuts;
 mod either_worker;
 mod ending;
 mod found;
-mod gating;
 mod handed;
 mod in_turns;
 mod lending;
-mod looking;
-mod making;
+mod look;
+mod memory;
 mod onward;
 mod origin;
-mod parts;
 mod receiving;
 mod receiving_end;
-mod running;
+mod run;
 mod shares_beside;
 mod side_worker;
 mod sides;
+mod threads;
 
 pub use either_worker::EitherWorker;
 pub use ending::GateEnding;
-pub use gating::gate;
-pub use making::{GateMemory, make, make_in_turns};
+pub use memory::{GateMemory, make, make_in_turns};
 pub use onward::Onward;
 pub use origin::OnwardOrigin;
 pub use receiving_end::{KeptEnd, ReceivingEnd};
-pub use running::{Gated, gate_on};
+pub use run::{Gated, gate_on};
 pub use shares_beside::SharesBeside;
 pub use side_worker::{SideEnded, SideWorker};
+pub use threads::gate;

@@ -5,10 +5,10 @@ ghost use Rattle.outside_io.specs.Told.{Appends, AppendsPart};
 ghost use Rattle.rist_gateway.specs.Onward.{IsOnward, IsUncalled, Puts, Looks, onward_of, passed_of, shows};
 ghost use Rattle.rist_gateway.specs.Onward.{why_of, bad_after};
 
+use crate::cuts::send_parts;
 use crate::handed::Handed;
-use crate::looking::look;
+use crate::look::look;
 use crate::origin::OnwardOrigin;
-use crate::parts::send_parts;
 use outside_io::{Failed, Sink};
 use outside_net::{Clock, Link, TellingLink};
 use rist_desk::{Beside, Side};

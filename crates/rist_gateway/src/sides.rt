@@ -6,14 +6,14 @@ ghost use Rattle.rist_desk.specs.Serving.{MayServe};
 ghost use Rattle.rist_desk.specs.declared.worker.Worker.{Worker as ServedWorker};
 ghost use Rattle.rist_gateway.specs.declared.either_worker.EitherWorker.{EitherWorker as ServedPart};
 ghost use Rattle.rist_gateway.specs.declared.side_worker.SideWorker.{SideWorker as Side};
-ghost use Rattle.rist_gateway.specs.Parts.{ServesWith, shared_as, sides_as, side_clock};
+ghost use Rattle.rist_gateway.specs.Workers.{ServesWith, shared_as, sides_as, side_clock};
 ghost use Rattle.rist_gateway.specs.Inside.Sides.{HasRoom, LookAtLinks, MayLookAtLinks, receiving_part, sending_part};
 ghost use Rattle.rist_gateway.specs.Inside.Sides.{seated_sides, sending_parts, side_pass};
 
 use crate::either_worker::EitherWorker;
-use crate::gating::gate;
 use crate::shares_beside::SharesBeside;
 use crate::side_worker::SideWorker;
+use crate::threads::gate;
 use outside_net::{Clock, Link, TellingLink};
 use rist_desk::{ServingLimits, Shares, Worker};
 use std::sync::Wait;

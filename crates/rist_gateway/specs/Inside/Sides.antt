@@ -5,7 +5,7 @@ use Rattle.rist_desk.specs.declared.worker.Worker.{Worker}
 use Rattle.rist_gateway.specs.declared.either_worker.EitherWorker.{EitherWorker}
 use Rattle.rist_gateway.specs.declared.either_worker.EitherWorker.TheVariants as parts
 use Rattle.rist_gateway.specs.declared.side_worker.SideWorker.{SideWorker}
-use Rattle.rist_gateway.specs.Parts.{LooksWith, MayLook, SidesTell}
+use Rattle.rist_gateway.specs.Workers.{LooksWith, MayLook, SidesTell}
 
 -- what a worker is among the parts
 abbrev pub receiving_part : {L C U D P : Type 0} → Worker L C U → EitherWorker L C U D P

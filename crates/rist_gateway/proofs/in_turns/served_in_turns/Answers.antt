@@ -12,13 +12,13 @@ use Rattle.desk_run.specs.Setup.{given_to}
 use Rattle.desk_run.specs.Turns.{AreOwned, FitsAfter, HasConcluded}
 use Rattle.desk_run.specs.Workers.{link_of, clock_of, trace_of}
 use Rattle.desk_run.proofs.TurnsLemmas.{RunsInTurns, owned_first, pass_at, pass_tells, receives}
-use Rattle.rist_gateway.specs.Parts.{LookedAt, side_clock}
+use Rattle.rist_gateway.specs.Workers.{LookedAt, side_clock}
 use Rattle.rist_gateway.specs.Inside.Sides.{seated_sides, side_pass, without_pass}
 use Rattle.rist_desk.specs.declared.step.Step.{Step}
 use Rattle.turn_lock.specs.Passes.{turns_left}
 use Rattle.turn_desk.specs.declared.shared.Shared.{Shared}
 use Rattle.rist_gateway.specs.declared.side_worker.SideWorker.{SideWorker}
-use Rattle.rist_gateway.specs.Parts.{MayLook, sides_as}
+use Rattle.rist_gateway.specs.Workers.{MayLook, sides_as}
 use Rattle.rist_gateway.specs.Inside.Sides.{LookedWith, sending_parts}
 use Rattle.rist_gateway.proofs.LendLemmas.{clocks_told, looked_told, parts_count, seated_told, side_count, sides_same}
 use Rattle.rist_gateway.proofs.TurnLemmas.{first_place, fresh_nothing, passes_are, sides_may, sides_none, workers_may}

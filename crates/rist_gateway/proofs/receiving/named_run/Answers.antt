@@ -14,7 +14,7 @@ use Rattle.desk_run.specs.Setup.{given_to, setup_of}
 use Rattle.desk_run.specs.Workers.{seat_of, told_by}
 use Rattle.std.specs.Prelude.{vec_capacity}
 use Rattle.std.proofs.Common.{◌++◌, length, rules}
-use Rattle.rist_gateway.specs.Parts.{LookedAt, side_clock}
+use Rattle.rist_gateway.specs.Workers.{LookedAt, side_clock}
 use Rattle.rist_gateway.specs.Inside.Sides.{seated_sides, without_pass}
 use Rattle.rist_gateway.proofs.LendLemmas.{clocks_told, looked_told, parts_count, seated_told, side_count}
 use Rattle.rist_gateway.proofs.receiving.named_run.Goals as goal

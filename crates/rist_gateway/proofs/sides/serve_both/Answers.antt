@@ -5,7 +5,7 @@ use Rattle.rist_desk.specs.declared.worker.Worker.{Worker}
 use Rattle.outside_net.specs.Links.{LinkTells}
 use Rattle.rist_desk.specs.Serving.{MayServe}
 use Rattle.rist_gateway.specs.declared.either_worker.EitherWorker.{EitherWorker}
-use Rattle.rist_gateway.specs.Parts.{IsPlaced, LooksWith, MayBegin, MayLook, ServesPart, ServesWith, SharedTells, shared_as, sides_as}
+use Rattle.rist_gateway.specs.Workers.{IsPlaced, LooksWith, MayBegin, MayLook, ServesPart, ServesWith, SharedTells, shared_as, sides_as}
 use Rattle.rist_gateway.specs.Inside.Sides.{LookedWith, receiving_part, sending_part}
 use Rattle.rist_gateway.proofs.GatherLemmas.{Served, reverse_twice, placed_from, may_from, parts_served}
 use Rattle.rist_gateway.proofs.LendLemmas.{sides_same}

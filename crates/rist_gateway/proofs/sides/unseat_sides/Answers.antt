@@ -1,7 +1,7 @@
 -- One more clock and pass are back, and then all are.
 use Rattle.std.proofs.Common.{◌≡◌, [], rules, arith}
 use Rattle.desk_run.proofs.SeatLemmas.{one_less}
-use Rattle.rist_gateway.specs.Parts.{side_clock}
+use Rattle.rist_gateway.specs.Workers.{side_clock}
 use Rattle.rist_gateway.specs.Inside.Sides.{side_pass}
 use Rattle.rist_gateway.proofs.LendLemmas.{returned_step, returned_all}
 use Rattle.rist_gateway.proofs.sides.unseat_sides.Goals as goal

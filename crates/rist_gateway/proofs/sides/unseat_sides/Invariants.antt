@@ -2,7 +2,7 @@
 use Rattle.std.proofs.Common.{◌≡◌, ◌≤◌, ◌+◌, List, length}
 use Rattle.std.specs.Prelude.{vec_capacity}
 use Rattle.rist_gateway.specs.declared.side_worker.SideWorker.{SideWorker}
-use Rattle.rist_gateway.specs.Parts.{side_clock}
+use Rattle.rist_gateway.specs.Workers.{side_clock}
 use Rattle.rist_gateway.specs.Inside.Sides.{sending_parts, side_pass}
 use Rattle.rist_gateway.proofs.LendLemmas.{Returned}
 use Rattle.rist_gateway.proofs.sides.unseat_sides.Given as goal

@@ -2,7 +2,7 @@
 use Rattle.std.proofs.Common.{sym, ap}
 use Rattle.rist_gateway.specs.Course.{Passed}
 use Rattle.rist_gateway.proofs.MoveLemmas.{goes_call}
-use Rattle.rist_gateway.proofs.looking.feed.Goals as goal
+use Rattle.rist_gateway.proofs.look.feed.Goals as goal
 
 pub returns-clause-work : goal.returns-clause-work
 returns-clause-work g c = λ moments from far.

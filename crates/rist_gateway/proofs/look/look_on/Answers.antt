@@ -3,7 +3,7 @@ use Rattle.std.proofs.Common.{◌≡◌, take, length, refl, subst}
 use Rattle.outside_net.specs.Links.{Gave, Quiet, End, Failed}
 use Rattle.rist_gateway.specs.Course.{Setup, AfterRead, with_read}
 use Rattle.rist_gateway.proofs.MoveLemmas.{goes_none, reads_then, setup_links}
-use Rattle.rist_gateway.proofs.looking.look_on.Goals as goal
+use Rattle.rist_gateway.proofs.look.look_on.Goals as goal
 
 pub returns-in-Datagram-clause-work : goal.returns-in-Datagram-clause-work
 returns-in-Datagram-clause-work g c = λ moments from far.

@@ -9,7 +9,7 @@ ghost use Rattle.rist_gateway.specs.Setup.{IsGateMade, IsReceivingEnd, gate_setu
 
 use crate::ending::{GateEnding, ending_of};
 use crate::lending::{give_back, hand_on};
-use crate::making::GateMemory;
+use crate::memory::GateMemory;
 use crate::onward::Onward;
 use crate::origin::OnwardOrigin;
 use crate::receiving::receive_beside;

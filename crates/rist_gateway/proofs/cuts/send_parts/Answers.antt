@@ -5,7 +5,7 @@ use Rattle.rist_sender.specs.Calls.{Rules}
 use Rattle.rist_gateway.specs.Onward.{passed_of}
 use Rattle.rist_gateway.specs.Inside.Moves.{setup_with, SendsBefore}
 use Rattle.rist_gateway.proofs.MoveLemmas.{goes_then, stays_then, sends_more, sends_bad, sends_last, take_all, drop_all, part_as}
-use Rattle.rist_gateway.proofs.parts.send_parts.Goals as goal
+use Rattle.rist_gateway.proofs.cuts.send_parts.Goals as goal
 
 pub returns-in-Err-clause-work : goal.returns-in-Err-clause-work
 returns-in-Err-clause-work g c = λ from far.

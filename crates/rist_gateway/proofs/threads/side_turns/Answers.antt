@@ -2,7 +2,7 @@
 use Rattle.std.proofs.Common.{refl, sym, ap, ◌∙◌, Some, arith}
 use Rattle.rist_desk.proofs.TurnLemmas.{from_zero, not_last}
 use Rattle.rist_gateway.proofs.SideLemmas.{side_first, side_on, side_over}
-use Rattle.rist_gateway.proofs.gating.side_turns.Goals as goal
+use Rattle.rist_gateway.proofs.threads.side_turns.Goals as goal
 
 pub turns-init : goal.turns-init
 turns-init g c = record {

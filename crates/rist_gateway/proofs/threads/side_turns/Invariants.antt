@@ -1,7 +1,7 @@
 -- The turns that were made.
 use Rattle.std.proofs.Common.{◌≡◌, ◌<◌, ◌≤◌, ◌+◌, ◌-◌, ℕ, Some}
 use Rattle.rist_gateway.specs.Sides.{IsSideGoing}
-use Rattle.rist_gateway.proofs.gating.side_turns.Given as goal
+use Rattle.rist_gateway.proofs.threads.side_turns.Given as goal
 
 abbrev pub invariant-turns : goal.invariant-turns
 invariant-turns g l = record {

@@ -3,7 +3,7 @@ use Rattle.outside_net.specs.Links.{LinkTells}
 use Rattle.std.proofs.Common.{◌∙◌, length, ap, sym}
 use Rattle.std.proofs.lemmas.List.{length-map}
 use Rattle.rist_gateway.specs.Onward.{OnwardState, shown}
-use Rattle.rist_gateway.proofs.running.forward.Goals as goal
+use Rattle.rist_gateway.proofs.run.forward.Goals as goal
 
 pub returns-in-Ok-clause-onward : goal.returns-in-Ok-clause-onward
 returns-in-Ok-clause-onward g c =

@@ -6,7 +6,7 @@ use Rattle.rist_desk.specs.declared.beside.Side.TheVariants as sides
 use Rattle.rist_gateway.specs.Course.{ReadsOnce}
 use Rattle.rist_gateway.specs.Inside.Moves.{setup_with}
 use Rattle.rist_gateway.proofs.MoveLemmas.{goes_none, goes_as}
-use Rattle.rist_gateway.proofs.looking.look.Goals as goal
+use Rattle.rist_gateway.proofs.look.look.Goals as goal
 
 pub returns-then-from-links-clause-work : goal.returns-then-from-links-clause-work
 returns-then-from-links-clause-work g c = λ moments from far.

@@ -10,9 +10,9 @@ use Rattle.rist_gateway.specs.Setup.{IsReceivingEnd, received_setup_of}
 use Rattle.rist_gateway.specs.Run.{AreLookedAt}
 use Rattle.rist_gateway.proofs.LendLemmas.{back_is, cut_counts, front_is}
 use Rattle.rist_gateway.proofs.RunLemmas.{last_at, take_front, ok_both, on_err, together}
-use Rattle.rist_gateway.proofs.running.gate_on.Given as given
-use Rattle.rist_gateway.proofs.running.gate_on.Goals as goal
-use Rattle.rist_gateway.proofs.running.gate_on.Goals.{After-hand_on-2}
+use Rattle.rist_gateway.proofs.run.gate_on.Given as given
+use Rattle.rist_gateway.proofs.run.gate_on.Goals as goal
+use Rattle.rist_gateway.proofs.run.gate_on.Goals.{After-hand_on-2}
 
 -- what stayed of a run's links and clocks, and what was handed on
 record Parted {L C : Type 0} (inputs outputs : ℕ) (links kept moved : List L) (clocks clocks_left clocks_on : List C) : Type 0 where

@@ -5,7 +5,7 @@ use Rattle.rist_sender.specs.Sender.{StaysSet}
 use Rattle.rist_gateway.specs.Course.{Course}
 use Rattle.rist_gateway.specs.Onward.{passed_of}
 use Rattle.rist_gateway.specs.Inside.Moves.{setup_with, IsFar, Goes, SendsBefore}
-use Rattle.rist_gateway.proofs.parts.send_parts.Given as goal
+use Rattle.rist_gateway.proofs.cuts.send_parts.Given as goal
 
 abbrev pub invariant-loop-rest : goal.invariant-loop-rest
 invariant-loop-rest g l = record {

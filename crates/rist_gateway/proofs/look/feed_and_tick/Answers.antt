@@ -2,7 +2,7 @@
 use Rattle.std.proofs.Common.{length, Ok, Err, refl, subst}
 use Rattle.rist_gateway.specs.Course.{Setup, TicksOnce}
 use Rattle.rist_gateway.proofs.MoveLemmas.{goes_then, goes_as, setup_same}
-use Rattle.rist_gateway.proofs.looking.feed_and_tick.Goals as goal
+use Rattle.rist_gateway.proofs.look.feed_and_tick.Goals as goal
 
 pub returns-in-Ok-clause-work : goal.returns-in-Ok-clause-work
 returns-in-Ok-clause-work g c = λ moments from far.

@@ -9,7 +9,7 @@ use Rattle.rist_sender.specs.Incoming.{compound_of}
 use Rattle.rist_gateway.specs.Course.{AnswersAndTicks}
 use Rattle.rist_gateway.specs.Inside.Moves.{setup_with}
 use Rattle.rist_gateway.proofs.MoveLemmas.{goes_as}
-use Rattle.rist_gateway.proofs.looking.answer_and_tick.Goals as goal
+use Rattle.rist_gateway.proofs.look.answer_and_tick.Goals as goal
 
 abbrev taken : Item → Result Item WireBad
 taken item = Ok item

@@ -1,6 +1,6 @@
 //! Links served on both sides of what is shared.
 ghost use Rattle.std.specs.Prelude.{◌≡◌, ◌<◌, ◌≤◌, ◌+◌, ◌^◌, ℕ, Some, IfNone, false, length, slice_index_or};
-ghost use Rattle.rist_gateway.specs.Parts.{IsPlaced, LooksWith, MayBegin, MayLook, ServesPart, shared_as, sides_as};
+ghost use Rattle.rist_gateway.specs.Workers.{IsPlaced, LooksWith, MayBegin, MayLook, ServesPart, shared_as, sides_as};
 ghost use Rattle.rist_gateway.specs.Sides.{IsSideServed, SideTurn};
 
 use crate::either_worker::EitherWorker;

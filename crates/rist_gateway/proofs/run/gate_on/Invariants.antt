@@ -1,7 +1,7 @@
 -- The name of this run's sending end.
 use Rattle.std.specs.Prelude.{[], None}
 use Rattle.rist_gateway.specs.Onward.{onward_of, passed_of}
-use Rattle.rist_gateway.proofs.running.gate_on.Given as goal
+use Rattle.rist_gateway.proofs.run.gate_on.Given as goal
 
 abbrev pub ghosts-forward : goal.ghosts-forward
 ghosts-forward g a =

@@ -4,7 +4,7 @@ use Rattle.outside_net.specs.Streams.{IsFirst}
 use Rattle.rist_gateway.specs.Course.{Passed, passed_after}
 use Rattle.rist_gateway.specs.Onward.{passed_of}
 use Rattle.rist_gateway.proofs.MoveLemmas.{goes_call, passed_equal}
-use Rattle.rist_gateway.proofs.parts.send_part.Goals as goal
+use Rattle.rist_gateway.proofs.cuts.send_part.Goals as goal
 
 pub returns-in-Ok-clause-work : goal.returns-in-Ok-clause-work
 returns-in-Ok-clause-work g c = λ from far.
