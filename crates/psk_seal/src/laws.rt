@@ -1,5 +1,5 @@
 //! Laws of a sealer's pairs.
-ghost use Rattle.std.specs.Prelude.{◌≡◌, ◌<◌, ℕ, List};
+ghost use Rattle.std.specs.Prelude.{◌≡◌, ◌<◌, ◌^◌, ℕ, List};
 ghost use Rattle.psk_seal.specs.Nonces.{AreNonces, GiveNonces};
 ghost use Rattle.psk_seal.specs.Pairs.{pair_at};
 
@@ -15,4 +15,10 @@ pub fn pairs_differ()
 pub fn one_list_of_nonces()
     ensures { (words xs ys : List ℕ) → GiveNonces words xs NONCE_COUNT → GiveNonces words ys NONCE_COUNT
         → xs ≡ ys }
+{}
+
+/// A sealer draws sixteen nonces and gives 2^36 pairs (this profile).
+pub fn bounds_are_these()
+    ensures nonces { NONCE_COUNT ≡ 16 }
+    ensures pairs { MAX_PAIRS ≡ 2 ^ 36 }
 {}

@@ -38,3 +38,8 @@ pub fn a_size_can_be_left_out()
         → counted_reading_of (length kept) RIST_PROFILE (uncounted_last shape upper)
         ≡ Ok (record { strip = Some shape; upper = upper }) }
 {}
+
+/// The profile word of the extension is 0x5249, "RI" (this profile).
+pub fn the_profile_word_is_this()
+    ensures { RIST_PROFILE ≡ 21065 }
+{}

@@ -3,7 +3,8 @@ ghost use Rattle.std.specs.Prelude.{◌≡◌, ℕ, ◌+◌, ◌%◌, ◌<◌, �
 ghost use Rattle.std.specs.List.{sum};
 ghost use Rattle.seq_unwrap.specs.declared.width.Width.{Width};
 ghost use Rattle.seq_unwrap.specs.Nearest.{cycle_of};
-ghost use Rattle.sender_rules.specs.declared.bounds.TheConstants.{MAX_STORED};
+ghost use Rattle.link_channels.specs.declared.bounds.TheConstants.{MAX_DATAGRAM, MAX_LINKS, MAX_PAYLOAD};
+ghost use Rattle.sender_rules.specs.declared.bounds.TheConstants.{MAX_LOOKED_AT, MAX_SENT_AGAIN, MAX_STORED};
 ghost use Rattle.sender_rules.specs.Bonding.{HasPlace, link_at};
 ghost use Rattle.sender_rules.specs.Sendings.{Packet, Sending, sent_packets, AreNumbered};
 ghost use Rattle.sender_rules.specs.Stored.{stored_packets, packet_for};
@@ -21,4 +22,14 @@ pub fn a_word_finds_one_packet()
         → AreNumbered (sent_packets history) → size ≤ MAX_STORED
         → slice_get (stored_packets size history) place ≡ Some packet
         → packet_for (stored_packets size history) width (packet.number % cycle_of width) ≡ Some packet }
+{}
+
+/// The bounds of a session and of a sender are these numbers (this profile).
+pub fn bounds_are_these()
+    ensures links { MAX_LINKS ≡ 16 }
+    ensures datagram { MAX_DATAGRAM ≡ 2048 }
+    ensures payload { MAX_PAYLOAD ≡ 1500 }
+    ensures stored { MAX_STORED ≡ 65536 }
+    ensures looked_at { MAX_LOOKED_AT ≡ 65536 }
+    ensures again { MAX_SENT_AGAIN ≡ 256 }
 {}
