@@ -207,6 +207,7 @@ module _ {L C X : Type 0} (moments : C → Option (ℕ → ℕ)) (tells : LinkTe
         tells_steps = h.tells ∙ sym told;
         contents = h.contents_are;
         faults = h.faults_are;
+        counts_are = count ∙ ap (λ (x : ReceiverState). x.counts) (sym h.receiver_is);
         stands = h.stands;
         fault = fault_by cut faults faults_are h.cause;
         ends = ends_by cut h.desk counts h.received

@@ -118,6 +118,8 @@ pub record Receives {L C : Type 0} (moments : C → Option (ℕ → ℕ)) (tells
   pub tells_steps : is_some desk.kept ≡ s.tells
   pub contents : desk.contents ≡ is.contents
   pub faults : desk.faults ≡ is.faults
+  -- however it ends, the counts are those of the receiver
+  pub counts_are : counts ≡ desk.receiver.counts
   -- however it ends, the kept list is a legal history of the receiver, and the sink holds what it releases
   pub stands : (steps : List Step) → desk.kept ≡ Some steps
       → StandsFor (given_to s was.contents was.faults) desk (reverse steps)

@@ -82,6 +82,7 @@ returns-clause-work g c =
       tells_steps = c.conclude-ending.ensures.tells ∙ ap (λ (x : Given). x.tells_steps) same;
       contents = refl;
       faults = refl;
+      counts_are = c.counts.ensures.value;
       stands = λ steps is. subst (λ x. StandsFor x desk (reverse steps)) same (stands steps is);
       fault = subst (λ (n : ℕ). RoseWhere (is_write_fault r.ending) n (g.K.Sink.faults r.sink)) (ap (λ (x : Given). x.faults) same) c.conclude-ending.ensures.fault;
       ends = subst (λ x. EndsAs r.ending x desk (map (told_by trace) later) c.counts.result) same

@@ -9,8 +9,8 @@ use Rattle.desk_run.specs.Receiving.{given_by}
 use Rattle.desk_run.specs.Setup.{no_steps}
 use Rattle.rist_gateway.proofs.receiving.receive_kept.Goals as goal
 
-pub session-requires-clause-given : goal.session-requires-clause-given
-session-requires-clause-given g c κs within =
+pub named_run-requires-clause-given : goal.named_run-requires-clause-given
+named_run-requires-clause-given g c κs within =
     let made = c.args.end.made in
     let given : Given = given_by (state_of made.receiver (g.T.Trace.list made.trace) (g.T.Trace.limit made.trace) (g.K.Sink.contents c.args.sink) (g.K.Sink.faults c.args.sink)) in
     let told : is_some (g.T.Trace.list made.trace) ≡ is_some (g.T.Trace.limit made.trace) = ap is_some c.requires.made.receiving.list_is ∙ none_told (is_some (g.T.Trace.limit made.trace)) in
@@ -21,8 +21,8 @@ none_kept : (tells : Bool) → IfSome (no_steps tells) (λ steps. steps ≡ [])
 none_kept false = tt
 none_kept true = refl
 
-pub session-requires-clause-fresh : goal.session-requires-clause-fresh
-session-requires-clause-fresh g c κs within =
+pub named_run-requires-clause-fresh : goal.named_run-requires-clause-fresh
+named_run-requires-clause-fresh g c κs within =
     let made = c.args.end.made in
     record {
       settings = refl;

@@ -52,6 +52,7 @@ returns-clause-work g c =
       tells_steps = c.receive-received.ensures.tells ∙ told;
       contents = refl;
       faults = refl;
+      counts_are = c.counts.ensures.value;
       stands = λ steps is. subst (λ x. StandsFor x desk (reverse steps)) same (stands steps is);
       fault = c.receive-received.ensures.fault;
       ends = subst (λ x. EndsAs r.ending x desk (map (told_by trace) later) c.counts.result) same
