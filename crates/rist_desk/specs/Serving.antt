@@ -1,9 +1,7 @@
 -- What a worker did, by what its objects tell.
-use Rattle.std.specs.Prelude.{◌≡◌, ◌≤◌, ◌*◌, ℕ, List, Bool, Option, None, Some}
+use Rattle.std.specs.Prelude.{◌≡◌, ◌≤◌, ◌*◌, ℕ, List, Option, None, Some}
 use Rattle.outside_io.specs.Causes.{RoseWhere}
-use Rattle.link_channels.specs.declared.channel.Channel.{Channel}
-use Rattle.outside_net.specs.Links.{LinkTells}
-use Rattle.outside_net.specs.Links.{Datagram, Answer}
+use Rattle.outside_net.specs.Links.{LinkTells, Answer}
 use Rattle.rist_wire.specs.declared.session.Session.{Session}
 use Rattle.rist_desk.specs.declared.ended.Ended.{Ended}
 use Rattle.rist_desk.specs.declared.ended.Ended.TheVariants as ends

@@ -8,9 +8,11 @@ ghost use Rattle.outside_net.specs.Links.{LinkTells};
 ghost use Rattle.rist_desk.specs.Serving.{IsFeed, Serves, ServesOn, TraceTells, MayServe, Leaves};
 ghost use Rattle.rist_desk.specs.Inside.Going.{is_link_end, is_link_failure};
 
+use crate::access::Access;
 use crate::ended::Ended;
+use crate::pace::Pace;
 use crate::shares::Shares;
-use crate::turn::turn;
+use crate::turn::make_turn;
 use crate::worker::{ServingLimits, Worker};
 use outside_net::{Clock, Link, TellingLink};
 use rist_ends::Outs;
@@ -33,8 +35,8 @@ fn all_turns<S: Shares<U>, U, L: Link, C: Clock, R: Wait>(
     ensures own { S.is_of desk.now place worker.new.trace }
     ensures served { (f : Feed) → IsFeed f worker.old.opener place limits.now (C.moments worker.old.clock)
         (L.reads worker.old.link)
-        → IsServed (Some S.given) f (L.knows worker.old.link) (L.knows worker.new.link) result (C.moments worker.new.clock)
-        (L.reads worker.new.link)
+        → IsServed (Some S.given) f (L.knows worker.old.link) (L.knows worker.new.link) result
+        (C.moments worker.new.clock) (L.reads worker.new.link)
         (holds (S.list worker.old.trace) (L.taken worker.old.link))
         (holds (S.list worker.new.trace) (L.taken worker.new.link)) }
     ensures session { worker.new.opener ≡ worker.old.opener }
@@ -44,27 +46,22 @@ fn all_turns<S: Shares<U>, U, L: Link, C: Clock, R: Wait>(
     ensures ends { RoseWhere (is_link_end (Some result)) (L.ends worker.old.link) (L.ends worker.new.link) }
     ensures faults { RoseWhere (is_link_failure (Some result)) (L.faults worker.old.link) (L.faults worker.new.link) }
 {
-    let mut outs = Outs::none();
-    let mut ticked = None;
-    let mut since = None;
+    let mut access = Access {
+        rt,
+        desk,
+        outs: Outs::none(),
+    };
+    let mut pace = Pace {
+        ticked: None,
+        since: None,
+    };
     let mut made: u64 = 0;
     'turns: loop {
         let last = made + 1 >= limits.turns;
-        match turn(
-            rt,
-            desk,
-            worker,
-            &mut outs,
-            place,
-            limits,
-            last,
-            &mut ticked,
-            &mut since,
-        ) {
-            Some(end) => return end,
-            None => {}
+        match make_turn(&mut access, worker, place, limits, last, &mut pace) {
+            Ok(()) => made += 1,
+            Err(end) => return end,
         }
-        made += 1;
     }
 }
 

@@ -38,8 +38,8 @@ pub trait Shares<U> {
     /// By what it has seen, a write of the sink failed before.
     ghost broken: { U → Type 0 };
 
-    /// Makes one step; the datagrams that it makes stand in `outs`. It is Full, and none is made, only where a trace is at
-    /// its limit.
+    /// Makes one step; the datagrams that it makes stand in `outs`. It is Full, and none is made, only where a trace is
+    /// at its limit.
     fn step<R: Wait>(
         &self,
         rt: &R,
@@ -86,15 +86,8 @@ impl<N: DeskOrigin, T: StepTrace + Drop, K: Sink + Drop, U: StepTrace> Shares<U>
         told: &Told<'_>,
         outs: &mut Outs,
     ) -> Result<Answer, Full> {
-        match own.room() {
-            Ok(()) => {}
-            Err(full) => return Err(full),
-        }
-        let stepped = self.lock(rt).step(told, outs);
-        let answer = match stepped {
-            Ok(answer) => answer,
-            Err(full) => return Err(full),
-        };
+        own.room()?;
+        let answer = self.lock(rt).step(told, outs)?;
         keep(own, told, answer, outs);
         Ok(answer)
     }

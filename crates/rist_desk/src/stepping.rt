@@ -1,5 +1,6 @@
 //! A worker's steps on the desk, and what they make on its link.
-ghost use Rattle.std.specs.Prelude.{◌≡◌, ◌<◌, ◌≤◌, ◌+◌, [], ◌∷◌, ◌++◌, IfErr, OnOk, OnErr, ℕ, List, Some, Err, option_map};
+ghost use Rattle.std.specs.Prelude.{◌≡◌, ◌<◌, ◌≤◌, ◌+◌, [], ◌∷◌, ◌++◌, ℕ, List, Some, Err, IfErr, OnOk, OnErr};
+ghost use Rattle.std.specs.Prelude.{option_map};
 ghost use Rattle.link_channels.specs.declared.bounds.TheConstants.{MAX_LINKS};
 ghost use Rattle.link_channels.specs.declared.channel.Channel.{Channel as ChannelValue};
 ghost use Rattle.outside_io.specs.Causes.{HasCause, RoseWhere};
@@ -9,17 +10,21 @@ ghost use Rattle.rist_wire.specs.Item.{item_of};
 ghost use Rattle.rist_desk.specs.Items.{told_plan, item_plan, datagram_plan};
 ghost use Rattle.rist_desk.specs.Turns.{is_tick_due, tick_steps, ticked_after};
 ghost use Rattle.rist_desk.specs.Sending.{Goes, CutShort, LacksRoom, IsKnownIn, holds, written, written_where};
+ghost use Rattle.rist_desk.specs.Inside.Going.{KeepsRest};
 ghost use Rattle.rist_desk.specs.Inside.Links.{IsKept, IsKeptBy, IsInside, SentPart, has_link_failed, peers_by};
 
+use crate::access::Access;
 use crate::ended::Ended;
 use crate::items::what_of;
+use crate::pace::{Turn, is_due};
 use crate::shares::Shares;
+use crate::worker::Worker;
 use link_channels::{Channel, MAX_PAYLOAD};
 use outside_io::Failed;
 use outside_net::Link;
 use rist_ends::{Answer, Outs, Told, What};
 use rist_reporter::Out;
-use rist_wire::{Item, Opener, WireBad};
+use rist_wire::{Item, WireBad};
 use std::sync::Wait;
 
 /// Writes what a step made to the link.
@@ -30,33 +35,26 @@ fn send<L: Link>(link: &mut L, outs: &Outs) -> Result<(), Failed>
     ensures same { IsKept L.reads L.ends L.knows link.old link.new }
     ensures cause { HasCause (L.faults link.old) (L.faults link.new) result }
 {
-    match link.write(outs.first.channel(), outs.first.octets()) {
-        Ok(_) => {}
-        Err(failed) => return Err(failed),
+    link.write(outs.first.channel(), outs.first.octets())?;
+    if let Some(out) = &outs.second {
+        link.write(out.channel(), out.octets())?;
     }
-    match &outs.second {
-        Some(out) => match link.write(out.channel(), out.octets()) {
-            Ok(_) => Ok(()),
-            Err(failed) => Err(failed),
-        },
-        None => Ok(()),
-    }
+    Ok(())
 }
 
 /// Makes a step on what is shared, and writes what it made to the link. Where a trace is full it makes none.
 fn make_step<S: Shares<U>, U, L: Link, R: Wait>(
-    rt: &R,
-    desk: &S,
+    access: &mut Access<'_, R, S>,
     link: &mut L,
     own: &mut U,
-    outs: &mut Outs,
     told: &Told<'_>,
 ) -> Result<(), Ended>
     requires fits { IsFit told.now }
     requires going { IsNoEnd told.now.what }
-    requires own { S.is_of desk.now told.now.link own.old }
+    requires own { S.is_of access.old.desk.now told.now.link own.old }
     requires left { 1 ≤ S.left own.old }
-    ensures own { S.is_of desk.now told.now.link own.new }
+    ensures desk { access.new.desk ≡ access.old.desk }
+    ensures own { S.is_of access.old.desk.now told.now.link own.new }
     ensures left { S.left own.old ≤ S.left own.new + 1 }
     ensures ok { OnOk result (Goes (Some S.given) (L.knows link.old) (holds (S.list own.old) (L.taken link.old))
         (holds (S.list own.new) (L.taken link.new))
@@ -72,7 +70,7 @@ fn make_step<S: Shares<U>, U, L: Link, R: Wait>(
     ensures same { IsKept L.reads L.ends L.knows link.old link.new }
     ensures cause { RoseWhere (has_link_failed result) (L.faults link.old) (L.faults link.new) }
 {
-    let stepped = desk.step(rt, own, told, outs);
+    let stepped = access.desk.step(access.rt, own, told, &mut access.outs);
     let answer = match stepped {
         Ok(answer) => answer,
         Err(_) => return Err(Ended::TraceFull),
@@ -83,7 +81,7 @@ fn make_step<S: Shares<U>, U, L: Link, R: Wait>(
         Answer::Spent => Err(Ended::Spent),
         Answer::Verdict(_) => Ok(()),
         Answer::Nothing => Ok(()),
-        Answer::Made => match send(link, outs) {
+        Answer::Made => match send(link, &access.outs) {
             Ok(()) => Ok(()),
             Err(_) => Err(Ended::Failed),
         },
@@ -92,25 +90,23 @@ fn make_step<S: Shares<U>, U, L: Link, R: Wait>(
 
 /// Makes the step of an item, or of a datagram that was refused.
 fn step_item<S: Shares<U>, U, L: Link, R: Wait>(
-    rt: &R,
-    desk: &S,
+    access: &mut Access<'_, R, S>,
     link: &mut L,
     own: &mut U,
-    outs: &mut Outs,
-    place: u8,
-    us: u64,
+    turn: Turn,
     item: &Result<Item<'_>, WireBad>,
 ) -> Result<(), Ended>
-    requires place { place < MAX_LINKS }
-    requires own { S.is_of desk.now place own.old }
+    requires place { turn.place < MAX_LINKS }
+    requires own { S.is_of access.old.desk.now turn.place own.old }
     requires left { 1 ≤ S.left own.old }
-    ensures own { S.is_of desk.now place own.new }
+    ensures desk { access.new.desk ≡ access.old.desk }
+    ensures own { S.is_of access.old.desk.now turn.place own.new }
     ensures left { S.left own.old ≤ S.left own.new + 1 }
     ensures ok { OnOk result (Goes (Some S.given) (L.knows link.old) (holds (S.list own.old) (L.taken link.old))
-        (holds (S.list own.new) (L.taken link.new)) (item_plan place us item.now ∷ [])) }
+        (holds (S.list own.new) (L.taken link.new)) (item_plan turn.place turn.us item.now ∷ [])) }
     ensures err { IfErr result (λ end. CutShort (Some S.given) (L.knows link.old) end
         (holds (S.list own.old) (L.taken link.old))
-        (holds (S.list own.new) (L.taken link.new)) (item_plan place us item.now ∷ [])) }
+        (holds (S.list own.new) (L.taken link.new)) (item_plan turn.place turn.us item.now ∷ [])) }
     ensures inside { IfErr result IsInside }
     ensures full { result ≡ Err Ended.TraceFull → LacksRoom S.given (S.limit own.new) (S.list own.new) }
     ensures stopped { result ≡ Err Ended.Stopped → S.broken own.new }
@@ -120,11 +116,11 @@ fn step_item<S: Shares<U>, U, L: Link, R: Wait>(
 {
     let mut block = [0; MAX_PAYLOAD];
     let told = Told {
-        link: place,
-        us,
+        link: turn.place,
+        us: turn.us,
         what: what_of(item, &mut block),
     };
-    make_step(rt, desk, link, own, outs, &told)
+    make_step(access, link, own, &told)
 }
 
 /// Leaves whoever sent a datagram as its channel's peer, unless it was refused.
@@ -143,89 +139,78 @@ fn settle<L: Link>(link: &mut L, item: &Result<Item<'_>, WireBad>)
 
 /// Makes the step of the datagram that the link's last read gave: of its item, or as one that was refused. Whoever sent
 /// one that was refused gets none of what is made.
-pub fn step_datagram<S: Shares<U>, U, L: Link, R: Wait>(
-    rt: &R,
-    desk: &S,
-    link: &mut L,
-    own: &mut U,
-    opener: &mut Opener,
-    outs: &mut Outs,
-    place: u8,
-    us: u64,
+pub fn step_datagram<S: Shares<U>, U, L: Link, C, R: Wait>(
+    access: &mut Access<'_, R, S>,
+    worker: &mut Worker<L, C, U>,
+    turn: Turn,
     channel: Channel,
     octets: &mut [u8],
 ) -> Result<(), Ended>
-    requires place { place < MAX_LINKS }
-    requires own { S.is_of desk.now place own.old }
-    requires left { 1 ≤ S.left own.old }
-    requires grown { IsKnownIn (L.knew link.old) (L.knows link.old) }
-    ensures own { S.is_of desk.now place own.new }
-    ensures left { S.left own.old ≤ S.left own.new + 1 }
-    ensures ok { OnOk result (Goes (Some S.given) (L.knew link.old) (holds (S.list own.old) (L.taken link.old))
-        (holds (S.list own.new) (L.taken link.new)) (datagram_plan opener.old place us channel octets.old ∷ [])) }
-    ensures err { IfErr result (λ end. CutShort (Some S.given) (L.knew link.old) end
-        (holds (S.list own.old) (L.taken link.old))
-        (holds (S.list own.new) (L.taken link.new)) (datagram_plan opener.old place us channel octets.old ∷ [])) }
+    requires place { turn.place < MAX_LINKS }
+    requires own { S.is_of access.old.desk.now turn.place worker.old.trace }
+    requires left { 1 ≤ S.left worker.old.trace }
+    requires grown { IsKnownIn (L.knew worker.old.link) (L.knows worker.old.link) }
+    ensures desk { access.new.desk ≡ access.old.desk }
+    ensures own { S.is_of access.old.desk.now turn.place worker.new.trace }
+    ensures left { S.left worker.old.trace ≤ S.left worker.new.trace + 1 }
+    ensures ok { OnOk result (Goes (Some S.given) (L.knew worker.old.link)
+        (holds (S.list worker.old.trace) (L.taken worker.old.link))
+        (holds (S.list worker.new.trace) (L.taken worker.new.link))
+        (datagram_plan worker.old.opener turn.place turn.us channel octets.old ∷ [])) }
+    ensures err { IfErr result (λ end. CutShort (Some S.given) (L.knew worker.old.link) end
+        (holds (S.list worker.old.trace) (L.taken worker.old.link))
+        (holds (S.list worker.new.trace) (L.taken worker.new.link))
+        (datagram_plan worker.old.opener turn.place turn.us channel octets.old ∷ [])) }
     ensures inside { IfErr result IsInside }
-    ensures full { result ≡ Err Ended.TraceFull → LacksRoom S.given (S.limit own.new) (S.list own.new) }
-    ensures stopped { result ≡ Err Ended.Stopped → S.broken own.new }
-    ensures fault { result ≡ Err Ended.WriteFault → S.broken own.new }
-    ensures same { IsKeptBy L.reads L.ends L.knew L.knows (item_of opener.old channel octets.old) link.old link.new }
-    ensures cause { RoseWhere (has_link_failed result) (L.faults link.old) (L.faults link.new) }
-    ensures opener { opener.new ≡ opener.old }
+    ensures full { result ≡ Err Ended.TraceFull
+        → LacksRoom S.given (S.limit worker.new.trace) (S.list worker.new.trace) }
+    ensures stopped { result ≡ Err Ended.Stopped → S.broken worker.new.trace }
+    ensures fault { result ≡ Err Ended.WriteFault → S.broken worker.new.trace }
+    ensures same { IsKeptBy L.reads L.ends L.knew L.knows (item_of worker.old.opener channel octets.old)
+        worker.old.link worker.new.link }
+    ensures cause { RoseWhere (has_link_failed result) (L.faults worker.old.link) (L.faults worker.new.link) }
+    ensures rest { KeepsRest worker.old worker.new }
 {
-    let item = opener.take(channel, octets);
-    settle(link, &item);
-    step_item(rt, desk, link, own, outs, place, us, &item)
+    let item = worker.opener.take(channel, octets);
+    settle(&mut worker.link, &item);
+    step_item(access, &mut worker.link, &mut worker.trace, turn, &item)
 }
 
 /// Makes a tick where one is due.
 pub fn step_tick<S: Shares<U>, U, L: Link, R: Wait>(
-    rt: &R,
-    desk: &S,
+    access: &mut Access<'_, R, S>,
     link: &mut L,
     own: &mut U,
-    outs: &mut Outs,
-    place: u8,
-    us: u64,
+    turn: Turn,
     ticked: &mut Option<u64>,
 ) -> Result<(), Ended>
-    requires place { place < MAX_LINKS }
-    requires own { S.is_of desk.now place own.old }
+    requires place { turn.place < MAX_LINKS }
+    requires own { S.is_of access.old.desk.now turn.place own.old }
     requires left { 1 ≤ S.left own.old }
-    ensures own { S.is_of desk.now place own.new }
+    ensures desk { access.new.desk ≡ access.old.desk }
+    ensures own { S.is_of access.old.desk.now turn.place own.new }
     ensures left { S.left own.old ≤ S.left own.new + 1 }
     ensures ok { OnOk result (Goes (Some S.given) (L.knows link.old) (holds (S.list own.old) (L.taken link.old))
-        (holds (S.list own.new) (L.taken link.new)) (tick_steps place us (is_tick_due ticked.old us))) }
+        (holds (S.list own.new) (L.taken link.new)) (tick_steps turn.place turn.us (is_tick_due ticked.old turn.us))) }
     ensures err { IfErr result (λ end. CutShort (Some S.given) (L.knows link.old) end
         (holds (S.list own.old) (L.taken link.old))
-        (holds (S.list own.new) (L.taken link.new)) (tick_steps place us (is_tick_due ticked.old us))) }
+        (holds (S.list own.new) (L.taken link.new)) (tick_steps turn.place turn.us (is_tick_due ticked.old turn.us))) }
     ensures inside { IfErr result IsInside }
     ensures full { result ≡ Err Ended.TraceFull → LacksRoom S.given (S.limit own.new) (S.list own.new) }
     ensures stopped { result ≡ Err Ended.Stopped → S.broken own.new }
     ensures fault { result ≡ Err Ended.WriteFault → S.broken own.new }
     ensures same { IsKept L.reads L.ends L.knows link.old link.new }
     ensures cause { RoseWhere (has_link_failed result) (L.faults link.old) (L.faults link.new) }
-    ensures ticked { ticked.new ≡ ticked_after ticked.old us }
+    ensures ticked { ticked.new ≡ ticked_after ticked.old turn.us }
 {
-    if is_due(*ticked, us) {
-        *ticked = Some(us);
+    if is_due(*ticked, turn.us) {
+        *ticked = Some(turn.us);
         let told = Told {
-            link: place,
-            us,
+            link: turn.place,
+            us: turn.us,
             what: What::Tick,
         };
-        return make_step(rt, desk, link, own, outs, &told);
+        return make_step(access, link, own, &told);
     }
     Ok(())
-}
-
-/// 5,000 microseconds passed since the last tick, or there was none.
-fn is_due(ticked: Option<u64>, us: u64) -> bool
-    ensures value { result ≡ is_tick_due ticked us }
-{
-    match ticked {
-        None => true,
-        Some(last) => us.saturating_sub(last) >= 5000,
-    }
 }

@@ -9,6 +9,7 @@ use Rattle.rist_desk.proofs.serving.all_turns.Given as goal
 abbrev pub invariant-turns : goal.invariant-turns
 invariant-turns g l = record {
   within : l.made < l.limits.turns;
+  desk : l.access.desk.now ≡ l.desk;
   own : g.S.Shares.is_of l.desk l.place l.worker.trace;
   left : 2 * l.limits.turns ≤ g.S.Shares.left l.worker.trace + 2 * l.made;
   session : l.worker.opener ≡ l.initial.worker.opener;
@@ -16,7 +17,7 @@ invariant-turns g l = record {
   faults : g.L.Link.faults l.worker.link ≡ g.L.Link.faults l.initial.worker.link;
   going : (f : Feed) → IsFeed f l.initial.worker.opener l.place l.limits (g.C.Clock.moments l.initial.worker.clock) (g.L.Link.reads l.initial.worker.link)
       → IsGoing (Some g.S.Shares.given) f l.made (g.L.Link.knows l.initial.worker.link) (g.L.Link.knows l.worker.link) (g.C.Clock.moments l.worker.clock) (g.L.Link.reads l.worker.link)
-      (holds (g.S.Shares.list l.initial.worker.trace) (g.L.Link.taken l.initial.worker.link)) (holds (g.S.Shares.list l.worker.trace) (g.L.Link.taken l.worker.link)) l.ticked l.since;
+      (holds (g.S.Shares.list l.initial.worker.trace) (g.L.Link.taken l.initial.worker.link)) (holds (g.S.Shares.list l.worker.trace) (g.L.Link.taken l.worker.link)) l.pace.ticked l.pace.since;
 }
 
 abbrev pub decreases-turns : goal.decreases-turns
