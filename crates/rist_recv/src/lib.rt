@@ -3,6 +3,7 @@
 #![tactic(auto)]
 
 mod in_turns;
+pub mod laws;
 mod receiving;
 mod running;
 mod text;
