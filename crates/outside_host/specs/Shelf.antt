@@ -7,11 +7,11 @@ use Rattle.outside_host.specs.declared.host.HostBad.TheVariants.{Failed, NoMemor
 use Rattle.outside_host.specs.declared.host.Place.{Place}
 use Rattle.outside_host.specs.declared.host.Place.TheVariants.{Absent, Here, Out, Back}
 use Rattle.outside_host.specs.declared.host.Opened.{Opened}
-use Rattle.outside_host.specs.declared.reception.Reception.{Reception}
+use Rattle.outside_host.specs.Counts.{NamedCount}
 
 -- what stands under each name and at each place; which links were handed out, the oldest first, so that their number is
 -- the place of the next one; the places of the clock and of the source of random words that are handed out next; and
--- the counts of the receiver that came last, where one did
+-- the counts that came last, where some did
 pub record Shelf (I O E L C : Type 0) : Type 0 where
   pub sources : List ℕ → Place I
   pub sinks : List ℕ → Place O
@@ -21,7 +21,7 @@ pub record Shelf (I O E L C : Type 0) : Type 0 where
   pub opened_links : List Opened
   pub clocks : ℕ → Place C
   pub next_clock : ℕ
-  pub report : Option Reception
+  pub report : Option (List NamedCount)
 
 -- the object that stood under this name, or at this place, is out, and all others stand as they stood
 pub record HandsOut {N X : Type 0} (old new : N → Place X) (name : N) (object : X) : Type 0 where
@@ -102,7 +102,7 @@ ChangesClocks old new = new ≡ record old { clocks = new.clocks }
 abbrev pub ChangesTiming : {I O E L C : Type 0} → Shelf I O E L C → Shelf I O E L C → Type 0
 ChangesTiming old new = new ≡ record old { clocks = new.clocks; next_clock = new.next_clock }
 
--- all but the counts of the last receiver
+-- all but the counts that came last
 abbrev pub ChangesReport : {I O E L C : Type 0} → Shelf I O E L C → Shelf I O E L C → Type 0
 ChangesReport old new = new ≡ record old { report = new.report }
 

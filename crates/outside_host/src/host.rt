@@ -1,12 +1,14 @@
 //! What hands out sources and sinks by name, links, clocks and random words by place, and takes them back; and what takes
-//! the counts of a receiver.
-ghost use Rattle.std.specs.Prelude.{◌≡◌, ◌<◌, ◌+◌, ℕ, length, Bool, Some, IsTrue, IfOk, OnOk, OnErr};
+//! the counts of a run.
+ghost use Rattle.std.specs.Prelude.{◌≡◌, ◌<◌, ◌+◌, ℕ, length, take, Bool, Some, IsTrue, IfOk, OnOk, OnErr};
 ghost use Rattle.outside_io.specs.Told.{IsEmpty};
+ghost use Rattle.outside_host.specs.Counts.{named};
+ghost use Rattle.outside_host.specs.declared.counts.TheConstants.{MAX_COUNTS};
 ghost use Rattle.outside_host.specs.Shelf.{Shelf, Stays, TakesBack, HasHostCause};
 ghost use Rattle.outside_host.specs.Shelf.{HandsOutSource, HandsOutSink, HandsOutNext, HandsOutLink, HandsOutClock, KeepsLinks, IsUnwritten};
 ghost use Rattle.outside_host.specs.Shelf.{ChangesSources, ChangesSinks, ChangesEntropies, ChangesDrawing, ChangesLinks, ChangesOpening, ChangesClocks, ChangesTiming, ChangesReport};
 
-use crate::Reception;
+use crate::Count;
 use link_channels::Profile;
 use outside_io::{Entropy, Sink, Source};
 use outside_net::{Clock, Link, LinkSpec, Role};
@@ -166,9 +168,9 @@ pub trait Host {
         ensures same { IsTrue tells → ChangesClocks (shelf self.old) (shelf self.new) }
         ensures cause { faults self.new ≡ faults self.old };
 
-    /// Takes the counts of a receiver at its end. Those of the last one stand.
-    fn report(&mut self, reception: &Reception)
-        ensures state { IsTrue tells → (shelf self.new).report ≡ Some reception.now }
+    /// Takes the counts of a run at its end. One that tells keeps the first sixteen of those that came last.
+    fn report(&mut self, counts: &[Count])
+        ensures state { IsTrue tells → (shelf self.new).report ≡ Some (named (take MAX_COUNTS counts.now)) }
         ensures same { IsTrue tells → ChangesReport (shelf self.old) (shelf self.new) }
         ensures cause { faults self.new ≡ faults self.old };
 }

@@ -5,22 +5,23 @@
 
 mod by_place;
 mod clocks;
+mod counts;
 mod host;
 mod links;
 mod mem_host;
 mod openings;
 mod real_host;
-mod reception;
+mod report;
 mod sinks;
 mod slots;
 mod trouble;
 
 pub use clocks::{back_clocks, open_clocks};
+pub use counts::{Count, CountsText, MAX_COUNTS};
 pub use host::{Host, HostBad, Opened, Place};
 pub use links::{back_links, open_both, open_links};
 pub use mem_host::{MemHost, MemParts};
 pub use real_host::RealHost;
-pub use reception::Reception;
 pub use sinks::{back_sinks, open_sinks};
 pub use slots::Slot;
 pub use trouble::Trouble;

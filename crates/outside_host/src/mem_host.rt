@@ -1,7 +1,9 @@
 //! A host in memory.
-ghost use Rattle.std.specs.Prelude.{◌≡◌, ◌<◌, ◌+◌, ◌⊎◌, [], length, slice_get, true, Some, IfSome, IfNone, IfOk, IfErr, IsTrue, OnOk, OnErr};
+ghost use Rattle.std.specs.Prelude.{◌≡◌, ◌<◌, ◌+◌, ◌⊎◌, [], length, take, slice_get, true, Some, None, IfSome, IfNone, IfOk, IfErr, IsTrue, OnOk, OnErr};
 ghost use Rattle.outside_io.specs.Calls.{no_calls, FailsNext, CountsCall};
 ghost use Rattle.outside_io.specs.Told.{IsEmpty};
+ghost use Rattle.outside_host.specs.Counts.{named};
+ghost use Rattle.outside_host.specs.declared.counts.TheConstants.{MAX_COUNTS};
 ghost use Rattle.outside_host.specs.Shelf.{Stays, TakesBack, IsAway, HasHostCause};
 ghost use Rattle.outside_host.specs.Shelf.{HandsOutSource, HandsOutSink, HandsOutNext, HandsOutLink, HandsOutClock, KeepsLinks, IsUnwritten};
 ghost use Rattle.outside_host.specs.Shelf.{ChangesSources, ChangesSinks, ChangesEntropies, ChangesDrawing, ChangesLinks, ChangesOpening, ChangesClocks, ChangesTiming, ChangesReport};
@@ -13,8 +15,9 @@ ghost use Rattle.outside_host.specs.declared.host.Place.TheVariants.{Back};
 
 use crate::by_place::{is_unwritten, put_place, returned_place, take_place};
 use crate::openings::Openings;
+use crate::report::Report;
 use crate::slots::{is_fresh, put_back, returned, take_out};
-use crate::{Host, HostBad, Opened, Place, Reception, Slot};
+use crate::{Count, Host, HostBad, Opened, Place, Slot};
 use link_channels::Profile;
 use outside_io::{FailingCalls, MemSource, NoMemory, Store8, Words};
 use outside_net::{LinkSpec, Role, ScriptClock, ScriptLink};
@@ -49,7 +52,7 @@ pub struct MemHost {
     opened: Openings,
     clocks: Vec<Place<ScriptClock>>,
     next_clock: usize,
-    report: Option<Reception>,
+    report: Option<Report>,
     calls: FailingCalls,
 }
 
@@ -113,11 +116,15 @@ impl MemHost {
         self.opened.get(place as usize)
     }
 
-    /// The counts of the last receiver, where one ended.
-    pub fn reported(&self) -> Option<Reception>
-        ensures value { result ≡ (mem_shelf self.now).report }
+    /// The counts that came last, where some did.
+    pub fn reported(&self) -> Option<&[Count]>
+        ensures some { IfSome result (λ counts. (mem_shelf self.now).report ≡ Some (named counts.now)) }
+        ensures none { IfNone result ((mem_shelf self.now).report ≡ None) }
     {
-        self.report
+        match &self.report {
+            Some(report) => Some(report.rows()),
+            None => None,
+        }
     }
 }
 
@@ -342,13 +349,14 @@ impl Host for MemHost {
         put_place(&mut self.clocks, place as usize, object);
     }
 
-    fn report(&mut self, reception: &Reception)
-        ensures state { IsTrue true → (mem_shelf self.new).report ≡ Some reception.now }
+    fn report(&mut self, counts: &[Count])
+        ensures state { IsTrue true
+            → (mem_shelf self.new).report ≡ Some (named (take MAX_COUNTS counts.now)) }
         ensures same { IsTrue true → ChangesReport (mem_shelf self.old) (mem_shelf self.new) }
         ensures cause { (mem_calls self.new).faults ≡ (mem_calls self.old).faults }
         // It counts as no call.
         ensures calls { mem_calls self.new ≡ mem_calls self.old }
     {
-        self.report = Some(*reception);
+        self.report = Some(Report::of(counts));
     }
 }

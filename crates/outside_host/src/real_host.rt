@@ -5,8 +5,9 @@ ghost use Rattle.outside_io.specs.Real.{silent, IsSourceNamed, IsSinkNamed, Know
 ghost use Rattle.outside_io.specs.Told.{IsEmpty};
 ghost use Rattle.outside_host.specs.Shelf.{nowhere, HasHostCause};
 
+use crate::counts::CountsText;
 use crate::trouble::{Reason, Thing, Trouble};
-use crate::{Host, HostBad, Reception};
+use crate::{Count, Host, HostBad};
 use libc::net::{POLLIN, poll};
 use libc::types::pollfd;
 use link_channels::Profile;
@@ -228,9 +229,10 @@ where
     fn back_clock(&mut self, _place: u8, _object: Self::Time) {}
 
     /// Writes them as a line to the error output.
-    fn report(&mut self, reception: &Reception) {
+    fn report(&mut self, counts: &[Count]) {
+        let counts = CountsText(counts);
         // A line that can't be written changes no answer.
-        let _ = eprintln!(self.rt; "rist: {reception}");
+        let _ = eprintln!(self.rt; "rist: {counts}");
     }
 }
 

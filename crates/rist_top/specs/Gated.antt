@@ -8,8 +8,9 @@ use Rattle.rist_gateway.specs.declared.ending.GateEnding.{GateEnding}
 use Rattle.rist_gateway.specs.declared.ending.GateEnding.TheVariants as gates
 use Rattle.rist_gateway.specs.Run.{Forwards}
 use Rattle.rist_words.specs.CommandLine.{GateCommand}
+use Rattle.rist_top.specs.Counting.{named_counts}
 use Rattle.rist_top.specs.Objects.{Tells}
-use Rattle.rist_top.specs.Received.{FromTheFirst, reception_of}
+use Rattle.rist_top.specs.Received.{FromTheFirst}
 use Rattle.rist_top.specs.Sealing.{AreDrawn}
 use Rattle.rist_top.specs.Sent.{TellsLive}
 use Rattle.rist_top.specs.Sessions.{setup_gated, limits_served}
@@ -51,7 +52,7 @@ pub record GatedByClocks {I O E L C : Type 0} (tells : Tells I O E) (live : Tell
   pub drawn : AreDrawn tells old.entropies new.entropies receiving sending
   pub counts : Counts
   -- the counts of the receiver reach the host
-  pub reported : new.report ≡ Some (reception_of counts)
+  pub reported : new.report ≡ Some (named_counts counts)
   pub gates : GatesAs live c receiving sending links_were links_are clocks_were clocks_are counts status
 
 -- the links of a line were handed out, what came on the first ones went on over the others, and all came back

@@ -8,6 +8,7 @@ pub mod Works
 pub mod Places
 pub mod Sealing
 pub mod Sent
+pub mod Counting
 pub mod Received
 pub mod Gated
 pub mod Reached

@@ -4,7 +4,6 @@ use Rattle.outside_io.specs.Told.{IsEmpty}
 use Rattle.outside_host.specs.Shelf.{Shelf}
 use Rattle.outside_host.specs.declared.host.Place.{Place}
 use Rattle.outside_host.specs.declared.host.Place.TheVariants.{Here, Back}
-use Rattle.outside_host.specs.declared.reception.Reception.{Reception}
 use Rattle.outside_host.specs.Links.{AreAsTheyWere}
 use Rattle.psk_seal.specs.Sealer.{SealerState}
 use Rattle.rist_ends.specs.declared.counts.Counts.{Counts}
@@ -12,6 +11,7 @@ use Rattle.desk_run.specs.declared.ending.Ending.{Ending}
 use Rattle.desk_run.specs.declared.ending.Ending.TheVariants as endings
 use Rattle.desk_run.specs.Run.{Receives, outside}
 use Rattle.rist_words.specs.CommandLine.{RecvCommand}
+use Rattle.rist_top.specs.Counting.{named_counts}
 use Rattle.rist_top.specs.Objects.{Tells}
 use Rattle.rist_top.specs.Places.{IsAsItWas}
 use Rattle.rist_top.specs.Sealing.{DrawnFirst}
@@ -29,20 +29,6 @@ receive_status endings.TraceFull = statuses.TraceFull
 receive_status (endings.Torn tear) = statuses.Torn tear
 receive_status endings.LinksDown = statuses.LinksDown
 receive_status endings.Done = statuses.Done
-
--- what a receiver counted, as a host takes it
-abbrev pub reception_of : Counts → Reception
-reception_of c = record {
-  kept = c.kept;
-  late = c.late;
-  behind = c.behind;
-  early = c.early;
-  twice = c.twice;
-  span = c.span;
-  stranger = c.stranger;
-  exhausted = c.exhausted;
-  refused = c.refused;
-}
 
 -- A receiving of a line ran under a sealer, where there is one, and it ended so: these links and clocks, the first of
 -- each is that of the first link, have given and taken just what its workers' turns say, and the sink holds what its
@@ -73,7 +59,7 @@ pub record ReceivedByClocks {I O E L C : Type 0} (tells : Tells I O E) (live : T
   pub drawn : IfSome sealer (DrawnFirst tells old.entropies new.entropies)
   pub counts : Counts
   -- the counts of the receiver reach the host
-  pub reported : new.report ≡ Some (reception_of counts)
+  pub reported : new.report ≡ Some (named_counts counts)
   pub receives : ReceivesAs live c sealer links_were links_are clocks_were clocks_are (tells.contents sink)
       (tells.contents filled)
       (tells.write_faults sink) (tells.write_faults filled) counts status

@@ -16,7 +16,7 @@ ghost use Rattle.rist_top.specs.Frame.{KeepsAroundGate, KeepsLinksBut, KeepsWord
 ghost use Rattle.rist_top.specs.Inside.Answers.{KeepsButTiming};
 ghost use Rattle.rist_top.specs.Inside.Heard.{Passes};
 
-use crate::receiving::reception_of;
+use crate::reporting::report;
 use crate::sealing::{Sealers, sealers_for};
 use crate::sessions::{session_of, settings_of};
 use crate::status::Status;
@@ -236,7 +236,7 @@ fn gate_sealed<R: Threads + Wait + Sync, H: Host>(
 {
     match gate_with(rt, alloc, line, sealers, links, clocks) {
         Ok((status, counts)) => {
-            host.report(&reception_of(&counts));
+            report(host, &counts);
             status
         }
         Err(_) => Status::Memory,

@@ -6,6 +6,7 @@ mod asking;
 mod drilling;
 mod gating;
 mod receiving;
+mod reporting;
 mod sealing;
 mod sending;
 mod sessions;

@@ -12,17 +12,18 @@ ghost use Rattle.rist_top.specs.Sessions.{limits_received, setup_received};
 ghost use Rattle.rist_top.specs.Works.{IsFreshFor};
 ghost use Rattle.rist_top.specs.Sent.{IsUnused, live_of};
 ghost use Rattle.rist_top.specs.Received.{ReceivedByClocks, ReceivedOnLinks, Received};
-ghost use Rattle.rist_top.specs.Received.{ReceivesAs, Unreceived, reception_of};
+ghost use Rattle.rist_top.specs.Received.{ReceivesAs, Unreceived};
 ghost use Rattle.rist_top.specs.Frame.{KeepsAroundSink, KeepsLinksBut, KeepsWords, OpensLinksAfterSink, links_received};
 ghost use Rattle.rist_top.specs.Inside.Answers.{KeepsButTiming, KeepsFiles};
 ghost use Rattle.rist_top.specs.Inside.Heard.{Hears};
 
+use crate::reporting::report;
 use crate::sealing::sealer_for;
 use crate::sessions::{session_of, settings_of};
 use crate::status::Status;
 use crate::telling::Telling;
 use desk_run::{Run, make, make_in_turns};
-use outside_host::{Host, Reception, back_clocks, back_links, open_clocks, open_links};
+use outside_host::{Host, back_clocks, back_links, open_clocks, open_links};
 use outside_io::{NoMemory, Sink};
 use outside_net::{Clock, Link, ListTrace, Role, TellingLink};
 use psk_seal::Sealer;
@@ -33,23 +34,6 @@ use rist_words::RecvLine;
 use std::alloc::Global;
 use std::sync::Wait;
 use std::thread::Threads;
-
-/// What a receiver counted, as a host takes it.
-pub fn reception_of(counts: &Counts) -> Reception
-    ensures value { result ≡ reception_of counts.now }
-{
-    Reception {
-        kept: counts.kept,
-        late: counts.late,
-        behind: counts.behind,
-        early: counts.early,
-        twice: counts.twice,
-        span: counts.span,
-        stranger: counts.stranger,
-        exhausted: counts.exhausted,
-        refused: counts.refused,
-    }
-}
 
 /// A run that ended, or that could not begin for want of memory, and its sink.
 struct Heard<K> {
@@ -254,7 +238,7 @@ fn receive_sealed<R: Threads + Wait + Sync, H: Host>(
     let Heard { sink, end } = receive_any(rt, alloc, line, sealer, links, clocks, sink);
     match end {
         Ok((status, counts)) => {
-            host.report(&reception_of(&counts));
+            report(host, &counts);
             (sink, status)
         }
         Err(_) => (sink, Status::Memory),

@@ -8,8 +8,8 @@ pub struct Brings<'a> {
 }
 
 /// A command line, the links of its host, and which puts of the sink and draws of random words fail; its exit status;
-/// what the sink holds that came back, or nothing where it still stands to be handed out; and, where it is told, how
-/// many packets the receiver counted as kept and how many as duplicates. Links come back where the sink does.
+/// what the sink holds that came back, or nothing where it still stands to be handed out; and, where it is told, the text
+/// of what the receiver counted. Links come back where the sink does.
 #[derive(Clone, Copy)]
 pub struct Row<'a> {
     pub line: &'a str,
@@ -18,7 +18,7 @@ pub struct Row<'a> {
     pub draws: &'a [u64],
     pub exit: u8,
     pub written: Option<&'a [u8]>,
-    pub counted: Option<(u64, u64)>,
+    pub counted: Option<&'a str>,
 }
 
 /// A link of three packets that never fails.
@@ -65,7 +65,9 @@ const SHARED: Row<'static> = Row {
     draws: &[],
     exit: 0,
     written: Some(b"ABC"),
-    counted: Some((3, 1)),
+    counted: Some(
+        "kept 3, late 0, behind 0, early 0, twice 1, span 0, stranger 0, exhausted 0, refused 0",
+    ),
 };
 
 /// Two packets on one link.
@@ -114,7 +116,9 @@ pub const ENDS: &[Row<'static>] = &[
     Row {
         links: &[REPEATED],
         written: Some(b"A"),
-        counted: Some((1, 1)),
+        counted: Some(
+            "kept 1, late 0, behind 0, early 0, twice 1, span 0, stranger 0, exhausted 0, refused 0",
+        ),
         ..SINGLE
     },
 ];

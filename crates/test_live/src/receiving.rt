@@ -2,7 +2,7 @@
 use crate::fixtures::{brought, words};
 use crate::receive_rows::{BREAKS, Brings, DRAWS, ENDS, REFUSALS, Row};
 use link_channels::Channel;
-use outside_host::{Host, MemHost, MemParts, Place, Slot};
+use outside_host::{CountsText, Host, MemHost, MemParts, Place, Slot};
 use outside_io::{Store8, Words};
 use outside_net::{Octets, ScriptClock, ScriptLink, ScriptRead};
 use rist_top::{Status, run};
@@ -75,11 +75,14 @@ fn stands_as_told(host: &mut MemHost, row: &Row<'_>) -> bool {
 }
 
 /// Whether the receiver counted as the row says, if it says so.
-fn is_counted_as_told(host: &MemHost, row: &Row<'_>) -> bool {
+fn is_counted_as_told(alloc: Global, host: &MemHost, row: &Row<'_>) -> Result<bool, Fail> {
     match (host.reported(), row.counted) {
-        (_, None) => true,
-        (Some(reception), Some(counted)) => (reception.kept, reception.twice) == counted,
-        (None, Some(_)) => false,
+        (_, None) => Ok(true),
+        (Some(counts), Some(counted)) => {
+            let text = format!(in alloc; "{}", CountsText(counts))?;
+            Ok(text.as_str() == counted)
+        }
+        (None, Some(_)) => Ok(false),
     }
 }
 
@@ -97,7 +100,7 @@ fn is_as_told<R: Threads + Wait + Sync>(
     }
     Ok(
         status.exit_code() == row.exit
-            && is_counted_as_told(&host, row)
+            && is_counted_as_told(alloc, &host, row)?
             && stands_as_told(&mut host, row),
     )
 }

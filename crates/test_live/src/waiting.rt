@@ -3,7 +3,7 @@
 ghost use Rattle.std.specs.Prelude.{◌≡◌};
 
 use link_channels::{Channel, Profile};
-use outside_host::{Host, HostBad, MemHost, Reception};
+use outside_host::{Count, Host, HostBad, MemHost};
 use outside_io::{Failed, MemSource, Store8, Words};
 use outside_net::{Got, Link, LinkSpec, Role, ScriptClock, ScriptLink};
 use std::alloc::Global;
@@ -249,7 +249,7 @@ impl Host for WaitingHost {
         self.host.back_clock(place, object);
     }
 
-    fn report(&mut self, reception: &Reception) {
-        self.host.report(reception);
+    fn report(&mut self, counts: &[Count]) {
+        self.host.report(counts);
     }
 }

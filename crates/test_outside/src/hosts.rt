@@ -1,7 +1,9 @@
 //! What no clause says: that calls succeed, and that files, streams, links and clocks do what they say.
 use crate::asserts::{assert_got, assert_octets, assert_put, assert_read, assert_written};
 use link_channels::{Channel, Profile};
-use outside_host::{Host, HostBad, MemHost, MemParts, Opened, Place, RealHost, Reception, Slot};
+use outside_host::{
+    Count, CountsText, Host, HostBad, MemHost, MemParts, Opened, Place, RealHost, Slot,
+};
 use outside_io::{Bytes, Entropy, Failed, MemSource, NoMemory, Store8, Words};
 use outside_net::{Clock, Got, LinkSpec, Role, ScriptClock, ScriptLink};
 use std::alloc::Global;
@@ -380,35 +382,38 @@ fn the_system_opens_links_and_its_clocks_have_one_start(rt: HostRuntime) -> Resu
     assert_links_and_clocks(&rt, &mut RealHost::new(&rt))
 }
 
-fn assert_reported(rt: &impl Abort, host: &MemHost, want: Option<Reception>) {
+fn assert_reported(rt: &impl Abort, host: &MemHost, want: Option<&[Count]>) {
     assert!(rt; host.reported() == want);
 }
 
+/// Two counts.
+const COUNTED: [Count; 2] = [
+    Count {
+        name: "kept",
+        count: 3,
+    },
+    Count {
+        name: "twice",
+        count: 1,
+    },
+];
+
 #[test]
-fn the_counts_of_a_receiver_are_kept(rt: HostRuntime) -> Result<(), Fail> {
+fn the_counts_that_came_last_are_kept(rt: HostRuntime) -> Result<(), Fail> {
     let alloc = rt.alloc();
     let mut host = MemHost::with(alloc, parts_with(alloc, &[])?)?;
     assert_reported(&rt, &host, None);
-    let reception = Reception {
-        kept: 3,
-        twice: 1,
-        ..Reception::default()
-    };
-    host.report(&reception);
-    assert_reported(&rt, &host, Some(reception));
+    let many = [COUNTED[1]; 17];
+    host.report(&many);
+    assert_reported(&rt, &host, Some(&many[..16]));
+    host.report(&COUNTED);
+    assert_reported(&rt, &host, Some(&COUNTED));
     Ok(())
 }
 
 #[test]
-fn the_counts_of_a_receiver_have_their_text(rt: HostRuntime) -> Result<(), Fail> {
-    let reception = Reception {
-        kept: 3,
-        twice: 1,
-        ..Reception::default()
-    };
-    let line = format!(in rt.alloc(); "{reception}")?;
-    let text =
-        "kept 3, late 0, behind 0, early 0, twice 1, span 0, stranger 0, exhausted 0, refused 0";
-    assert!(rt; line.as_str() == text);
+fn counts_have_their_text(rt: HostRuntime) -> Result<(), Fail> {
+    let line = format!(in rt.alloc(); "{}", CountsText(&COUNTED))?;
+    assert!(rt; line.as_str() == "kept 3, twice 1");
     Ok(())
 }

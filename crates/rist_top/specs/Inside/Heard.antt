@@ -4,9 +4,10 @@ use Rattle.outside_host.specs.Shelf.{Shelf}
 use Rattle.psk_seal.specs.Sealer.{SealerState}
 use Rattle.rist_ends.specs.declared.counts.Counts.{Counts}
 use Rattle.rist_words.specs.CommandLine.{RecvCommand, GateCommand}
+use Rattle.rist_top.specs.Counting.{named_counts}
 use Rattle.rist_top.specs.Gated.{GatesAs}
 use Rattle.rist_top.specs.Objects.{Tells}
-use Rattle.rist_top.specs.Received.{ReceivesAs, reception_of}
+use Rattle.rist_top.specs.Received.{ReceivesAs}
 use Rattle.rist_top.specs.Sent.{TellsLive}
 use Rattle.rist_top.specs.declared.status.Status.{Status}
 
@@ -15,7 +16,7 @@ pub record Hears {I O E L C : Type 0} (tells : Tells I O E) (live : TellsLive L 
     (c : RecvCommand) (sealer : Option SealerState) (links_were links_are : List L) (clocks_were clocks_are : List C)
     (sink filled : O) (status : Status) : Type 0 where
   pub counts : Counts
-  pub reported : IsTrue told → new.report ≡ Some (reception_of counts)
+  pub reported : IsTrue told → new.report ≡ Some (named_counts counts)
   pub receives : ReceivesAs live c sealer links_were links_are clocks_were clocks_are (tells.contents sink)
       (tells.contents filled)
       (tells.write_faults sink) (tells.write_faults filled) counts status
@@ -25,5 +26,5 @@ pub record Passes {I O E L C : Type 0} (live : TellsLive L C) (told : Bool) (new
     (receiving sending : Option SealerState) (links_were links_are : List L) (clocks_were clocks_are : List C)
     (status : Status) : Type 0 where
   pub counts : Counts
-  pub reported : IsTrue told → new.report ≡ Some (reception_of counts)
+  pub reported : IsTrue told → new.report ≡ Some (named_counts counts)
   pub gates : GatesAs live c receiving sending links_were links_are clocks_were clocks_are counts status
