@@ -4,6 +4,7 @@ pub mod SenderLemmas
 pub mod ReceiverLemmas
 pub mod RunLemmas
 pub mod MadeLemmas
+pub mod ShortLemmas
 pub mod ScriptLemmas
 pub mod ReleasedLemmas
 pub mod CountedLemmas

@@ -53,25 +53,14 @@ one_more first between last script given script_then given_then script_now given
   size = ap length is ∙ length-append moves (next ∷ []) ∙ ap (λ n. n + 1) run.size;
 }
 
--- the mover has no more
+-- the mover has no more, and few were made
 pub none_left : (first now : WorldState) (script given script_then given_then script_now given_now : Setup → Course → List Move → Course → Type 0) (moves : List Move) (count : ℕ) → Running first now script given script_then given_then moves count
-    → GivesNext script_then given_then script_now given_now now None → GoesOn first now (λ setup from to. MakesScript script setup from moves to)
-none_left first now script given script_then given_then script_now given_now moves count run gives = λ setup from stands.
+    → count < 2 ^ 27 → GivesNext script_then given_then script_now given_now now None → GoesOn first now (λ setup from to. MakesScript script setup from moves to)
+none_left first now script given script_then given_then script_now given_now moves count run few gives = λ setup from stands.
     let b = run.goes setup from stands in
     record {
       to = b.to;
-      fact = record { makes = b.fact.0; whole = λ few. run.same setup from b.to (reverse moves) (gives.gives setup from b.to (reverse moves) b.fact.1 b.stands) };
-      stands = b.stands;
-    }
-
--- as many as are made at most
-pub all_made : (first now : WorldState) (script given script_now given_now : Setup → Course → List Move → Course → Type 0) (moves : List Move) (count : ℕ) → Running first now script given script_now given_now moves count
-    → (count < 2 ^ 27 → ⊥) → GoesOn first now (λ setup from to. MakesScript script setup from moves to)
-all_made first now script given script_now given_now moves count run many = λ setup from stands.
-    let b = run.goes setup from stands in
-    record {
-      to = b.to;
-      fact = record { makes = b.fact.0; whole = λ few. absurd (many (subst (λ n. n < 2 ^ 27) run.size few)) };
+      fact = record { makes = b.fact.0; few = subst (λ n. n < 2 ^ 27) (sym run.size) few; whole = run.same setup from b.to (reverse moves) (gives.gives setup from b.to (reverse moves) b.fact.1 b.stands) };
       stands = b.stands;
     }
 
@@ -85,6 +74,7 @@ drilled setup near far script links first last moves counts hash count begun goe
     record {
       course = g.to;
       makes = run.makes;
+      few = run.few;
       follows = run.whole;
       counted = counted setup g.to g.stands;
       digest = is ∙ ap sha256 g.stands.written;

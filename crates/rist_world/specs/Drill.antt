@@ -12,17 +12,23 @@ use Rattle.world_rules.specs.World.{Setup, Course, IsSetup, IsSealerOf, links_of
 use Rattle.rist_world.specs.declared.counts.Counts.{Counts}
 use Rattle.rist_world.specs.Counted.{Counted}
 
--- Moves, the oldest first, were made from the beginning on: where they are fewer than 2^27, all those of a script. The
--- counts are those of what was made, and the digest is that of all that the receiver released. Where the moves are a
--- short script, that is what was reached, epoch after epoch, by rising number, and nothing else.
+-- what the receiver of a course released is what was reached, epoch after epoch, by rising number, and nothing else
+abbrev pub IsExact : Setup → Course → Type 0
+IsExact setup course =
+    PlaysReached setup.control.limits setup.session.width (flows_of setup.flow setup.first course.work.history)
+    (drop 1 (buffer_history course.steps)) (released_payloads setup.control.limits (buffer_history course.steps))
+
+-- Moves, the oldest first, fewer than 2^27, were made from the beginning on: all those of a script. The counts are
+-- those of what was made, and the digest is that of all that the receiver released. Where the moves are a short script,
+-- that is what was reached, and nothing else.
 pub record Drilled (setup : Setup) (near far : Option SealerState)
     (script : Setup → Course → List Move → Course → Type 0) (moves : List Move) (counts : Counts)
     (hash : List ℕ) : Type 0 where
   pub course : Course
   pub makes : MakesAll setup (reverse moves) (beginning near far (links_of setup)) course
-  pub follows : length moves < 2 ^ 27 → script setup (beginning near far (links_of setup)) (reverse moves) course
+  pub few : length moves < 2 ^ 27
+  pub follows : script setup (beginning near far (links_of setup)) (reverse moves) course
   pub counted : Counted setup course counts
   pub digest : hash ≡ sha256 (released_bytes setup.control.limits (buffer_history course.steps))
   pub exact : IsSetup setup → IsSealerOf setup.session near → IsShort setup.session.width (reverse moves)
-      → PlaysReached setup.control.limits setup.session.width (flows_of setup.flow setup.first course.work.history)
-      (drop 1 (buffer_history course.steps)) (released_payloads setup.control.limits (buffer_history course.steps))
+      → IsExact setup course

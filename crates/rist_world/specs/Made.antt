@@ -17,7 +17,7 @@ use Rattle.world_rules.specs.World.{Setup, IsSealerOf}
 use Rattle.rist_world.specs.declared.counts.Counts.{Counts}
 use Rattle.rist_world.specs.declared.running.Report.{Report}
 use Rattle.rist_world.specs.World.{setup_of}
-use Rattle.rist_world.specs.Drill.{Drilled}
+use Rattle.rist_world.specs.Drill.{Drilled, IsExact}
 use Rattle.rist_world.specs.Script.{IsMadeScript}
 
 -- the session of a made script: in the Main Profile, under a passphrase, with null packets deleted and numbers of 32
@@ -92,7 +92,7 @@ counts_in r =
     }
 
 -- The moves of the report are those of the made script, by sealers of its session, and the report tells what came of
--- them.
+-- them. What the receiver released is what was reached, and nothing else.
 pub record IsMadeRun (script : Script) (report : Report) : Type 0 where
   pub near : Option SealerState
   pub far : Option SealerState
@@ -101,3 +101,4 @@ pub record IsMadeRun (script : Script) (report : Report) : Type 0 where
   pub sealed : IsSealerOf made_session near
   pub run : Drilled (made_setup script.links) near far (IsMadeScript script) report.moves.items (counts_in report)
       report.digest
+  pub exact : IsExact (made_setup script.links) run.course

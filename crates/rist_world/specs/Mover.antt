@@ -26,8 +26,9 @@ pub record GivesNext (script given script_after given_after : Setup → Course �
       → IsWorldAfter setup world to
       → IsNext script given_after setup from moves to next
 
--- moves, the oldest first, lead from a course to another, and where they are fewer than 2^27 they are a whole script
+-- moves, the oldest first, lead from a course to another, are fewer than 2^27, and are a whole script
 pub record MakesScript (script : Setup → Course → List Move → Course → Type 0) (setup : Setup) (from : Course)
     (moves : List Move) (to : Course) : Type 0 where
   pub makes : MakesAll setup (reverse moves) from to
-  pub whole : length moves < 2 ^ 27 → script setup from (reverse moves) to
+  pub few : length moves < 2 ^ 27
+  pub whole : script setup from (reverse moves) to

@@ -23,7 +23,7 @@ use sha2::{Digest, Sha256};
 use std::alloc::Global;
 use world_rules::Move;
 
-/// A script of so many moves or more is not run to its end.
+/// A script of so many moves or more is not run: memory is wanting for it.
 const MOST_MOVES: u32 = 1 << 27;
 
 /// What came of a script.
@@ -47,7 +47,7 @@ pub struct Report {
     pub digest: [u8; 32],
 }
 
-// Makes the moves of a script.
+// Makes the moves of a script, all of them, where they are fewer than 2^27 and memory lasts.
 fn run<M: Mover>(alloc: Global, world: &mut World, mover: &mut M) -> Result<Vec<Move>, NoMemory>
     requires none { HasGivenNone (M.given mover.old) }
     ensures made { IfOk result (λ moves. GoesOn world.old world.new
@@ -63,7 +63,7 @@ fn run<M: Mover>(alloc: Global, world: &mut World, mover: &mut M) -> Result<Vec<
             return Err(NoMemory);
         }
     }
-    Ok(moves)
+    Err(NoMemory)
 }
 
 // The SHA-256 of octets.
@@ -75,8 +75,9 @@ fn digest_of(octets: &[u8]) -> [u8; 32]
     hasher.finalize()
 }
 
-/// Both ends in a session, and the moves that a mover gives, to its end or the first 2^27: what came of them. The mover
-/// has given none before. A sealer for each end is handed in exactly where the session has a passphrase.
+/// Both ends in a session, and all moves that a mover gives: what came of them. Where there are 2^27 or more, memory is
+/// wanting. The mover has given none before. A sealer for each end is handed in exactly where the session has a
+/// passphrase.
 pub fn drill<M: Mover>(
     alloc: Global,
     session: &Session,

@@ -42,6 +42,7 @@ pub struct World {
 impl Model for World {
     ghost use Rattle.std.specs.Prelude.{◌≡◌, ◌≤◌, length};
     ghost use Rattle.sender_rules.specs.Bonding.{link_count};
+    ghost use Rattle.link_channels.specs.declared.bounds.TheConstants.{MAX_LINKS};
     ghost use Rattle.rist_world.specs.World.{WorldState};
 
     ghost Value = { WorldState };
