@@ -16,7 +16,7 @@ use Rattle.rist_top.specs.Splits.{AreAsReplayed, IsAsReplayed, SomeIsCutOff, Spl
 use Rattle.rist_top.specs.declared.status.Status.{Status}
 use Rattle.rist_top.specs.declared.status.Status.TheVariants as statuses
 use Rattle.rist_top.proofs.CompleteLemmas.{ran_completes}
-use Rattle.rist_top.proofs.DoesLemmas.{refuses}
+use Rattle.rist_top.proofs.LineLemmas.{refuses}
 use Rattle.rist_top.proofs.FrameLemmas.{not_as_it_stood}
 use Rattle.rist_top.proofs.SplitHostLemmas.{form_at}
 

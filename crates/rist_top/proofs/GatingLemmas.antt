@@ -33,16 +33,18 @@ use Rattle.rist_words.specs.Ranges.{IsWeight}
 use Rattle.rist_top.specs.Causes.{CanRefuse}
 use Rattle.rist_top.specs.Complete.{CompletesGating, IsGateWhole, StaysUp, StaysUpBehind}
 use Rattle.rist_top.specs.Frame.{KeepsAroundGate, KeepsLinksBut, KeepsWords, gate_draws}
-use Rattle.rist_top.specs.Gated.{Gated, GatedByClocks, GatesAs, Ungated, gate_status}
+use Rattle.rist_top.specs.Gated.{Gated, Ungated, gate_status}
 use Rattle.rist_top.specs.Inside.Answers.{KeepsButTiming}
+use Rattle.rist_top.specs.Inside.Gating.{GatesAs, PassesByClocks}
 use Rattle.rist_top.specs.Objects.{Tells}
-use Rattle.rist_top.specs.Received.{FromTheFirst}
+use Rattle.rist_top.specs.Places.{FromTheFirst}
 use Rattle.rist_top.specs.Sealing.{AreDrawn, FailedAt}
 use Rattle.rist_top.specs.Sent.{TellsLive}
 use Rattle.rist_top.specs.Sessions.{bonding_with, limits_served, sender_gated, session_gated, session_read, settings_with, setup_gated, steps_kept}
 use Rattle.rist_top.specs.declared.status.Status.{Status}
 use Rattle.rist_top.specs.declared.status.Status.TheVariants as statuses
 use Rattle.rist_top.proofs.HeardLemmas.{at_place, failed_at, no_limit}
+use Rattle.rist_top.proofs.HandedLemmas.{places_between}
 use Rattle.rist_top.proofs.ReceiveLemmas.{words_between}
 use Rattle.rist_top.proofs.WholeLemmas.{is_refused}
 
@@ -86,22 +88,51 @@ both_between tells first second old mid later new e f drawn =
     subst (λ x. AreDrawn tells x new first second) e (subst (λ x. AreDrawn tells mid x first second) (sym f) drawn)
 
 -- what was done by clocks, over shelves that are the same but for links
-pub gated_between : {I O E L C : Type 0} (tells : Tells I O E) (live : TellsLive L C) (old mid later new : Shelf I O E L C) (c : GateCommand) (were are : List L) (status : Status)
-    → ChangesOpening old mid → ChangesLinks later new → GatedByClocks tells live mid later c were are status → GatedByClocks tells live old new c were are status
-gated_between tells live old mid later new c were are status e f s = record {
-  clocks_were = s.clocks_were;
-  clocks_are = s.clocks_are;
-  clocks = subst (λ x. FromTheFirst x new.clocks s.clocks_were s.clocks_are) (ap (λ x. x.clocks) e)
-      (subst (λ x. FromTheFirst mid.clocks x s.clocks_were s.clocks_are) (sym (ap (λ x. x.clocks) f)) s.clocks);
-  receiving = s.receiving;
-  sending = s.sending;
-  fresh_receiving = s.fresh_receiving;
-  fresh_sending = s.fresh_sending;
-  drawn = both_between tells s.receiving s.sending old.entropies mid.entropies later.entropies new.entropies (ap (λ x. x.entropies) e) (ap (λ x. x.entropies) f) s.drawn;
-  counts = s.counts;
-  reported = ap (λ x. x.report) f ∙ s.reported;
-  gates = s.gates;
+pass_between : {I O E L C : Type 0} (tells : Tells I O E) (live : TellsLive L C) (old mid later new : Shelf I O E L C) (c : GateCommand) (were are : List L) (status : Status)
+    → ChangesOpening old mid → ChangesLinks later new → PassesByClocks tells live mid later c status were are → PassesByClocks tells live old new c status were are
+pass_between tells live old mid later new c were are status e f s = record {
+  were = s.were;
+  are = s.are;
+  count = s.count;
+  places = places_between old.clocks mid.clocks later.clocks new.clocks s.were s.are (ap (λ x. x.clocks) e) (ap (λ x. x.clocks) f) s.places;
+  did = record {
+    receiving = s.did.receiving;
+    sending = s.did.sending;
+    fresh_receiving = s.did.fresh_receiving;
+    fresh_sending = s.did.fresh_sending;
+    drawn = both_between tells s.did.receiving s.did.sending old.entropies mid.entropies later.entropies new.entropies (ap (λ x. x.entropies) e) (ap (λ x. x.entropies) f) s.did.drawn;
+    counts = s.did.counts;
+    reported = ap (λ x. x.report) f ∙ s.did.reported;
+    gates = s.did.gates;
+  };
 }
+
+-- what was done on links that were handed out and came back
+pub gated_by : {I O E L C : Type 0} (tells : Tells I O E) (live : TellsLive L C) (old mid later new : Shelf I O E L C) (c : GateCommand) (were are : List L) (status : Status)
+    → length were ≡ length c.inputs + length c.outputs → FromTheFirst old.links new.links were are → ChangesOpening old mid → ChangesLinks later new
+    → PassesByClocks tells live mid later c status were are → Gated tells live old new c status
+gated_by tells live old mid later new c were are status count links e f s =
+    let clocks = pass_between tells live old mid later new c were are status e f s in
+    record {
+      links_were = were;
+      links_are = are;
+      link_count = count;
+      links = links;
+      clocks_were = clocks.were;
+      clocks_are = clocks.are;
+      clock_count = clocks.count;
+      clocks = clocks.places;
+      receiving = clocks.did.receiving;
+      sending = clocks.did.sending;
+      fresh_receiving = clocks.did.fresh_receiving;
+      fresh_sending = clocks.did.fresh_sending;
+      drawn = clocks.did.drawn;
+      counts = clocks.did.counts;
+      reported = clocks.did.reported;
+      ending = clocks.did.gates.ending;
+      answer = clocks.did.gates.answer;
+      run = clocks.did.gates.run;
+    }
 
 -- all around links that were opened and came back
 pub around_links : {I O E L C : Type 0} (old mid later new : Shelf I O E L C) (c : GateCommand) → ChangesOpening old mid → KeepsButTiming mid later → ChangesLinks later new
@@ -232,13 +263,13 @@ rose_behind line why first now were are n k was is down risen a b less later her
 
 -- so none of the links that are sent on stays up
 sent_down : {I O E L C : Type 0} (tells : Tells I O E) (live : TellsLive L C) (old new : Shelf I O E L C) (c : GateCommand) (status : Status) (r : Gated tells live old new c status) (why : Option SendBad)
-    → why ≡ Some bads.LinksDown → HasRisen why r.gated.gates.run.first.links r.gated.gates.run.last.links
+    → why ≡ Some bads.LinksDown → HasRisen why r.run.first.links r.run.last.links
     → StaysUpBehind live.line old.links new.links (length c.inputs) (length c.outputs) → ⊥
 sent_down tells live old new c status r why down risen stays =
-    let sends = r.gated.gates.run.sends in
+    let sends = r.run.sends in
     let n = length c.inputs in
     let k = stays.place in
-    let among : n + k < length r.links_were = omega (arith, stays.among, r.count) in
+    let among : n + k < length r.links_were = omega (arith, stays.among, r.link_count) in
     let had : k < length (drop n r.links_were) = omega (arith, among, length-drop n r.links_were) in
     let many : length (drop n r.links_are) ≡ length (drop n r.links_were) =
     sym (length-map (drop n r.links_are) (shown live.line))
@@ -249,49 +280,48 @@ sent_down tells live old new c status r why down risen stays =
     let is = at_place r.links_are (n + k) later in
     stays.up was.0 is.0 (r.links.took (n + k) was.0 among ∙ ap Here (get_or_from_slice_get r.links_were (n + k) was.0 was.0 was.1))
     (r.links.gave (n + k) is.0 among ∙ ap Back (get_or_from_slice_get r.links_are (n + k) is.0 is.0 is.1))
-    (rose_behind live.line why r.gated.gates.run.first.links r.gated.gates.run.last.links r.links_were r.links_are n k was.0 is.0 down risen sends.links_had sends.links_have had has was.1 is.1)
+    (rose_behind live.line why r.run.first.links r.run.last.links r.links_were r.links_are n k was.0 is.0 down risen sends.links_had sends.links_have had has was.1 is.1)
 
 -- nor of the links that are received on, where each of those failed
 received_down : {I O E L C : Type 0} (tells : Tells I O E) (live : TellsLive L C) (old new : Shelf I O E L C) (c : GateCommand) (status : Status) (r : Gated tells live old new c status)
-    → r.gated.gates.run.ended ≡ endings.LinksDown → StaysUp live.line old.links new.links (length c.inputs) → ⊥
+    → r.run.ended ≡ endings.LinksDown → StaysUp live.line old.links new.links (length c.inputs) → ⊥
 received_down tells live old new c status r down stays =
-    let s = r.gated in
-    let run = s.gates.run in
+    let run = r.run in
     let n = length c.inputs in
-    let within : n ≤ length r.links_were = omega (arith, r.count) in
+    let within : n ≤ length r.links_were = omega (arith, r.link_count) in
     let among : stays.place < length r.links_were = omega (arith, within, stays.among) in
     let few : stays.place < length (take n r.links_were) = subst (λ m. stays.place < m) (sym (length-take-le n r.links_were within)) stays.among in
     let failed =
-    (subst (λ e. EndsAs e (given_to (setup_gated c s.receiving s.sending).receiving (Some []) 0) run.receives.desk run.receives.are s.counts) down run.receives.ends).1 in
-    let f = failed_at live.moments live.line (setup_gated c s.receiving s.sending).receiving (limits_served c.serving) (take n r.links_were) (take n r.links_are) (take n s.clocks_were) (take n s.clocks_are)
-    (Some []) _ 0 run.last.faults s.counts run.ended run.receives failed stays.place few in
+    (subst (λ e. EndsAs e (given_to (setup_gated c r.receiving r.sending).receiving (Some []) 0) run.receives.desk run.receives.are r.counts) down run.receives.ends).1 in
+    let f = failed_at live.moments live.line (setup_gated c r.receiving r.sending).receiving (limits_served c.serving) (take n r.links_were) (take n r.links_are) (take n r.clocks_were) (take n r.clocks_are)
+    (Some []) _ 0 run.last.faults r.counts run.ended run.receives failed stays.place few in
     stays.up f.0 f.1 (r.links.took stays.place f.0 among ∙ ap Here (sym (get_or-take n r.links_were stays.place f.0 stays.among) ∙ f.2))
     (r.links.gave stays.place f.1 among ∙ ap Back (sym (get_or-take n r.links_are stays.place f.1 stays.among) ∙ f.3)) f.4
 
 not_down : {I O E L C : Type 0} (tells : Tells I O E) (live : TellsLive L C) (old new : Shelf I O E L C) (c : GateCommand) (status : Status) (r : Gated tells live old new c status)
-    → (r.gated.gates.run.ended ≡ endings.LinksDown) ⊎ ((r.gated.gates.run.last.put_bad ≡ Some bads.LinksDown) ⊎ (r.gated.gates.run.last.aside_bad ≡ Some bads.LinksDown))
+    → (r.run.ended ≡ endings.LinksDown) ⊎ ((r.run.last.put_bad ≡ Some bads.LinksDown) ⊎ (r.run.last.aside_bad ≡ Some bads.LinksDown))
     → StaysUp live.line old.links new.links (length c.inputs) → StaysUpBehind live.line old.links new.links (length c.inputs) (length c.outputs) → ⊥
 not_down tells live old new c status r (inl ended) stays behind = received_down tells live old new c status r ended stays
 not_down tells live old new c status r (inr (inl put)) stays behind =
-    sent_down tells live old new c status r r.gated.gates.run.last.put_bad put r.gated.gates.run.sends.onward.put_down behind
+    sent_down tells live old new c status r r.run.last.put_bad put r.run.sends.onward.put_down behind
 not_down tells live old new c status r (inr (inr looked)) stays behind =
-    sent_down tells live old new c status r r.gated.gates.run.last.aside_bad looked r.gated.gates.run.sends.onward.aside_down behind
+    sent_down tells live old new c status r r.run.last.aside_bad looked r.run.sends.onward.aside_down behind
 
 ended_by : {I O E L C : Type 0} (tells : Tells I O E) (live : TellsLive L C) (old new : Shelf I O E L C) (c : GateCommand) (status : Status) (r : Gated tells live old new c status) (end : GateEnding)
-    → r.gated.gates.ending ≡ end → status ≡ gate_status end → StaysUp live.line old.links new.links (length c.inputs)
+    → r.ending ≡ end → status ≡ gate_status end → StaysUp live.line old.links new.links (length c.inputs)
     → StaysUpBehind live.line old.links new.links (length c.inputs) (length c.outputs) → IsGateWhole c status
 ended_by tells live old new c status r gates.Done is answer stays behind = inl answer
 ended_by tells live old new c status r gates.Spent is answer stays behind = inr (inl answer)
 ended_by tells live old new c status r gates.TraceFull is answer stays behind =
-    let run = r.gated.gates.run in
+    let run = r.run in
     let full = full_by run.ended run.last.put_bad run.last.aside_bad (subst (EndsGate run.ended run.last.put_bad run.last.aside_bad) is run.ends) in
     inr (inr (inr (λ zero. (run.receives.sure (no_limit c.serving.keep zero) refl).room full, inl answer)))
 ended_by tells live old new c status r (gates.Torn tear) is answer stays behind =
-    let run = r.gated.gates.run in
+    let run = r.run in
     let torn = torn_by tear run.ended run.last.put_bad run.last.aside_bad (subst (EndsGate run.ended run.last.put_bad run.last.aside_bad) is run.ends) in
     inr (inr (inr (λ zero. (run.receives.sure (no_limit c.serving.keep zero) refl).whole tear torn, inr (tear, answer))))
 ended_by tells live old new c status r gates.LinksDown is answer stays behind =
-    let run = r.gated.gates.run in
+    let run = r.run in
     absurd (not_down tells live old new c status r
     (down_by run.ended run.last.put_bad run.last.aside_bad (subst (EndsGate run.ended run.last.put_bad run.last.aside_bad) is run.ends)) stays behind)
 
@@ -310,13 +340,4 @@ gated_completes tells live old new c status opened words gated none stays behind
     by_refusal (inl refused) = refused_ends c status opened (λ e. none (words e)) refused
     by_refusal (inr ran) =
         let r = gated ran in
-        ended_by tells live old new c status r r.gated.gates.ending refl r.gated.gates.answer stays behind
-
--- the same line, under two names
-pub gated_same : {I O E L C : Type 0} (tells : Tells I O E) (live : TellsLive L C) (old new : Shelf I O E L C) (c d : GateCommand) (status : Status) → c ≡ d
-    → Gated tells live old new c status → Gated tells live old new d status
-gated_same tells live old new c d status same gated = subst (λ x. Gated tells live old new x status) same gated
-
-pub gating_same : {I O E L C : Type 0} (tells : Tells I O E) (line : LinkTells L) (old new : Shelf I O E L C) (c d : GateCommand) (status : Status) → c ≡ d
-    → CompletesGating tells line old new c status → CompletesGating tells line old new d status
-gating_same tells line old new c d status same completes = subst (λ x. CompletesGating tells line old new x status) same completes
+        ended_by tells live old new c status r r.ending refl r.answer stays behind

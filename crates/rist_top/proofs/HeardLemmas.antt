@@ -78,33 +78,32 @@ failed_at {L} {C} moments line s limits links_were links_are clocks_were clocks_
     (was.0.link, is.0.link, link_at run.were links_were place was.0 run.links_had less was.1, link_at run.are links_are place is.0 run.links_have later is.1, rose)
 
 each_failed : {I O E L C : Type 0} (tells : Tells I O E) (live : TellsLive L C) (old new : Shelf I O E L C) (c : RecvCommand) (status : Status) (r : Received tells live old new c status)
-    → all_workers is_link_failed r.received.received.receives.run.are ≡ true → StaysUp live.line old.links new.links (length c.links) → ⊥
+    → all_workers is_link_failed r.run.are ≡ true → StaysUp live.line old.links new.links (length c.links) → ⊥
 each_failed tells live old new c status r failed stays =
-    let o = r.received in
-    let among : stays.place < length o.links_were = subst (λ n. stays.place < n) (sym o.count) stays.among in
-    let f = failed_at live.moments live.line (setup_received c o.received.sealer) (limits_received c) o.links_were o.links_are o.received.clocks_were o.received.clocks_are
-    (tells.contents r.sink) (tells.contents r.filled) (tells.write_faults r.sink) (tells.write_faults r.filled) o.received.counts o.received.receives.ending o.received.receives.run failed stays.place among in
-    stays.up f.0 f.1 (o.links.took stays.place f.0 among ∙ ap Here f.2) (o.links.gave stays.place f.1 among ∙ ap Back f.3) f.4
+    let among : stays.place < length r.links_were = subst (λ n. stays.place < n) (sym r.link_count) stays.among in
+    let f = failed_at live.moments live.line (setup_received c r.sealer) (limits_received c) r.links_were r.links_are r.clocks_were r.clocks_are
+    (tells.contents r.sink) (tells.contents r.filled) (tells.write_faults r.sink) (tells.write_faults r.filled) r.counts r.ending r.run failed stays.place among in
+    stays.up f.0 f.1 (r.links.took stays.place f.0 among ∙ ap Here f.2) (r.links.gave stays.place f.1 among ∙ ap Back f.3) f.4
 
 -- a line that keeps no steps has no limit on them
 pub no_limit : (keep : ℕ) → keep ≡ 0 → (if keep == 0 then None else Some keep) ≡ None
 no_limit keep is = ap (λ (n : ℕ). if n == 0 then None else Some n) is
 
 ended_by : {I O E L C : Type 0} (tells : Tells I O E) (live : TellsLive L C) (old new : Shelf I O E L C) (c : RecvCommand) (status : Status) (r : Received tells live old new c status) (end : Ending)
-    → r.received.received.receives.ending ≡ end → status ≡ receive_status end → NoWriteFailed tells old new c → StaysUp live.line old.links new.links (length c.links) → IsHeard c status
+    → r.ending ≡ end → status ≡ receive_status end → NoWriteFailed tells old new c → StaysUp live.line old.links new.links (length c.links) → IsHeard c status
 ended_by tells live old new c status r endings.Done is answer none stays = inl answer
 ended_by tells live old new c status r endings.Spent is answer none stays = inr (inl answer)
 ended_by tells live old new c status r endings.TraceFull is answer none stays =
-    inr (inr (inr (λ zero. (r.received.received.receives.run.sure (no_limit c.serving.keep zero) refl).room is, inl answer)))
+    inr (inr (inr (λ zero. (r.run.sure (no_limit c.serving.keep zero) refl).room is, inl answer)))
 ended_by tells live old new c status r (endings.Torn tear) is answer none stays =
-    inr (inr (inr (λ zero. (r.received.received.receives.run.sure (no_limit c.serving.keep zero) refl).whole tear is, inr (tear, answer))))
+    inr (inr (inr (λ zero. (r.run.sure (no_limit c.serving.keep zero) refl).whole tear is, inr (tear, answer))))
 ended_by tells live old new c status r endings.WriteFault is answer none stays =
     absurd (none.writes r.sink r.filled r.took r.gave
-    (rose_by (is_write_fault r.received.received.receives.ending) (tells.write_faults r.sink) (tells.write_faults r.filled) (ap is_write_fault is) r.received.received.receives.run.fault))
+    (rose_by (is_write_fault r.ending) (tells.write_faults r.sink) (tells.write_faults r.filled) (ap is_write_fault is) r.run.fault))
 ended_by tells live old new c status r endings.LinksDown is answer none stays =
-    let run = r.received.received.receives.run in
+    let run = r.run in
     absurd (each_failed tells live old new c status r
-    (subst (λ e. EndsAs e (given_to (setup_received c r.received.received.sealer) (tells.contents r.sink) (tells.write_faults r.sink)) run.desk run.are r.received.received.counts) is run.ends).1
+    (subst (λ e. EndsAs e (given_to (setup_received c r.sealer) (tells.contents r.sink) (tells.write_faults r.sink)) run.desk run.are r.counts) is run.ends).1
     stays)
 
 refused_ends : (c : RecvCommand) (s : Status) → (s ≡ statuses.OpenFault → ⊥) → (s ≡ statuses.EntropyFault → ⊥) → CanRefuse s → IsHeard c s
@@ -121,13 +120,4 @@ received_completes tells live old new c status opened words received none stays 
     by_refusal (inl refused) = refused_ends c status opened (λ e. none.words (words e)) refused
     by_refusal (inr ran) =
         let r = received ran in
-        ended_by tells live old new c status r r.received.received.receives.ending refl r.received.received.receives.answer none stays
-
--- the same line, under two names
-pub received_same : {I O E L C : Type 0} (tells : Tells I O E) (live : TellsLive L C) (old new : Shelf I O E L C) (c d : RecvCommand) (status : Status) → c ≡ d
-    → Received tells live old new c status → Received tells live old new d status
-received_same tells live old new c d status same received = subst (λ x. Received tells live old new x status) same received
-
-pub completes_same : {I O E L C : Type 0} (tells : Tells I O E) (line : LinkTells L) (old new : Shelf I O E L C) (c d : RecvCommand) (status : Status) → c ≡ d
-    → CompletesReceiving tells line old new c status → CompletesReceiving tells line old new d status
-completes_same tells line old new c d status same completes = subst (λ x. CompletesReceiving tells line old new x status) same completes
+        ended_by tells live old new c status r r.ending refl r.answer none stays

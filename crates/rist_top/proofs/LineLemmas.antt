@@ -1,11 +1,14 @@
--- A run does the line that its words are.
-use Rattle.std.proofs.Common.{◌≡◌, subst, Some}
+-- The words of a command line are one line at most.
+use Rattle.std.proofs.Common.{◌≡◌, ◌∙◌, Option, None, Some, ap, refl, sym, subst}
+use mathlib.Core.Logic.{inl, inr}
 use Rattle.outside_host.specs.Shelf.{Shelf}
-use Rattle.rist_words.specs.CommandLine.{CommandLine, Send, SendCommand}
+use Rattle.rist_words.specs.CommandLine.{CommandLine, Replay, Show, Count, Pack, Split, Send, Recv, Gate, Drill, SendCommand, RecvCommand, GateCommand}
+use Rattle.rist_top.specs.Causes.{CanRefuse}
+use Rattle.rist_top.specs.Lines.{IsOverFiles, IsPlain, plain_line}
 use Rattle.rist_top.specs.Objects.{Tells}
 use Rattle.rist_top.specs.Ran.{Ran}
-use Rattle.rist_top.specs.Sent.{TellsLive, Sent}
 use Rattle.rist_top.specs.declared.status.Status.{Status}
+use Rattle.rist_top.specs.declared.status.Status.TheVariants as statuses
 
 pub same_line : (x y : CommandLine) → Some x ≡ Some y → x ≡ y
 same_line x y e = cc
@@ -13,9 +16,52 @@ same_line x y e = cc
 pub ran_line : {I O E L C : Type 0} (tells : Tells I O E) (old new : Shelf I O E L C) (c k : CommandLine) (status : Status) → c ≡ k → Ran tells old new c status → Ran tells old new k status
 ran_line tells old new c k status is ran = subst (λ x. Ran tells old new x status) is ran
 
-same_sending : (x y : SendCommand) → Send x ≡ Send y → x ≡ y
+-- what is a line is none of no line
+pub is_line : (o : Option CommandLine) (c : CommandLine) → o ≡ Some c → o ≡ None → ⊥
+is_line o c is none = absurd (cc (is, none))
+
+-- a receiving and a gateway are no line of a command that waits for nobody
+pub receiving_is_none : (o : Option CommandLine) (c : RecvCommand) → o ≡ Some (Recv c) → plain_line o ≡ None
+receiving_is_none o c is = ap plain_line is
+
+pub gate_is_none : (o : Option CommandLine) (c : GateCommand) → o ≡ Some (Gate c) → plain_line o ≡ None
+gate_is_none o c is = ap plain_line is
+
+-- no line over files, and no sending, is among what is none
+pub no_files : (o : Option CommandLine) (c : CommandLine) → plain_line o ≡ None → o ≡ Some c → IsOverFiles c → ⊥
+no_files o (Replay c) none is files = absurd (cc (none, is))
+no_files o (Show c) none is files = absurd (cc (none, is))
+no_files o (Count c) none is files = absurd (cc (none, is))
+no_files o (Pack c) none is files = absurd (cc (none, is))
+no_files o (Split c) none is files = files
+no_files o (Send c) none is files = files
+no_files o (Recv c) none is files = files
+no_files o (Gate c) none is files = files
+no_files o (Drill c) none is files = files
+
+pub no_sending : (o : Option CommandLine) (c : SendCommand) → plain_line o ≡ None → o ≡ Some (Send c) → ⊥
+no_sending o c none is = absurd (cc (none, is))
+
+-- the line of a command that waits for nobody is no receiving, and no gateway
+pub no_receiving : (o : Option CommandLine) (l : CommandLine) (c : RecvCommand) → o ≡ Some l → IsPlain l → o ≡ Some (Recv c) → ⊥
+no_receiving o l c is plain e = subst IsPlain (same_line l (Recv c) (sym is ∙ e)) plain
+
+pub no_gate : (o : Option CommandLine) (l : CommandLine) (c : GateCommand) → o ≡ Some l → IsPlain l → o ≡ Some (Gate c) → ⊥
+no_gate o l c is plain e = subst IsPlain (same_line l (Gate c) (sym is ∙ e)) plain
+
+-- a receiving is no gateway
+pub no_both : (o : Option CommandLine) (c : RecvCommand) (d : GateCommand) → o ≡ Some (Recv c) → o ≡ Some (Gate d) → ⊥
+no_both o c d e f = absurd (cc (e, f))
+
+pub same_sending : (x y : SendCommand) → Send x ≡ Send y → x ≡ y
 same_sending x y e = cc
 
-pub sent_line : {I O E L C : Type 0} (tells : Tells I O E) (live : TellsLive L C) (old new : Shelf I O E L C) (c k : SendCommand) (status : Status) → Send c ≡ Send k
-    → Sent tells live old new c status → Sent tells live old new k status
-sent_line tells live old new c k status is sent = subst (λ x. Sent tells live old new x status) (same_sending c k is) sent
+pub same_receiving : (o : Option CommandLine) (c d : RecvCommand) → o ≡ Some (Recv c) → o ≡ Some (Recv d) → c ≡ d
+same_receiving o c d e f = cc (e, f)
+
+pub same_gate : (o : Option CommandLine) (c d : GateCommand) → o ≡ Some (Gate c) → o ≡ Some (Gate d) → c ≡ d
+same_gate o c d e f = cc (e, f)
+
+-- nothing is begun where memory is refused
+pub refuses : CanRefuse statuses.Memory
+refuses = inr (inl refl)

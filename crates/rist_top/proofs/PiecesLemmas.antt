@@ -1,7 +1,8 @@
 -- The payloads of a sending are the first pieces of its source.
-use Rattle.std.proofs.Common.{subst}
+use Rattle.std.proofs.Common.{ap, subst}
 use Rattle.outside_host.specs.Shelf.{Shelf}
 use Rattle.rist_send.specs.Given.{Gives}
+use Rattle.rist_send.specs.Served.{Outside}
 use Rattle.rist_words.specs.CommandLine.{SendCommand}
 use Rattle.rist_top.specs.Objects.{Tells}
 use Rattle.rist_top.specs.Sent.{TellsLive, Sent}
@@ -13,20 +14,19 @@ use Rattle.rist_top.specs.declared.status.Status.{Status}
 pub in_pieces : {I O E L C : Type 0} (tells : Tells I O E) (live : TellsLive L C) (old new : Shelf I O E L C) (c : SendCommand) (status : Status)
     → Sent tells live old new c status → SentInPieces tells live old new c status
 in_pieces tells live old new c status s =
-    let a = s.sent.sent.sends in
     record {
       source = s.source;
       spent = s.spent;
       took_source = s.took;
       gave_source = s.gave;
-      was = s.sent.was;
-      is = s.sent.is;
-      count = s.sent.count;
-      took_links = s.sent.took;
-      gave_links = s.sent.gave;
-      history = a.to.work.history;
-      given = a.given;
-      sent = a.to.sent;
-      packets = sent_as_packets (setup_sent c) a.end _ a.to a.sends tt;
-      pieces = λ octets told. (a.end, a.answer, subst (λ left. Gives a.end octets left a.to.sent) a.octets (a.sends.gives octets told));
+      was = s.links_were;
+      is = s.links_are;
+      count = s.link_count;
+      took_links = s.links.took;
+      gave_links = s.links.gave;
+      history = s.to.work.history;
+      given = s.given;
+      sent = s.to.sent;
+      packets = sent_as_packets (setup_sent c) s.end _ s.to s.sends tt;
+      pieces = λ octets told. (s.end, s.answer, subst (λ left. Gives s.end octets left s.to.sent) (ap (λ (o : Outside). o.octets) s.left) (s.sends.gives octets told));
     }

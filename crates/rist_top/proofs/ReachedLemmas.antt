@@ -157,19 +157,17 @@ pub received_reached : {I O E L C : Type 0} (tells : Tells I O E) (live : TellsL
 unfolding is_brought
 received_reached tells live old new c status out received =
     let r = received (played_out status out) in
-    let links = r.received in
-    let clocks = links.received in
-    let run = clocks.receives.run in
-    let s = setup_received c clocks.sealer in
+    let run = r.run in
+    let s = setup_received c r.sealer in
     let given = given_to s (tells.contents r.sink) (tells.write_faults r.sink) in
-    let exact : IsExact given run.desk (told_lists run.are) clocks.counts =
-    exact_by status clocks.receives.ending given run.desk run.are clocks.counts clocks.receives.answer out run.ends in
+    let exact : IsExact given run.desk (told_lists run.are) r.counts =
+    exact_by status r.ending given run.desk run.are r.counts r.answer out run.ends in
     let before = before_is run.desk.kept exact.received.before exact.received.whole.ended run.tells_steps in
     record {
-      brought = is_brought live s (limits_received c) links.links_were links.links_are clocks.clocks_were clocks.clocks_are (tells.contents r.sink) (tells.contents r.filled)
-          (tells.write_faults r.sink) (tells.write_faults r.filled) clocks.counts clocks.receives.ending run refl old (length c.links) exact.received.before links.count
-          (λ place link inside here. same_here _ _ (sym (links.links.took place link (subst (λ n. place < n) (sym links.count) inside)) ∙ here))
-          (λ place clock inside among there. same_here _ _ (sym (clocks.clocks.took place clock among) ∙ there)) exact.received.agree;
+      brought = is_brought live s (limits_received c) r.links_were r.links_are r.clocks_were r.clocks_are (tells.contents r.sink) (tells.contents r.filled)
+          (tells.write_faults r.sink) (tells.write_faults r.filled) r.counts r.ending run refl old (length c.links) exact.received.before r.link_count
+          (λ place link inside here. same_here _ _ (sym (r.links.took place link (subst (λ n. place < n) (sym r.link_count) inside)) ∙ here))
+          (λ place clock inside among there. same_here _ _ (sym (r.clocks.took place clock among) ∙ there)) exact.received.agree;
       reached = λ filled octets p sent_run back told is steady stays honest.
           exact.reached _ octets p sent_run before
           (run.contents ∙ (ap tells.contents (same_back r.filled filled (sym r.gave ∙ back)) ∙ told)) is steady stays honest;
@@ -203,26 +201,25 @@ pub gated_reached : {I O E L C : Type 0} (tells : Tells I O E) (live : TellsLive
     → status ≡ statuses.Done → Gated tells live old new c status → GatesReached tells live old new c status
 unfolding is_brought
 gated_reached tells live old new c status done r =
-    let s = r.gated in
-    let f = s.gates.run in
+    let f = r.run in
     let run = f.receives in
     let n = length c.inputs in
-    let setup = (setup_gated c s.receiving s.sending).receiving in
+    let setup = (setup_gated c r.receiving r.sending).receiving in
     let given = given_to setup (Some []) 0 in
-    let ended : f.ended ≡ endings.Done = gate_done f.ended f.last.put_bad f.last.aside_bad s.gates.ending f.ends (sym s.gates.answer ∙ done) in
-    let exact : IsExact given run.desk (told_lists run.are) s.counts =
-    (subst (λ e. EndsAs e given run.desk run.are s.counts) ended run.ends).2 in
+    let ended : f.ended ≡ endings.Done = gate_done f.ended f.last.put_bad f.last.aside_bad r.ending f.ends (sym r.answer ∙ done) in
+    let exact : IsExact given run.desk (told_lists run.are) r.counts =
+    (subst (λ e. EndsAs e given run.desk run.are r.counts) ended run.ends).2 in
     let before = before_is run.desk.kept exact.received.before exact.received.whole.ended run.tells_steps in
-    let few : n ≤ length r.links_were = omega (arith, r.count) in
+    let few : n ≤ length r.links_were = omega (arith, r.link_count) in
     record {
       gated = r;
-      brought = is_brought live setup (limits_served c.serving) (take n r.links_were) (take n r.links_are) (take n s.clocks_were) (take n s.clocks_are) (Some []) (Some f.last.passed.sent)
-          0 f.last.faults s.counts f.ended run refl old n exact.received.before (length-take-le n r.links_were few)
+      brought = is_brought live setup (limits_served c.serving) (take n r.links_were) (take n r.links_are) (take n r.clocks_were) (take n r.clocks_are) (Some []) (Some f.last.passed.sent)
+          0 f.last.faults r.counts f.ended run refl old n exact.received.before (length-take-le n r.links_were few)
           (λ place link inside here. get_or-take n r.links_were place link inside
           ∙ same_here _ _ (sym (r.links.took place link (omega (arith, inside, few))) ∙ here))
           (λ place clock inside among there.
-          let low : place < length s.clocks_were = omega (arith, among, length-take n s.clocks_were) in
-          get_or-take n s.clocks_were place clock inside ∙ same_here _ _ (sym (s.clocks.took place clock low) ∙ there))
+          let low : place < length r.clocks_were = omega (arith, among, length-take n r.clocks_were) in
+          get_or-take n r.clocks_were place clock inside ∙ same_here _ _ (sym (r.clocks.took place clock low) ∙ there))
           exact.received.agree;
       reached = λ p sent_run is steady stays honest. exact.reached _ f.last.passed.sent p sent_run before run.contents is steady stays honest;
       epochs = λ streams sent_run is steady are. exact.epochs _ f.last.passed.sent streams sent_run before run.contents is steady are;

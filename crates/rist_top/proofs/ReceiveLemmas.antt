@@ -7,9 +7,9 @@ use Rattle.link_channels.specs.declared.profile.Profile.{Profile}
 use Rattle.outside_net.specs.declared.link_spec.LinkSpec.{LinkSpec}
 use Rattle.outside_net.specs.declared.link_spec.Role.TheVariants.{Receives as Bound}
 use Rattle.outside_host.specs.declared.host.Opened.{Opened}
-use Rattle.outside_host.specs.declared.host.Place.{Place}
+use Rattle.outside_host.specs.declared.host.Place.TheVariants.{Here, Back}
+use Rattle.outside_io.specs.Told.{IsEmpty}
 use Rattle.outside_host.specs.Shelf.{Shelf, HandsOut, TakesBack, ChangesSinks}
-use Rattle.outside_host.specs.Links.{AreOut, AreBack}
 use Rattle.psk_seal.specs.Sealer.{SealerState}
 use Rattle.rist_ends.specs.declared.counts.Counts.{Counts}
 use Rattle.desk_run.specs.Setup.{setup_made}
@@ -18,13 +18,15 @@ use Rattle.rist_wire.specs.declared.session.Session.{Session}
 use Rattle.rist_words.specs.CommandLine.{RecvCommand}
 use Rattle.rist_top.specs.Frame.{KeepsLinksBut, KeepsWords, KeepsAroundSink}
 use Rattle.rist_top.specs.Inside.Answers.{KeepsFiles}
+use Rattle.rist_top.specs.Inside.Receiving.{HearsByClocks, HearsOnLinks, ReceivesAs}
 use Rattle.rist_top.specs.Objects.{Tells}
 use Rattle.rist_top.specs.Places.{CameBack}
-use Rattle.rist_top.specs.Received.{FromTheFirst, ReceivedByClocks, ReceivedOnLinks, ReceivesAs}
+use Rattle.rist_top.specs.Received.{Received}
 use Rattle.rist_top.specs.Sealing.{DrawnFirst}
 use Rattle.rist_top.specs.Sent.{IsUnused, TellsLive}
 use Rattle.rist_top.specs.Sessions.{kept_steps, session_read, settings_received, setup_received}
 use Rattle.rist_top.specs.declared.status.Status.{Status}
+use Rattle.rist_top.proofs.HandedLemmas.{places_between}
 
 -- a line that keeps steps limits them, and one that keeps none doesn't
 pub kept_some : (n : ℕ) → 0 < n → Some n ≡ (if n == 0 then None else Some n)
@@ -50,42 +52,55 @@ same_setup c settings session sealer limit a b d =
     ap (λ x. setup_made x session sealer limit true) a
     ∙ (ap (λ x. setup_made (settings_received c) x sealer limit true) b ∙ ap (λ x. setup_made (settings_received c) (session_read c.session) sealer x true) d)
 
--- objects that were handed out from the first places, and came back there
-pub from_first : {X : Type 0} (old mid later new : ℕ → Place X) (were are : List X) → AreOut old mid were → later ≡ mid → AreBack later new are → length are ≡ length were
-    → FromTheFirst old new were are
-from_first old mid later new were are out same back count = record {
-  took = out.was;
-  gave = λ place d less. back.now place d (subst (λ n. place < n) (sym count) less) (ap (λ f. f place) same ∙ out.now place less);
-}
-
 -- what was received by clocks, over shelves that are the same but for sinks and links
 pub by_clocks_between : {I O E L C : Type 0} (tells : Tells I O E) (live : TellsLive L C) (old mid later new : Shelf I O E L C) (c : RecvCommand) (were are : List L) (sink filled : O) (status : Status)
     → mid.clocks ≡ old.clocks → mid.entropies ≡ old.entropies → new.clocks ≡ later.clocks → new.entropies ≡ later.entropies → new.report ≡ later.report
-    → ReceivedByClocks tells live mid later c were are sink filled status → ReceivedByClocks tells live old new c were are sink filled status
+    → HearsByClocks tells live mid later c sink filled status were are → HearsByClocks tells live old new c sink filled status were are
 by_clocks_between tells live old mid later new c were are sink filled status k e l f r s = record {
-  clocks_were = s.clocks_were;
-  clocks_are = s.clocks_are;
-  clocks = subst (λ x. FromTheFirst x new.clocks s.clocks_were s.clocks_are) k (subst (λ x. FromTheFirst mid.clocks x s.clocks_were s.clocks_are) (sym l) s.clocks);
-  sealer = s.sealer;
-  fresh = s.fresh;
-  drawn = subst (λ x. IfSome s.sealer (DrawnFirst tells x new.entropies)) e (subst (λ x. IfSome s.sealer (DrawnFirst tells mid.entropies x)) (sym f) s.drawn);
-  counts = s.counts;
-  reported = r ∙ s.reported;
-  receives = s.receives;
+  were = s.were;
+  are = s.are;
+  count = s.count;
+  places = places_between old.clocks mid.clocks later.clocks new.clocks s.were s.are k l s.places;
+  did = record {
+    sealer = s.did.sealer;
+    fresh = s.did.fresh;
+    drawn = subst (λ x. IfSome s.did.sealer (DrawnFirst tells x new.entropies)) e (subst (λ x. IfSome s.did.sealer (DrawnFirst tells mid.entropies x)) (sym f) s.did.drawn);
+    counts = s.did.counts;
+    reported = r ∙ s.did.reported;
+    receives = s.did.receives;
+  };
 }
 
--- what was received on links, over shelves that are the same but for sinks
-pub on_links_received : {I O E L C : Type 0} (tells : Tells I O E) (live : TellsLive L C) (old mid later new : Shelf I O E L C) (c : RecvCommand) (sink filled : O) (status : Status)
-    → ChangesSinks old mid → ChangesSinks later new
-    → ReceivedOnLinks tells live mid later c sink filled status → ReceivedOnLinks tells live old new c sink filled status
-on_links_received tells live old mid later new c sink filled status e f s = record {
-  links_were = s.links_were;
-  links_are = s.links_are;
-  count = s.count;
-  links = subst (λ x. FromTheFirst x new.links s.links_were s.links_are) (ap (λ x. x.links) e) (subst (λ x. FromTheFirst mid.links x s.links_were s.links_are) (sym (ap (λ x. x.links) f)) s.links);
-  received = by_clocks_between tells live old mid later new c s.links_were s.links_are sink filled status (ap (λ x. x.clocks) e) (ap (λ x. x.entropies) e) (ap (λ x. x.clocks) f) (ap (λ x. x.entropies) f)
-      (ap (λ x. x.report) f) s.received;
-}
+-- what was received into a sink that was handed out and came back
+pub received_by : {I O E L C : Type 0} (tells : Tells I O E) (live : TellsLive L C) (old mid later new : Shelf I O E L C) (c : RecvCommand) (sink filled : O) (status : Status)
+    → old.sinks c.out ≡ Here sink → new.sinks c.out ≡ Back filled → IsEmpty (tells.contents sink) → ChangesSinks old mid → ChangesSinks later new
+    → HearsOnLinks tells live mid later c sink filled status → Received tells live old new c status
+received_by tells live old mid later new c sink filled status took gave empty e f s =
+    let clocks = by_clocks_between tells live old mid later new c s.were s.are sink filled status (ap (λ x. x.clocks) e) (ap (λ x. x.entropies) e) (ap (λ x. x.clocks) f) (ap (λ x. x.entropies) f)
+    (ap (λ x. x.report) f) s.did in
+    record {
+      sink = sink;
+      filled = filled;
+      took = took;
+      gave = gave;
+      empty = empty;
+      links_were = s.were;
+      links_are = s.are;
+      link_count = s.count;
+      links = places_between old.links mid.links later.links new.links s.were s.are (ap (λ x. x.links) e) (ap (λ x. x.links) f) s.places;
+      clocks_were = clocks.were;
+      clocks_are = clocks.are;
+      clock_count = clocks.count;
+      clocks = clocks.places;
+      sealer = clocks.did.sealer;
+      fresh = clocks.did.fresh;
+      drawn = clocks.did.drawn;
+      counts = clocks.did.counts;
+      reported = clocks.did.reported;
+      ending = clocks.did.receives.ending;
+      answer = clocks.did.receives.answer;
+      run = clocks.did.receives.run;
+    }
 
 -- words that are the same before and after
 pub words_between : {I O E L C : Type 0} (old mid later new : Shelf I O E L C) (draws : Bool) → mid.entropies ≡ old.entropies → new.entropies ≡ later.entropies

@@ -2,13 +2,14 @@
 use Rattle.std.proofs.Common.{◌≡◌, ◌*◌, ◌<◌, ◌∷◌, ◌++◌, take, drop, ℕ, List, [], length, map, Option, IfSome, refl, sym, ap, ◌∙◌, subst, slice_index_or}
 use mathlib.Core.Logic.{inl, inr}
 use Rattle.std.specs.Prelude.{Result, Ok, Err, Bool}
-use Rattle.outside_host.specs.Shelf.{Shelf}
+use Rattle.outside_io.specs.Causes.{HasReadCause}
+use Rattle.outside_host.specs.Shelf.{Shelf, ChangesSources}
 use Rattle.outside_host.specs.declared.host.Place.{Place}
 use Rattle.outside_host.specs.declared.host.Place.TheVariants.{Here, Back}
 use Rattle.outside_host.specs.Links.{AreOut, AreBack, AreAsTheyWere}
 use Rattle.outside_host.proofs.LinkOpeningLemmas.{all_as_they_were}
 use Rattle.psk_seal.specs.Sealer.{SealerState}
-use Rattle.outside_net.specs.Links.{LinkTells}
+use Rattle.outside_net.specs.Links.{Answer, LinkTells}
 use Rattle.rist_sender.specs.Sender.{SenderState}
 use Rattle.rist_send.specs.Run.{setup_of}
 use Rattle.rist_send.specs.Sending.{SendsSource}
@@ -21,10 +22,12 @@ use Rattle.rist_words.specs.CommandLine.{SendCommand}
 use Rattle.rist_top.specs.Objects.{Tells}
 use Rattle.rist_top.specs.Sealing.{DrawnFirst}
 use Rattle.rist_top.specs.Sessions.{bonding_with, session_sent, setup_sent}
-use Rattle.rist_top.specs.Sent.{IsUnused, SendsAs, SentByClock, SentOnLinks, TellsLive, no_work, send_status}
+use Rattle.rist_top.specs.Inside.Sending.{SendsAs, SendsByClock, SendsOnLinks}
+use Rattle.rist_top.specs.Sent.{IsUnused, Sent, TellsLive, no_work, outside_left, send_status}
 use Rattle.rist_top.specs.declared.status.Status.{Status}
 use Rattle.rist_top.specs.declared.status.Status.TheVariants as statuses
-use Rattle.rist_top.specs.Causes.{CanRefuse}
+use Rattle.rist_top.specs.Causes.{CanRefuse, fault_of}
+use Rattle.rist_top.proofs.HandedLemmas.{places_between}
 
 -- a sender is set to what a line says
 pub record IsSetTo (s : SenderState) (c : SendCommand) : Type 0 where
@@ -42,6 +45,14 @@ pace_with c = record { lead = 1000 * c.lead; gap = c.gap; linger = 1000 * c.ling
 same_setup : (c : SendCommand) (s : SenderState) (links : ℕ) → IsSetTo s c → links ≡ length c.links → setup_of (pace_with c) s links ≡ setup_sent c
 same_setup c s links set is = rw (set.flow, set.first, set.hold, set.size, set.bonding, set.session, is) refl
 
+-- what is left of clock, source and reads
+abbrev outside_with : Option (ℕ → ℕ) → Option (List ℕ) → List (Option (ℕ → Answer)) → Outside
+outside_with moments octets answers = record { moments = moments; octets = octets; answers = answers }
+
+same_outside : (x y : Outside) → x.moments ≡ y.moments → x.octets ≡ y.octets → x.answers ≡ y.answers → x ≡ y
+same_outside x y a b d =
+    ap (λ m. outside_with m x.octets x.answers) a ∙ (ap (λ o. outside_with y.moments o x.answers) b ∙ ap (λ z. outside_with y.moments y.octets z) d)
+
 -- what a run left is what the line asks for
 pub sends_as : {L : Type 0} (line : LinkTells L) (c : SendCommand) (sealer : Option SealerState) (pace : SendSettings) (s after : SenderState) (had has : Outside) (was is : List L) (end : Result Unit SendFault) (status : Status)
     → pace ≡ pace_with c → IsSetTo s c → length was ≡ length c.links → status ≡ send_status end
@@ -52,9 +63,7 @@ sends_as line c sealer pace s after had has was is end status paced set count an
   answer = answer;
   to = runs.to;
   sends = subst (λ setup. SendsSource setup end (new_run (no_work sealer) had) runs.to) (ap (λ p. setup_of p s (length was)) paced ∙ same_setup c s (length was) set count) runs.fact;
-  moments = runs.moments;
-  octets = runs.octets;
-  answers = runs.answers;
+  left = same_outside (outside_left runs.to) has runs.moments runs.octets runs.answers;
   given = subst (λ f. AreServed line f (session_sent c) [] runs.to.work.history was is) set.flow
       (subst (λ x. AreServed line s.flow x [] runs.to.work.history was is) set.session runs.given);
 }
@@ -94,33 +103,52 @@ pub links_as_they_were : {L : Type 0} (old mid later new : ℕ → Place L) (lin
 links_as_they_were old mid later new links given out same is back =
     all_as_they_were old mid later new links out (λ place. inl (ap (λ f. f place) same)) (λ place less. ap (λ f. f place) same) (subst (AreBack later new) is back)
 
--- what was sent by a clock, over shelves that are the same but for the sources
-pub by_clock_between : {I O E L C : Type 0} (tells : Tells I O E) (live : TellsLive L C) (old mid later new : Shelf I O E L C) (c : SendCommand) (source spent : I) (was is : List L) (status : Status)
+-- what was sent by a clock, over shelves that are the same but for sources and links
+by_clock_between : {I O E L C : Type 0} (tells : Tells I O E) (live : TellsLive L C) (old mid later new : Shelf I O E L C) (c : SendCommand) (source spent : I) (was is : List L) (status : Status)
     → mid.clocks ≡ old.clocks → mid.entropies ≡ old.entropies → new.clocks ≡ later.clocks → new.entropies ≡ later.entropies
-    → SentByClock tells live mid later c source spent was is status → SentByClock tells live old new c source spent was is status
+    → SendsByClock tells live mid later c source spent status was is → SendsByClock tells live old new c source spent status was is
 by_clock_between tells live old mid later new c source spent was is status k e l f s = record {
   clock = s.clock;
   later = s.later;
-  sealer = s.sealer;
   took = ap (λ x. x 0) (sym k) ∙ s.took;
   gave = ap (λ x. x 0) l ∙ s.gave;
+  sealer = s.sealer;
   fresh = s.fresh;
   drawn = subst (λ x. IfSome s.sealer (DrawnFirst tells x new.entropies)) e (subst (λ x. IfSome s.sealer (DrawnFirst tells mid.entropies x)) (sym f) s.drawn);
   sends = s.sends;
 }
 
--- likewise what was sent on links
-pub on_links_between : {I O E L C : Type 0} (tells : Tells I O E) (live : TellsLive L C) (old mid later new : Shelf I O E L C) (c : SendCommand) (source spent : I) (status : Status)
-    → mid ≡ record old { sources = mid.sources } → new ≡ record later { sources = new.sources }
-    → SentOnLinks tells live mid later c source spent status → SentOnLinks tells live old new c source spent status
-on_links_between tells live old mid later new c source spent status e f s = record {
-  was = s.was;
-  is = s.is;
-  count = s.count;
-  took = λ place d less. ap (λ x. x.links place) (sym e) ∙ s.took place d less;
-  gave = λ place d less. ap (λ x. x.links place) f ∙ s.gave place d less;
-  sent = by_clock_between tells live old mid later new c source spent s.was s.is status (ap (λ x. x.clocks) e) (ap (λ x. x.entropies) e) (ap (λ x. x.clocks) f) (ap (λ x. x.entropies) f) s.sent;
-}
+-- what was sent from a source that was handed out and came back
+pub sent_by : {I O E L C : Type 0} (tells : Tells I O E) (live : TellsLive L C) (old mid later new : Shelf I O E L C) (c : SendCommand) (source spent : I) (status : Status)
+    → old.sources c.source ≡ Here source → new.sources c.source ≡ Back spent → HasReadCause (fault_of status) (tells.read_faults source) (tells.read_faults spent)
+    → ChangesSources old mid → ChangesSources later new
+    → SendsOnLinks tells live mid later c source spent status → Sent tells live old new c status
+sent_by tells live old mid later new c source spent status took gave read e f s =
+    let clock = by_clock_between tells live old mid later new c source spent s.were s.are status (ap (λ x. x.clocks) e) (ap (λ x. x.entropies) e) (ap (λ x. x.clocks) f) (ap (λ x. x.entropies) f) s.did in
+    record {
+      source = source;
+      spent = spent;
+      took = took;
+      gave = gave;
+      read = read;
+      links_were = s.were;
+      links_are = s.are;
+      link_count = s.count;
+      links = places_between old.links mid.links later.links new.links s.were s.are (ap (λ x. x.links) e) (ap (λ x. x.links) f) s.places;
+      clock = clock.clock;
+      later = clock.later;
+      took_clock = clock.took;
+      gave_clock = clock.gave;
+      sealer = clock.sealer;
+      fresh = clock.fresh;
+      drawn = clock.drawn;
+      end = clock.sends.end;
+      answer = clock.sends.answer;
+      to = clock.sends.to;
+      sends = clock.sends.sends;
+      left = clock.sends.left;
+      given = clock.sends.given;
+    }
 
 -- a host that hands out a source is as unused as before
 pub still_unused : {I O E L C : Type 0} (tells : Bool) (old mid : Shelf I O E L C) → mid ≡ record old { sources = mid.sources } → IsUnused tells old → IsUnused tells mid
@@ -136,17 +164,19 @@ pub on_opened_links : {I O E L C : Type 0} (tells : Tells I O E) (live : TellsLi
     → mid ≡ record old { links = mid.links; opened_links = mid.opened_links } → new ≡ record later { links = new.links }
     → length links ≡ length c.links → AreOut old.links mid.links links → later.links ≡ mid.links → AreBack later.links new.links given
     → was ≡ links → given ≡ is → length is ≡ length was
-    → SentByClock tells live mid later c source spent was is status → SentOnLinks tells live old new c source spent status
+    → SendsByClock tells live mid later c source spent status was is → SendsOnLinks tells live old new c source spent status
 on_opened_links tells live old mid later new c source spent links was is given status e f some out between back same gives long s = record {
-  was = was;
-  is = is;
+  were = was;
+  are = is;
   count = ap length same ∙ some;
-  took = λ place d less. subst (λ l. old.links place ≡ Here (slice_index_or l place d)) (sym same) (out.was place d (subst (λ l. place < length l) same less));
-  gave = λ place d less.
-      subst (λ l. new.links place ≡ Back (slice_index_or l place d)) gives
-      (back.now place d (subst (λ l. place < length l) (sym gives) (subst (λ n. place < n) (sym long) less))
-      (ap (λ x. x place) between ∙ out.now place (subst (λ l. place < length l) same less)));
-  sent = by_clock_between tells live old mid later new c source spent was is status (ap (λ x. x.clocks) e) (ap (λ x. x.entropies) e) (ap (λ x. x.clocks) f) (ap (λ x. x.entropies) f) s;
+  places = record {
+    took = λ place d less. subst (λ l. old.links place ≡ Here (slice_index_or l place d)) (sym same) (out.was place d (subst (λ l. place < length l) same less));
+    gave = λ place d less.
+        subst (λ l. new.links place ≡ Back (slice_index_or l place d)) gives
+        (back.now place d (subst (λ l. place < length l) (sym gives) (subst (λ n. place < n) (sym long) less))
+        (ap (λ x. x place) between ∙ out.now place (subst (λ l. place < length l) same less)));
+  };
+  did = by_clock_between tells live old mid later new c source spent was is status (ap (λ x. x.clocks) e) (ap (λ x. x.entropies) e) (ap (λ x. x.clocks) f) (ap (λ x. x.entropies) f) s;
 }
 
 -- a front that was taken out and put back

@@ -75,7 +75,7 @@ not_far c history sent b left low bound far many g =
 
 sent_ends : {I O E L C : Type 0} (tells : Tells I O E) (live : TellsLive L C) (old new : Shelf I O E L C) (c : SendCommand) (status : Status) (end : Result Unit SendFault)
     → c.stream.first < 2 ^ 32 → (source : I) (b : List ℕ) → old.sources c.source ≡ Here source → tells.remaining source ≡ Some b → length b ≤ 2 ^ 40 → NoneFailed tells old new (Send c)
-    → StaysUp live.line old.links new.links (length c.links) → (s : Sent tells live old new c status) → s.sent.sent.sends.end ≡ end → status ≡ send_status end → IsWhole c status
+    → StaysUp live.line old.links new.links (length c.links) → (s : Sent tells live old new c status) → s.end ≡ end → status ≡ send_status end → IsWhole c status
 sent_ends tells live old new c status (Ok done) low source b here told bound none stays s is answer = inl answer
 sent_ends tells live old new c status (Err faults.TurnsSpent) low source b here told bound none stays s is answer = inr (inl answer)
 sent_ends tells live old new c status (Err faults.Spent) low source b here told bound none stays s is answer = by_pass (is_some c.session.pass) refl
@@ -83,23 +83,19 @@ sent_ends tells live old new c status (Err faults.Spent) low source b here told 
     by_pass : (pass : Bool) → is_some c.session.pass ≡ pass → IsWhole c status
     by_pass true has = inr (inr (inl (answer, has)))
     by_pass false has =
-        let a = s.sent.sent.sends in
-        absurd (not_far c a.to.work.history a.to.sent b a.to.octets low bound
-        (far_at_end (setup_sent c) a.end _ a.to a.sends (no_sealer s.sent.sent.sealer (s.sent.sent.fresh.paired ∙ has)) is)
-        (as_many c.stream.nulls c.stream.first (reverse a.to.sent) (sent_packets (sendings_of a.to.work.history)) (sent_as_packets (setup_sent c) a.end _ a.to a.sends tt))
-        (subst (λ end. Gives end b a.to.octets a.to.sent) is (a.sends.gives b (ap tells.remaining (same_here s.source source (sym s.took ∙ here)) ∙ told))))
+        absurd (not_far c s.to.work.history s.to.sent b s.to.octets low bound
+        (far_at_end (setup_sent c) s.end _ s.to s.sends (no_sealer s.sealer (s.fresh.paired ∙ has)) is)
+        (as_many c.stream.nulls c.stream.first (reverse s.to.sent) (sent_packets (sendings_of s.to.work.history)) (sent_as_packets (setup_sent c) s.end _ s.to s.sends tt))
+        (subst (λ end. Gives end b s.to.octets s.to.sent) is (s.sends.gives b (ap tells.remaining (same_here s.source source (sym s.took ∙ here)) ∙ told))))
 sent_ends tells live old new c status (Err faults.ReadFault) low source b here told bound none stays s is answer =
     absurd (none.reads s.source s.spent s.took s.gave (subst (λ x. HasReadCause (fault_of x) (tells.read_faults s.source) (tells.read_faults s.spent)) answer s.read))
 sent_ends tells live old new c status (Err faults.TooLong) low source b here told bound none stays s is answer =
-    let a = s.sent.sent.sends in
-    absurd (not_long b a.to.octets a.to.sent bound
-    (subst (λ end. Gives end b a.to.octets a.to.sent) is (a.sends.gives b (ap tells.remaining (same_here s.source source (sym s.took ∙ here)) ∙ told))))
+    absurd (not_long b s.to.octets s.to.sent bound
+    (subst (λ end. Gives end b s.to.octets s.to.sent) is (s.sends.gives b (ap tells.remaining (same_here s.source source (sym s.took ∙ here)) ∙ told))))
 sent_ends tells live old new c status (Err faults.LinksDown) low source b here told bound none stays s is answer =
-    let o = s.sent in
-    let a = o.sent.sends in
-    let less : stays.place < length o.was = subst (λ n. stays.place < n) (sym o.count) stays.among in
-    absurd (not_up live.line old.links new.links o.was o.is stays.place less (λ d. o.took stays.place d less) (λ d. o.gave stays.place d less)
-    (λ d. down_rose live.line c.stream.flow (session_sent c) a.to.work.history o.was o.is stays.place d less (down_at_end (setup_sent c) a.end _ a.to a.sends is stays.place stays.among) a.given)
+    let less : stays.place < length s.links_were = subst (λ n. stays.place < n) (sym s.link_count) stays.among in
+    absurd (not_up live.line old.links new.links s.links_were s.links_are stays.place less (λ d. s.links.took stays.place d less) (λ d. s.links.gave stays.place d less)
+    (λ d. down_rose live.line c.stream.flow (session_sent c) s.to.work.history s.links_were s.links_are stays.place d less (down_at_end (setup_sent c) s.end _ s.to s.sends is stays.place stays.among) s.given)
     stays.up)
 
 refused_ends : (c : SendCommand) (s : Status) → (s ≡ statuses.OpenFault → ⊥) → (s ≡ statuses.EntropyFault → ⊥) → CanRefuse s → IsWhole c s
@@ -116,4 +112,4 @@ sent_completes tells live old new c status low opened words sent source b here t
     by_refusal (inl refused) = refused_ends c status opened (λ e. none.words (words e)) refused
     by_refusal (inr ran) =
         let s = sent ran in
-        sent_ends tells live old new c status s.sent.sent.sends.end low source b here told bound none stays s refl s.sent.sent.sends.answer
+        sent_ends tells live old new c status s.end low source b here told bound none stays s refl s.answer

@@ -1,38 +1,36 @@
 -- What a gateway leaves of its host, and what it answers.
-use Rattle.std.specs.Prelude.{◌≡◌, ℕ, List, Bool}
-use Rattle.std.specs.declared.string.String.{String}
+use Rattle.std.specs.Prelude.{◌≡◌, ℕ, Bool}
 use Rattle.outside_io.specs.Causes.{Rose}
 use Rattle.outside_host.specs.Shelf.{Shelf}
+use Rattle.rist_words.specs.CommandLine.{GateCommand}
 use Rattle.rist_top.specs.Causes.{CanRefuse}
 use Rattle.rist_top.specs.Complete.{CompletesGating}
 use Rattle.rist_top.specs.Frame.{KeepsAroundGate, links_gated}
 use Rattle.rist_top.specs.Gated.{Gated, Ungated}
 use Rattle.rist_top.specs.Reached.{GatesReached}
-use Rattle.rist_top.specs.Lines.{IfGate}
 use Rattle.rist_top.specs.Objects.{Tells}
 use Rattle.rist_top.specs.Sealing.{FailedAt}
 use Rattle.rist_top.specs.Sent.{IsUnused, TellsLive}
 use Rattle.rist_top.specs.declared.status.Status.{Status}
 use Rattle.rist_top.specs.declared.status.Status.TheVariants as statuses
 
--- What a gateway did to an unused host that tells, whose count of failed calls stood so before and after.
-pub record DoesGate {A I O E L C : Type 0} (told : Bool) (tells : Tells I O E) (live : TellsLive L C)
-    (words : List (String A)) (faults_were faults_are : ℕ) (old new : Shelf I O E L C) (status : Status) : Type 0 where
+-- what a gateway did to an unused host that tells, whose count of failed calls stood so before and after
+pub record DoesGate {I O E L C : Type 0} (told : Bool) (tells : Tells I O E) (live : TellsLive L C) (c : GateCommand)
+    (faults_were faults_are : ℕ) (old new : Shelf I O E L C) (status : Status) : Type 0 where
   -- what comes on its first links goes on over the others, links and clocks come back, and the receiver's counts reach
   -- the host; or no link was read or written
-  pub gated : IsUnused told old → (CanRefuse status → ⊥) → IfGate words (λ c. Gated tells live old new c status)
-  pub ungated : IsUnused told old → CanRefuse status → IfGate words (λ c. Ungated old new)
+  pub gated : IsUnused told old → (CanRefuse status → ⊥) → Gated tells live old new c status
+  pub ungated : IsUnused told old → CanRefuse status → Ungated old new
   -- what its first links brought is one history, and where that is a run of copies of what was sent, what went on is
   -- what was reached
-  pub reached : IsUnused told old → status ≡ statuses.Done
-      → IfGate words (λ c. GatesReached tells live old new c status)
-  -- the run touches only what its line speaks of
-  pub around : IsUnused told old → IfGate words (λ c. KeepsAroundGate old new c)
+  pub reached : IsUnused told old → status ≡ statuses.Done → GatesReached tells live old new c status
+  -- it touches only what its line speaks of
+  pub around : IsUnused told old → KeepsAroundGate old new c
   -- just the links of the line are opened, in its order
-  pub links_opened : IsUnused told old → (CanRefuse status → ⊥) → IfGate words (λ c. new.opened_links ≡ links_gated c)
+  pub links_opened : IsUnused told old → (CanRefuse status → ⊥) → new.opened_links ≡ links_gated c
   -- random words fail it only where those of the first place failed
-  pub random : IsUnused told old → status ≡ statuses.EntropyFault → IfGate words (λ c. FailedAt tells old new)
+  pub random : IsUnused told old → status ≡ statuses.EntropyFault → FailedAt tells old new
   -- where no call fails and one link of each end doesn't, it is done, unless pairs are spent or its kept steps have no
   -- room or differ
   pub complete : IsUnused told old → (Rose faults_were faults_are → ⊥)
-      → IfGate words (λ c. CompletesGating tells live.line old new c status)
+      → CompletesGating tells live.line old new c status

@@ -1,4 +1,7 @@
 -- What private contracts cite.
-pub mod Answers
-pub mod Heard
 pub mod Splitting
+pub mod Answers
+pub mod HandedOut
+pub mod Sending
+pub mod Receiving
+pub mod Gating

@@ -19,10 +19,12 @@ pub mod Untouched
 pub mod Exact
 pub mod Complete
 pub mod Splits
-pub mod Does
-pub mod DoesGate
 pub mod Printing
-pub mod DoesDrill
-pub mod DoesSplit
 pub mod DoesAsk
+pub mod DoesFiles
+pub mod DoesSplit
+pub mod DoesSend
+pub mod DoesReceive
+pub mod DoesGate
+pub mod DoesDrill
 pub mod Inside

@@ -74,8 +74,8 @@ abbrev pub IfSplit : {A : Type 0} → List (String A) → (SplitCommand → Type
 IfSplit words P = (c : SplitCommand) → IsLine words (Split c) → P c
 
 -- P holds of the sending that they are, if they are one
-abbrev pub IfSending : {A : Type 0} → List (String A) → (SendCommand → Type 0) → Type 0
-IfSending words P = (c : SendCommand) → IsLine words (Send c) → P c
+abbrev pub IfSend : {A : Type 0} → List (String A) → (SendCommand → Type 0) → Type 0
+IfSend words P = (c : SendCommand) → IsLine words (Send c) → P c
 
 -- P holds of the receiving that they are, if they are one
 abbrev pub IfReceiving : {A : Type 0} → List (String A) → (RecvCommand → Type 0) → Type 0

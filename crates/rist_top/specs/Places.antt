@@ -1,5 +1,5 @@
 -- What became of an object of a host.
-use Rattle.std.specs.Prelude.{◌≡◌, ◌⊎◌}
+use Rattle.std.specs.Prelude.{◌≡◌, ◌⊎◌, ◌<◌, ℕ, List, length, slice_index_or}
 use Rattle.outside_host.specs.Shelf.{Shelf}
 use Rattle.outside_host.specs.declared.host.Place.{Place}
 use Rattle.outside_host.specs.declared.host.Place.TheVariants.{Here, Back}
@@ -11,6 +11,11 @@ CameBack {X} old new = (new ≡ old) ⊎ ((x : X) × (y : X) × (old ≡ Here x)
 -- an object stands as it stood, or was handed out and came back as it was
 abbrev pub IsAsItWas : {X : Type 0} → Place X → Place X → Type 0
 IsAsItWas {X} old new = (new ≡ old) ⊎ ((object : X) × (old ≡ Here object) × (new ≡ Back object))
+
+-- objects were handed out from the first places, in order, and came back there
+pub record FromTheFirst {X : Type 0} (old new : ℕ → Place X) (were are : List X) : Type 0 where
+  pub took : (place : ℕ) (d : X) → place < length were → old place ≡ Here (slice_index_or were place d)
+  pub gave : (place : ℕ) (d : X) → place < length were → new place ≡ Back (slice_index_or are place d)
 
 -- no link and no clock was handed out or came back, and no receiver's counts came
 pub record KeepsLive {I O E L C : Type 0} (old new : Shelf I O E L C) : Type 0 where

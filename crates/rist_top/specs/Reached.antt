@@ -41,7 +41,7 @@ gate_limits c = limits_of (settings_with c.receiver)
 abbrev pub octets_sent : {I O E L C : Type 0} {tells : Tells I O E} {live : TellsLive L C}
     {old new : Shelf I O E L C} {c : GateCommand} {status : Status}
     → Gated tells live old new c status → List ℕ
-octets_sent gated = gated.gated.gates.run.last.passed.sent
+octets_sent gated = gated.run.last.passed.sent
 
 -- Steps, the oldest first, are those of a link: of what so many turns bring in, at each the datagram that the link
 -- gave at the clock's moment and a tick where one is due, the first ones, each once and in their order, but for what

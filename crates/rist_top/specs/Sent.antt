@@ -1,5 +1,5 @@
 -- What a sending leaves of the objects of its host.
-use Rattle.std.specs.Prelude.{◌≡◌, ◌<◌, ℕ, List, [], length, map, slice_index_or, false, Option, IfSome, Bool, IsTrue}
+use Rattle.std.specs.Prelude.{◌≡◌, ℕ, List, [], length, map, false, Option, IfSome, Bool, IsTrue}
 use Rattle.std.specs.Prelude.{Result, Ok, Err}
 use Rattle.outside_io.specs.Causes.{HasReadCause}
 use Rattle.outside_host.specs.Shelf.{Shelf}
@@ -17,7 +17,7 @@ use Rattle.rist_send.specs.declared.fault.SendFault.TheVariants as faults
 use Rattle.rist_words.specs.CommandLine.{SendCommand}
 use Rattle.rist_top.specs.Causes.{fault_of}
 use Rattle.rist_top.specs.Objects.{Tells}
-use Rattle.rist_top.specs.Places.{IsAsItWas}
+use Rattle.rist_top.specs.Places.{FromTheFirst, IsAsItWas}
 use Rattle.rist_top.specs.Sealing.{DrawnFirst}
 use Rattle.rist_top.specs.Sessions.{session_sent, setup_sent}
 use Rattle.rist_top.specs.Works.{IsFreshFor}
@@ -53,53 +53,51 @@ pub record IsUnused {I O E L C : Type 0} (tells : Bool) (shelf : Shelf I O E L C
 abbrev pub no_work : Option SealerState → Work
 no_work sealer = record { history = []; sealer = sealer; is_short = false }
 
--- a source was sent onto links under a sealer, where there is one, and it ended so: clock, source and links have given
--- just what the run took, and each link was given just the datagrams that the sender made for it
-pub record SendsAs {L : Type 0} (line : LinkTells L) (c : SendCommand) (sealer : Option SealerState) (had has : Outside)
-    (was is : List L) (status : Status) : Type 0 where
-  pub end : Result Unit SendFault
-  pub answer : status ≡ send_status end
-  pub to : Run
-  pub sends : SendsSource (setup_sent c) end (new_run (no_work sealer) had) to
-  pub moments : to.moments ≡ has.moments
-  pub octets : to.octets ≡ has.octets
-  pub answers : to.answers ≡ has.answers
-  pub given : AreServed line c.stream.flow (session_sent c) [] to.work.history was is
+-- what a clock, a source and links of a host have still to give
+abbrev pub outside_of : {I O E L C : Type 0} → Tells I O E → TellsLive L C → C → I → List L → Outside
+outside_of tells live clock source links = record {
+  moments = live.moments clock;
+  octets = tells.remaining source;
+  answers = map live.line.reads links;
+}
 
--- the next clock and, under a passphrase, random words were handed out, a source was sent so, and both came back
-pub record SentByClock {I O E L C : Type 0} (tells : Tells I O E) (live : TellsLive L C) (old new : Shelf I O E L C)
-    (c : SendCommand) (source spent : I) (was is : List L) (status : Status) : Type 0 where
-  pub clock : C
-  pub later : C
-  pub sealer : Option SealerState
-  pub took : old.clocks 0 ≡ Here clock
-  pub gave : new.clocks 0 ≡ Back later
-  pub fresh : IsFreshFor c.session sealer
-  pub drawn : IfSome sealer (DrawnFirst tells old.entropies new.entropies)
-  pub sends : SendsAs live.line c sealer
-      (record { moments = live.moments clock; octets = tells.remaining source; answers = map live.line.reads was })
-      (record { moments = live.moments later; octets = tells.remaining spent; answers = map live.line.reads is }) was is
-      status
+-- what a run has left of them
+abbrev pub outside_left : Run → Outside
+outside_left run = record { moments = run.moments; octets = run.octets; answers = run.answers }
 
--- the links of a line were handed out from the first places, in order, a source was sent on them, and they came back
-pub record SentOnLinks {I O E L C : Type 0} (tells : Tells I O E) (live : TellsLive L C) (old new : Shelf I O E L C)
-    (c : SendCommand) (source spent : I) (status : Status) : Type 0 where
-  pub was : List L
-  pub is : List L
-  pub count : length was ≡ length c.links
-  pub took : (place : ℕ) (d : L) → place < length was → old.links place ≡ Here (slice_index_or was place d)
-  pub gave : (place : ℕ) (d : L) → place < length was → new.links place ≡ Back (slice_index_or is place d)
-  pub sent : SentByClock tells live old new c source spent was is status
-
--- a line's source was sent
+-- a sending of a line ran
 pub record Sent {I O E L C : Type 0} (tells : Tells I O E) (live : TellsLive L C) (old new : Shelf I O E L C)
     (c : SendCommand) (status : Status) : Type 0 where
+  -- its source was handed out and came back, and its count rose exactly at ReadFault
   pub source : I
   pub spent : I
   pub took : old.sources c.source ≡ Here source
   pub gave : new.sources c.source ≡ Back spent
-  pub sent : SentOnLinks tells live old new c source spent status
   pub read : HasReadCause (fault_of status) (tells.read_faults source) (tells.read_faults spent)
+  -- likewise its links, in the line's order
+  pub links_were : List L
+  pub links_are : List L
+  pub link_count : length links_were ≡ length c.links
+  pub links : FromTheFirst old.links new.links links_were links_are
+  -- and the first clock
+  pub clock : C
+  pub later : C
+  pub took_clock : old.clocks 0 ≡ Here clock
+  pub gave_clock : new.clocks 0 ≡ Back later
+  -- under a passphrase there is a sealer, of which the nonces are drawn from the first random words
+  pub sealer : Option SealerState
+  pub fresh : IsFreshFor c.session sealer
+  pub drawn : IfSome sealer (DrawnFirst tells old.entropies new.entropies)
+  -- the status says how it ended
+  pub end : Result Unit SendFault
+  pub answer : status ≡ send_status end
+  -- the source was sent onto the links: clock, source and links have given just what the run took
+  pub to : Run
+  pub sends : SendsSource (setup_sent c) end (new_run (no_work sealer) (outside_of tells live clock source links_were))
+      to
+  pub left : outside_left to ≡ outside_of tells live later spent links_are
+  -- and each link was given just the datagrams that the sender made for it
+  pub given : AreServed live.line c.stream.flow (session_sent c) [] to.work.history links_were links_are
 
 -- a sending didn't begin: its source, its links and its clock stand as they stood, or came back as they were
 pub record Unsent {I O E L C : Type 0} (old new : Shelf I O E L C) (c : SendCommand) : Type 0 where

@@ -6,7 +6,7 @@ ghost use Rattle.outside_host.specs.Shelf.{ChangesSinks, Stays};
 ghost use Rattle.rist_words.specs.Shown.{shown_drill};
 ghost use Rattle.rist_words.specs.Ranges.{IsInDrill};
 ghost use Rattle.rist_top.specs.Causes.{CanRefuse, fault_of};
-ghost use Rattle.rist_top.specs.DoesDrill.{IsSummary, script_of};
+ghost use Rattle.rist_top.specs.DoesDrill.{DoesDrill, IsSummary, script_of};
 ghost use Rattle.rist_top.specs.Printing.{IsPrintEnd, Prints};
 
 use crate::status::Status;
@@ -44,8 +44,8 @@ fn put_text<K: Sink>(sink: &mut K, text: &[u8]) -> Status
     }
 }
 
-/// Does the line of a simulated run.
-pub fn drill_line<H: Host>(alloc: Global, host: &mut H, line: &DrillLine) -> Status
+// Writes the summary of a line's run. Each clause says a part of what that leaves.
+fn write_summary<H: Host>(alloc: Global, host: &mut H, line: &DrillLine) -> Status
     requires range { IsInDrill (shown_drill line.now) }
     ensures ends { IsPrintEnd result }
     ensures opened { HasOpenCause (fault_of result) (H.faults host.old) (H.faults host.new) }
@@ -68,4 +68,15 @@ pub fn drill_line<H: Host>(alloc: Global, host: &mut H, line: &DrillLine) -> Sta
     let status = put_text(&mut sink, &text[..length]);
     host.back_sink("-", sink);
     status
+}
+
+/// Does the line of a simulated run.
+pub fn drill_line<H: Host>(alloc: Global, host: &mut H, line: &DrillLine) -> Status
+    requires range { IsInDrill (shown_drill line.now) }
+    ensures does { DoesDrill H.tells ⟦<H as Telling>⟧.objects (shown_drill line.now)
+        (H.faults host.old) (H.faults host.new) (H.shelf host.old) (H.shelf host.new) result }
+    ensures line { result ≢ Status.Usage }
+    ensures opened { HasOpenCause (fault_of result) (H.faults host.old) (H.faults host.new) }
+{
+    write_summary(alloc, host, line)
 }

@@ -11,10 +11,11 @@ ghost use Rattle.rist_top.specs.Sealing.{FailedAt};
 ghost use Rattle.rist_top.specs.Sessions.{bonding_with, sender_gated, setup_gated};
 ghost use Rattle.rist_top.specs.Works.{IsFreshFor};
 ghost use Rattle.rist_top.specs.Sent.{IsUnused, live_of};
-ghost use Rattle.rist_top.specs.Gated.{GatedByClocks, Gated, GatesAs, Ungated};
+ghost use Rattle.rist_top.specs.Gated.{Gated, Ungated};
+ghost use Rattle.rist_top.specs.DoesGate.{DoesGate};
 ghost use Rattle.rist_top.specs.Frame.{KeepsAroundGate, KeepsLinksBut, KeepsWords, gate_draws, links_gated};
 ghost use Rattle.rist_top.specs.Inside.Answers.{KeepsButTiming};
-ghost use Rattle.rist_top.specs.Inside.Heard.{Passes};
+ghost use Rattle.rist_top.specs.Inside.Gating.{GatesAs, Passes, PassesByClocks};
 
 use crate::reporting::report;
 use crate::sealing::{Sealers, sealers_for};
@@ -254,8 +255,8 @@ fn gate_by_clocks<R: Threads + Wait + Sync, H: Host>(
     requires range { IsInGate (shown_gate line.now) }
     requires count { length links.old.items ≡ length line.now.inputs.items + length line.now.outputs.items }
     ensures gated { IsTrue H.tells → (H.shelf host.old).next_clock ≡ 0 → (H.shelf host.old).next_entropy ≡ 0
-        → (CanRefuse result → ⊥) → GatedByClocks ⟦<H as Telling>⟧.objects ⟦<H as Telling>⟧.live
-        (H.shelf host.old) (H.shelf host.new) (shown_gate line.now) links.old.items links.new.items result }
+        → (CanRefuse result → ⊥) → PassesByClocks ⟦<H as Telling>⟧.objects ⟦<H as Telling>⟧.live
+        (H.shelf host.old) (H.shelf host.new) (shown_gate line.now) result links.old.items links.new.items }
     ensures ungated { CanRefuse result → links.new.items ≡ links.old.items }
     ensures clocks { IsTrue H.tells → (H.shelf host.old).next_clock ≡ 0 → CanRefuse result
         → AreAsTheyWere (H.shelf host.old).clocks (H.shelf host.new).clocks }
@@ -284,8 +285,8 @@ fn gate_by_clocks<R: Threads + Wait + Sync, H: Host>(
     status
 }
 
-/// Does the line of a gateway.
-pub fn gate_line<R: Threads + Wait + Sync, H: Host>(
+// Runs on the links of a line. Each clause says a part of what that leaves.
+fn gate_on_links<R: Threads + Wait + Sync, H: Host>(
     rt: &R,
     alloc: Global,
     host: &mut H,
@@ -320,4 +321,20 @@ pub fn gate_line<R: Threads + Wait + Sync, H: Host>(
     let status = gate_by_clocks(rt, alloc, host, line, &mut links);
     back_links(host, links);
     status
+}
+
+/// Does the line of a gateway.
+pub fn gate_line<R: Threads + Wait + Sync, H: Host>(
+    rt: &R,
+    alloc: Global,
+    host: &mut H,
+    line: &GateLine<'_>,
+) -> Status
+    requires range { IsInGate (shown_gate line.now) }
+    ensures does { DoesGate H.tells ⟦<H as Telling>⟧.objects ⟦<H as Telling>⟧.live (shown_gate line.now)
+        (H.faults host.old) (H.faults host.new) (H.shelf host.old) (H.shelf host.new) result }
+    ensures line { result ≢ Status.Usage }
+    ensures opened { HasOpenCause (fault_of result) (H.faults host.old) (H.faults host.new) }
+{
+    gate_on_links(rt, alloc, host, line)
 }

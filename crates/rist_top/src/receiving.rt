@@ -1,5 +1,5 @@
 //! A receiving, from its objects to its status.
-ghost use Rattle.std.specs.Prelude.{◌≡◌, ◌≢◌, ◌<◌, ◌≤◌, ◌⊎◌, IsTrue, IfOk, OnErr, length, is_some};
+ghost use Rattle.std.specs.Prelude.{◌≡◌, ◌≢◌, ◌<◌, IsTrue, IfOk, OnErr, length, is_some};
 ghost use Rattle.outside_io.specs.Causes.{HasOpenCause};
 ghost use Rattle.outside_io.specs.Told.{IsEmpty};
 ghost use Rattle.outside_host.specs.Shelf.{ChangesReport};
@@ -8,14 +8,13 @@ ghost use Rattle.rist_words.specs.Shown.{shown_recv};
 ghost use Rattle.rist_words.specs.Ranges.{IsInRecv};
 ghost use Rattle.rist_top.specs.Causes.{CanRefuse, fault_of};
 ghost use Rattle.rist_top.specs.Sealing.{FailedAt};
-ghost use Rattle.rist_top.specs.Sessions.{limits_received, setup_received};
 ghost use Rattle.rist_top.specs.Works.{IsFreshFor};
 ghost use Rattle.rist_top.specs.Sent.{IsUnused, live_of};
-ghost use Rattle.rist_top.specs.Received.{ReceivedByClocks, ReceivedOnLinks, Received};
-ghost use Rattle.rist_top.specs.Received.{ReceivesAs, Unreceived};
+ghost use Rattle.rist_top.specs.Received.{Received, Unreceived};
+ghost use Rattle.rist_top.specs.DoesReceive.{DoesReceive};
 ghost use Rattle.rist_top.specs.Frame.{KeepsAroundSink, KeepsLinksBut, KeepsWords, OpensLinksAfterSink, links_received};
 ghost use Rattle.rist_top.specs.Inside.Answers.{KeepsButTiming, KeepsFiles};
-ghost use Rattle.rist_top.specs.Inside.Heard.{Hears};
+ghost use Rattle.rist_top.specs.Inside.Receiving.{Hears, HearsByClocks, HearsOnLinks, ReceivesAs};
 
 use crate::reporting::report;
 use crate::sealing::sealer_for;
@@ -258,9 +257,9 @@ fn receive_by_clocks<R: Threads + Wait + Sync, H: Host>(
     requires count { length links.old.items ≡ length line.now.links.items }
     requires empty { IsEmpty (H.Output.contents sink) }
     ensures received { IsTrue H.tells → (H.shelf host.old).next_clock ≡ 0 → (H.shelf host.old).next_entropy ≡ 0
-        → (CanRefuse result.1 → ⊥) → ReceivedByClocks ⟦<H as Telling>⟧.objects ⟦<H as Telling>⟧.live
-        (H.shelf host.old) (H.shelf host.new) (shown_recv line.now)
-        links.old.items links.new.items sink result.0 result.1 }
+        → (CanRefuse result.1 → ⊥) → HearsByClocks ⟦<H as Telling>⟧.objects ⟦<H as Telling>⟧.live
+        (H.shelf host.old) (H.shelf host.new) (shown_recv line.now) sink result.0 result.1
+        links.old.items links.new.items }
     ensures unreceived { CanRefuse result.1 → (links.new ≡ links.old) × (result.0 ≡ sink) }
     ensures clocks { IsTrue H.tells → (H.shelf host.old).next_clock ≡ 0 → CanRefuse result.1
         → AreAsTheyWere (H.shelf host.old).clocks (H.shelf host.new).clocks }
@@ -299,7 +298,7 @@ fn receive_on_links<R: Threads + Wait + Sync, H: Host>(
     requires range { IsInRecv (shown_recv line.now) }
     requires empty { IsEmpty (H.Output.contents sink) }
     ensures received { IsUnused H.tells (H.shelf host.old) → (CanRefuse result.1 → ⊥)
-        → ReceivedOnLinks ⟦<H as Telling>⟧.objects ⟦<H as Telling>⟧.live
+        → HearsOnLinks ⟦<H as Telling>⟧.objects ⟦<H as Telling>⟧.live
         (H.shelf host.old) (H.shelf host.new) (shown_recv line.now) sink result.0 result.1 }
     ensures unreceived { CanRefuse result.1 → result.0 ≡ sink }
     ensures others { IsTrue H.tells → KeepsFiles (H.shelf host.old) (H.shelf host.new) }
@@ -336,8 +335,8 @@ fn receive_on_links<R: Threads + Wait + Sync, H: Host>(
     (sink, status)
 }
 
-/// Does the line of a receiving.
-pub fn receive_line<R: Threads + Wait + Sync, H: Host>(
+// Receives on the links of a line into its sink. Each clause says a part of what that leaves.
+fn receive_into_sink<R: Threads + Wait + Sync, H: Host>(
     rt: &R,
     alloc: Global,
     host: &mut H,
@@ -367,4 +366,20 @@ pub fn receive_line<R: Threads + Wait + Sync, H: Host>(
     let (sink, status) = receive_on_links(rt, alloc, host, line, sink);
     host.back_sink(line.out, sink);
     status
+}
+
+/// Does the line of a receiving.
+pub fn receive_line<R: Threads + Wait + Sync, H: Host>(
+    rt: &R,
+    alloc: Global,
+    host: &mut H,
+    line: &RecvLine<'_>,
+) -> Status
+    requires range { IsInRecv (shown_recv line.now) }
+    ensures does { DoesReceive H.tells ⟦<H as Telling>⟧.objects ⟦<H as Telling>⟧.live (shown_recv line.now)
+        (H.faults host.old) (H.faults host.new) (H.shelf host.old) (H.shelf host.new) result }
+    ensures line { result ≢ Status.Usage }
+    ensures opened { HasOpenCause (fault_of result) (H.faults host.old) (H.faults host.new) }
+{
+    receive_into_sink(rt, alloc, host, line)
 }

@@ -1,7 +1,6 @@
 //! A sending, from its objects to its status.
 ghost use Rattle.std.specs.Prelude.{◌*◌, ◌≡◌, ◌≢◌, IsTrue, length, map, is_some};
 ghost use Rattle.outside_io.specs.Causes.{HasOpenCause, HasReadCause};
-ghost use Rattle.outside_host.specs.Shelf.{Stays};
 ghost use Rattle.outside_host.specs.Links.{AreAsTheyWere};
 ghost use Rattle.rist_words.specs.Shown.{shown_send};
 ghost use Rattle.rist_words.specs.Ranges.{IsInSend};
@@ -12,7 +11,9 @@ ghost use Rattle.rist_top.specs.Sessions.{bonding_with};
 ghost use Rattle.rist_top.specs.Works.{IsFreshFor};
 ghost use Rattle.rist_top.specs.Frame.{KeepsAround, KeepsLinksBut, KeepsTimes, OpensLinksAfter, links_opened};
 ghost use Rattle.rist_top.specs.Inside.Answers.{KeepsButTiming, KeepsFiles};
-ghost use Rattle.rist_top.specs.Sent.{IsUnused, SendsAs, SentByClock, SentOnLinks, Sent, Unsent};
+ghost use Rattle.rist_top.specs.Inside.Sending.{SendsAs, SendsByClock, SendsOnLinks};
+ghost use Rattle.rist_top.specs.Sent.{IsUnused, Sent, Unsent};
+ghost use Rattle.rist_top.specs.DoesSend.{DoesSend};
 
 use crate::sealing::sealer_for;
 use crate::sessions::session_of;
@@ -117,9 +118,9 @@ fn send_by_clock<H: Host>(
     requires range { IsInSend (shown_send line.now) }
     requires count { length links.old ≡ length line.now.links.items }
     ensures sent { IsTrue H.tells → (H.shelf host.old).next_clock ≡ 0 → (H.shelf host.old).next_entropy ≡ 0
-        → (CanRefuse result → ⊥) → SentByClock ⟦<H as Telling>⟧.objects ⟦<H as Telling>⟧.live
+        → (CanRefuse result → ⊥) → SendsByClock ⟦<H as Telling>⟧.objects ⟦<H as Telling>⟧.live
         (H.shelf host.old) (H.shelf host.new) (shown_send line.now)
-        source.old source.new links.old links.new result }
+        source.old source.new result links.old links.new }
     ensures unsent { CanRefuse result → (source.new ≡ source.old) × (links.new ≡ links.old) }
     ensures clock { IsTrue H.tells → (H.shelf host.old).next_clock ≡ 0 → CanRefuse result
         → IsAsItWas ((H.shelf host.old).clocks 0) ((H.shelf host.new).clocks 0) }
@@ -154,7 +155,7 @@ fn send_on_links<H: Host>(
 ) -> Status
     requires range { IsInSend (shown_send line.now) }
     ensures sent { IsUnused H.tells (H.shelf host.old)
-        → (CanRefuse result → ⊥) → SentOnLinks ⟦<H as Telling>⟧.objects ⟦<H as Telling>⟧.live
+        → (CanRefuse result → ⊥) → SendsOnLinks ⟦<H as Telling>⟧.objects ⟦<H as Telling>⟧.live
         (H.shelf host.old) (H.shelf host.new) (shown_send line.now) source.old source.new result }
     ensures unsent { CanRefuse result → source.new ≡ source.old }
     ensures others { IsTrue H.tells → KeepsFiles (H.shelf host.old) (H.shelf host.new) }
@@ -189,8 +190,8 @@ fn send_on_links<H: Host>(
     status
 }
 
-/// Does the line of a sending.
-pub fn send_line<H: Host>(alloc: Global, host: &mut H, line: &SendLine<'_>) -> Status
+// Sends the source of a line. Each clause says a part of what that leaves.
+fn send_from_source<H: Host>(alloc: Global, host: &mut H, line: &SendLine<'_>) -> Status
     requires range { IsInSend (shown_send line.now) }
     ensures sent { IsUnused H.tells (H.shelf host.old)
         → (CanRefuse result → ⊥) → Sent ⟦<H as Telling>⟧.objects ⟦<H as Telling>⟧.live
@@ -215,4 +216,15 @@ pub fn send_line<H: Host>(alloc: Global, host: &mut H, line: &SendLine<'_>) -> S
     let status = send_on_links(alloc, host, line, &mut source);
     host.back_source(line.source, source);
     status
+}
+
+/// Does the line of a sending.
+pub fn send_line<H: Host>(alloc: Global, host: &mut H, line: &SendLine<'_>) -> Status
+    requires range { IsInSend (shown_send line.now) }
+    ensures does { DoesSend H.tells ⟦<H as Telling>⟧.objects ⟦<H as Telling>⟧.live (shown_send line.now)
+        (H.faults host.old) (H.faults host.new) (H.shelf host.old) (H.shelf host.new) result }
+    ensures line { result ≢ Status.Usage }
+    ensures opened { HasOpenCause (fault_of result) (H.faults host.old) (H.faults host.new) }
+{
+    send_from_source(alloc, host, line)
 }

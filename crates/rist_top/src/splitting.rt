@@ -5,7 +5,7 @@ ghost use Rattle.rist_split.specs.Outputs.{IsMade};
 ghost use Rattle.rist_words.specs.Shown.{shown_split};
 ghost use Rattle.rist_words.specs.Ranges.{IsInSplit};
 ghost use Rattle.rist_top.specs.Causes.{CanRefuse, fault_of};
-ghost use Rattle.rist_top.specs.DoesSplit.{IsSplitEnd, KeepsAroundSplit, OpensInOrder};
+ghost use Rattle.rist_top.specs.DoesSplit.{DoesSplit, IsSplitEnd, KeepsAroundSplit, OpensInOrder};
 ghost use Rattle.rist_top.specs.Sessions.{session_read, split_limits};
 ghost use Rattle.rist_top.specs.Splits.{Splits, Unsplit};
 ghost use Rattle.rist_top.specs.Works.{form_of};
@@ -115,8 +115,8 @@ fn split_over<S: Source, K: Sink + Drop>(
     }
 }
 
-/// Does the line of a split.
-pub fn split_line<H: Host>(alloc: Global, host: &mut H, line: &SplitLine<'_>) -> Status
+// Splits the capture of a line. Each clause says a part of what that leaves.
+fn split_into_sinks<H: Host>(alloc: Global, host: &mut H, line: &SplitLine<'_>) -> Status
     requires range { IsInSplit (shown_split line.now) }
     ensures ends { IsSplitEnd result }
     ensures splits { IsTrue H.tells → (CanRefuse result → ⊥)
@@ -148,4 +148,15 @@ pub fn split_line<H: Host>(alloc: Global, host: &mut H, line: &SplitLine<'_>) ->
     host.back_source(line.capture, source);
     back_sinks(host, &line.names, sinks);
     status
+}
+
+/// Does the line of a split.
+pub fn split_line<H: Host>(alloc: Global, host: &mut H, line: &SplitLine<'_>) -> Status
+    requires range { IsInSplit (shown_split line.now) }
+    ensures does { DoesSplit H.tells ⟦<H as Telling>⟧.objects (shown_split line.now)
+        (H.faults host.old) (H.faults host.new) (H.shelf host.old) (H.shelf host.new) result }
+    ensures line { result ≢ Status.Usage }
+    ensures opened { HasOpenCause (fault_of result) (H.faults host.old) (H.faults host.new) }
+{
+    split_into_sinks(alloc, host, line)
 }

@@ -1,27 +1,22 @@
 //! The top call, and a line from its objects to its status.
 ghost use Rattle.std.specs.Prelude.{◌≡◌, ◌≢◌, ◌⊎◌, Err, IfOk, IsTrue};
-ghost use Rattle.outside_io.specs.Causes.{HasOpenCause, Rose};
-ghost use Rattle.rist_words.specs.CommandLine.{Drill, DrillCommand, Gate, GateCommand};
-ghost use Rattle.rist_words.specs.CommandLine.{Recv, RecvCommand, Send, SendCommand, Split, SplitCommand};
+ghost use Rattle.outside_io.specs.Causes.{HasOpenCause};
+ghost use Rattle.rist_words.specs.CommandLine.{Drill, DrillCommand, Gate, Recv, Send, SendCommand, Split, SplitCommand};
 ghost use Rattle.rist_words.specs.Shown.{shown, shown_gate, shown_recv};
 ghost use Rattle.rist_words.specs.Ranges.{IsInRange};
-ghost use Rattle.rist_top.specs.Causes.{CanRefuse, fault_of};
-ghost use Rattle.rist_top.specs.DoesAsk.{DoesAsk};
-ghost use Rattle.rist_top.specs.Lines.{AsksNothing, IfAsk, IfDrill, IfReceiving, IfSplit, IsFresh, IsLine};
-ghost use Rattle.rist_top.specs.Lines.{IsNoLine, IsNoPlainLine, IsOverFiles, IsPlain};
+ghost use Rattle.rist_top.specs.Causes.{fault_of};
+ghost use Rattle.rist_top.specs.Lines.{AsksNothing, IfAsk, IfDrill, IfFiles, IfGate, IfReceiving, IfSend, IfSplit};
+ghost use Rattle.rist_top.specs.Lines.{IsFresh, IsLine, IsNoLine, IsNoPlainLine, IsOverFiles, IsPlain};
 ghost use Rattle.rist_top.specs.Ran.{Ran, source_name, sink_name};
-ghost use Rattle.rist_top.specs.Frame.{KeepsAround, KeepsOthers, OpensLinksAfter, OpensSourceFirst, links_opened};
-ghost use Rattle.rist_top.specs.Frame.{KeepsAroundSink, OpensLinksAfterSink, links_received};
+ghost use Rattle.rist_top.specs.Frame.{KeepsOthers, OpensSourceFirst};
 ghost use Rattle.rist_top.specs.Untouched.{Untouched};
-ghost use Rattle.rist_top.specs.Sealing.{FailedAt};
-ghost use Rattle.rist_top.specs.Sent.{IsUnused, Sent, Unsent};
-ghost use Rattle.rist_top.specs.Received.{Received, Unreceived};
-ghost use Rattle.rist_top.specs.Reached.{IsPlayedOut, ReceivesReached};
-ghost use Rattle.rist_top.specs.Complete.{CompletesReceiving};
-ghost use Rattle.rist_top.specs.Does.{Does};
+ghost use Rattle.rist_top.specs.DoesAsk.{DoesAsk};
+ghost use Rattle.rist_top.specs.DoesFiles.{DoesFiles};
+ghost use Rattle.rist_top.specs.DoesSplit.{DoesSplit};
+ghost use Rattle.rist_top.specs.DoesSend.{DoesSend};
+ghost use Rattle.rist_top.specs.DoesReceive.{DoesReceive};
 ghost use Rattle.rist_top.specs.DoesGate.{DoesGate};
 ghost use Rattle.rist_top.specs.DoesDrill.{DoesDrill};
-ghost use Rattle.rist_top.specs.DoesSplit.{DoesSplit};
 
 use crate::asking::answer;
 use crate::drilling::drill_line;
@@ -63,53 +58,20 @@ pub fn run<R: Threads + Wait + Sync, H: Host>(
     ensures asks { IfAsk words.now (λ ask. DoesAsk H.tells ⟦<H as Telling>⟧.objects ask
         (H.faults host.old) (H.faults host.new) (H.shelf host.old) (H.shelf host.new) result) }
 
-    // What every command leaves that waits for nobody.
-    ensures does { Does H.tells ⟦<H as Telling>⟧.objects ⟦<H as Telling>⟧.live words.now
-        (H.faults host.old) (H.faults host.new) (H.shelf host.old) (H.shelf host.new) result }
-
-    // What a split leaves, and how it ends: each output as a replay at its port.
+    // What each command leaves, and how it ends.
+    ensures files { IfFiles words.now (λ c. DoesFiles H.tells ⟦<H as Telling>⟧.objects c
+        (H.faults host.old) (H.faults host.new) (H.shelf host.old) (H.shelf host.new) result) }
     ensures splits { IfSplit words.now (λ c. DoesSplit H.tells ⟦<H as Telling>⟧.objects c
         (H.faults host.old) (H.faults host.new) (H.shelf host.old) (H.shelf host.new) result) }
-
-    // What a simulated run leaves, and how it ends.
+    ensures sends { IfSend words.now (λ c. DoesSend H.tells ⟦<H as Telling>⟧.objects ⟦<H as Telling>⟧.live c
+        (H.faults host.old) (H.faults host.new) (H.shelf host.old) (H.shelf host.new) result) }
+    ensures receives { IfReceiving words.now (λ c. DoesReceive H.tells
+        ⟦<H as Telling>⟧.objects ⟦<H as Telling>⟧.live c
+        (H.faults host.old) (H.faults host.new) (H.shelf host.old) (H.shelf host.new) result) }
+    ensures gates { IfGate words.now (λ c. DoesGate H.tells ⟦<H as Telling>⟧.objects ⟦<H as Telling>⟧.live c
+        (H.faults host.old) (H.faults host.new) (H.shelf host.old) (H.shelf host.new) result) }
     ensures drills { IfDrill words.now (λ c. DoesDrill H.tells ⟦<H as Telling>⟧.objects c
         (H.faults host.old) (H.faults host.new) (H.shelf host.old) (H.shelf host.new) result) }
-
-    // What comes on the links of a receiving is played out to its sink, links and clocks come back, and the receiver's
-    // counts reach the host; or nothing was read and nothing written.
-    ensures received { IsUnused H.tells (H.shelf host.old) → (CanRefuse result → ⊥)
-        → IfReceiving words.now (λ c.
-        Received ⟦<H as Telling>⟧.objects ⟦<H as Telling>⟧.live (H.shelf host.old) (H.shelf host.new) c result) }
-    ensures unreceived { IsUnused H.tells (H.shelf host.old) → CanRefuse result
-        → IfReceiving words.now (λ c. Unreceived (H.shelf host.old) (H.shelf host.new) c) }
-
-    // What the links of a receiving brought is one history, each link's own in its order; and where that is a run of copies
-    // of what was sent, what came back under OUT is what was reached.
-    ensures reached { IsUnused H.tells (H.shelf host.old) → IsPlayedOut result
-        → IfReceiving words.now (λ c. ReceivesReached ⟦<H as Telling>⟧.objects ⟦<H as Telling>⟧.live
-        (H.shelf host.old) (H.shelf host.new) c) }
-
-    // A receiving, too, touches only what its line speaks of.
-    ensures around { IsUnused H.tells (H.shelf host.old)
-        → IfReceiving words.now (λ c. KeepsAroundSink (H.shelf host.old) (H.shelf host.new) c) }
-    // Just the links of the line are opened, in its order, and none before the sink could be.
-    ensures links_opened { IsUnused H.tells (H.shelf host.old) → (CanRefuse result → ⊥)
-        → IfReceiving words.now (λ c. (H.shelf host.new).opened_links ≡ links_received c) }
-    ensures links_after { IsTrue H.tells
-        → IfReceiving words.now (λ c. OpensLinksAfterSink (H.shelf host.old) (H.shelf host.new) c) }
-    ensures random { IsUnused H.tells (H.shelf host.old) → result ≡ Status.EntropyFault
-        → IfReceiving words.now (λ c.
-        FailedAt ⟦<H as Telling>⟧.objects (H.shelf host.old) (H.shelf host.new)) }
-
-    // Where no call fails and one link doesn't, a receiving is done, unless pairs are spent or its kept steps have no
-    // room or differ.
-    ensures heard { IsUnused H.tells (H.shelf host.old) → (Rose (H.faults host.old) (H.faults host.new) → ⊥)
-        → IfReceiving words.now (λ c. CompletesReceiving ⟦<H as Telling>⟧.objects ⟦<H as Telling>⟧.live.line
-        (H.shelf host.old) (H.shelf host.new) c result) }
-
-    // What a gateway leaves, and how it ends.
-    ensures gates { DoesGate H.tells ⟦<H as Telling>⟧.objects ⟦<H as Telling>⟧.live words.now
-        (H.faults host.old) (H.faults host.new) (H.shelf host.old) (H.shelf host.new) result }
 {
     match read_line(alloc, words) {
         Read::Receive(line) => receive_line(rt, alloc, host, &line),
@@ -165,9 +127,11 @@ pub fn plain<H: Host>(alloc: Global, words: &[String], host: &mut H) -> Status
         → H.shelf host.new ≡ H.shelf host.old }
     ensures asks { IfAsk words.now (λ ask. DoesAsk H.tells ⟦<H as Telling>⟧.objects ask
         (H.faults host.old) (H.faults host.new) (H.shelf host.old) (H.shelf host.new) result) }
-    ensures does { Does H.tells ⟦<H as Telling>⟧.objects ⟦<H as Telling>⟧.live words.now
-        (H.faults host.old) (H.faults host.new) (H.shelf host.old) (H.shelf host.new) result }
+    ensures files { IfFiles words.now (λ c. DoesFiles H.tells ⟦<H as Telling>⟧.objects c
+        (H.faults host.old) (H.faults host.new) (H.shelf host.old) (H.shelf host.new) result) }
     ensures splits { IfSplit words.now (λ c. DoesSplit H.tells ⟦<H as Telling>⟧.objects c
+        (H.faults host.old) (H.faults host.new) (H.shelf host.old) (H.shelf host.new) result) }
+    ensures sends { IfSend words.now (λ c. DoesSend H.tells ⟦<H as Telling>⟧.objects ⟦<H as Telling>⟧.live c
         (H.faults host.old) (H.faults host.new) (H.shelf host.old) (H.shelf host.new) result) }
     ensures drills { IfDrill words.now (λ c. DoesDrill H.tells ⟦<H as Telling>⟧.objects c
         (H.faults host.old) (H.faults host.new) (H.shelf host.old) (H.shelf host.new) result) }
@@ -197,39 +161,16 @@ fn run_line<H: Host>(alloc: Global, host: &mut H, line: &Line<'_>) -> Status
     requires plain { IsPlain (shown line.now) }
     ensures line { result ≢ Status.Usage }
     ensures opened { HasOpenCause (fault_of result) (H.faults host.old) (H.faults host.new) }
-    ensures others { IsFresh H.tells (H.shelf host.old) → IsOverFiles (shown line.now)
-        → KeepsOthers (H.shelf host.old) (H.shelf host.new) (shown line.now) }
-    ensures order { IsTrue H.tells → IsOverFiles (shown line.now)
-        → OpensSourceFirst (H.shelf host.old) (H.shelf host.new) (shown line.now) }
-    ensures ran { IsFresh H.tells (H.shelf host.old) → result ≢ Status.OpenFault → result ≢ Status.Memory
-        → IsOverFiles (shown line.now)
-        → Ran ⟦<H as Telling>⟧.objects (H.shelf host.old) (H.shelf host.new) (shown line.now) result }
-    ensures closed { IsTrue H.tells → result ≡ Status.OpenFault → IsOverFiles (shown line.now)
-        → Untouched (H.shelf host.old) (H.shelf host.new) (shown line.now) }
-    ensures memory { IsFresh H.tells (H.shelf host.old) → result ≡ Status.Memory → IsOverFiles (shown line.now)
-        → Untouched (H.shelf host.old) (H.shelf host.new) (shown line.now)
-        ⊎ Ran ⟦<H as Telling>⟧.objects (H.shelf host.old) (H.shelf host.new) (shown line.now) result }
-    ensures sent { (c : SendCommand) → shown line.now ≡ Send c
-        → IsUnused H.tells (H.shelf host.old) → (CanRefuse result → ⊥)
-        → Sent ⟦<H as Telling>⟧.objects ⟦<H as Telling>⟧.live (H.shelf host.old) (H.shelf host.new) c result }
-    ensures unsent { (c : SendCommand) → shown line.now ≡ Send c
-        → IsUnused H.tells (H.shelf host.old) → CanRefuse result
-        → Unsent (H.shelf host.old) (H.shelf host.new) c }
-    ensures around { (c : SendCommand) → shown line.now ≡ Send c
-        → IsUnused H.tells (H.shelf host.old)
-        → KeepsAround (H.shelf host.old) (H.shelf host.new) c }
-    ensures links_opened { (c : SendCommand) → shown line.now ≡ Send c
-        → IsUnused H.tells (H.shelf host.old) → (CanRefuse result → ⊥)
-        → (H.shelf host.new).opened_links ≡ links_opened c }
-    ensures links_after { (c : SendCommand) → shown line.now ≡ Send c → IsTrue H.tells
-        → OpensLinksAfter (H.shelf host.old) (H.shelf host.new) c }
-    ensures random { (c : SendCommand) → shown line.now ≡ Send c
-        → IsUnused H.tells (H.shelf host.old) → result ≡ Status.EntropyFault
-        → FailedAt ⟦<H as Telling>⟧.objects (H.shelf host.old) (H.shelf host.new) }
-    ensures split { (c : SplitCommand) → shown line.now ≡ Split c
+    ensures files { IsOverFiles (shown line.now)
+        → DoesFiles H.tells ⟦<H as Telling>⟧.objects (shown line.now)
+        (H.faults host.old) (H.faults host.new) (H.shelf host.old) (H.shelf host.new) result }
+    ensures splits { (c : SplitCommand) → shown line.now ≡ Split c
         → DoesSplit H.tells ⟦<H as Telling>⟧.objects c
         (H.faults host.old) (H.faults host.new) (H.shelf host.old) (H.shelf host.new) result }
-    ensures drill { (c : DrillCommand) → shown line.now ≡ Drill c
+    ensures sends { (c : SendCommand) → shown line.now ≡ Send c
+        → DoesSend H.tells ⟦<H as Telling>⟧.objects ⟦<H as Telling>⟧.live c
+        (H.faults host.old) (H.faults host.new) (H.shelf host.old) (H.shelf host.new) result }
+    ensures drills { (c : DrillCommand) → shown line.now ≡ Drill c
         → DoesDrill H.tells ⟦<H as Telling>⟧.objects c
         (H.faults host.old) (H.faults host.new) (H.shelf host.old) (H.shelf host.new) result }
 {
@@ -247,6 +188,18 @@ fn run_line<H: Host>(alloc: Global, host: &mut H, line: &Line<'_>) -> Status
 
 /// Does a line over a source and a sink.
 fn file_line<H: Host>(alloc: Global, host: &mut H, line: &Line<'_>) -> Status
+    requires range { IsInRange (shown line.now) }
+    requires files { IsOverFiles (shown line.now) }
+    ensures does { DoesFiles H.tells ⟦<H as Telling>⟧.objects (shown line.now)
+        (H.faults host.old) (H.faults host.new) (H.shelf host.old) (H.shelf host.new) result }
+    ensures line { result ≢ Status.Usage }
+    ensures opened { HasOpenCause (fault_of result) (H.faults host.old) (H.faults host.new) }
+{
+    work_over_files(alloc, host, line)
+}
+
+// Works on the source and the sink of a line. Each clause says a part of what that leaves.
+fn work_over_files<H: Host>(alloc: Global, host: &mut H, line: &Line<'_>) -> Status
     requires range { IsInRange (shown line.now) }
     requires files { IsOverFiles (shown line.now) }
     ensures line { result ≢ Status.Usage }

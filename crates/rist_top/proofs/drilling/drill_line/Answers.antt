@@ -1,16 +1,9 @@
-use Rattle.std.proofs.Common.{rules, take}
+-- What the parts leave is what the line does.
+use Rattle.rist_top.proofs.PrintLemmas.{does_print}
 use Rattle.rist_top.proofs.drilling.drill_line.Goals as goal
 
-pub returns-clause-printed : goal.returns-clause-printed
-returns-clause-printed g c = λ tells fine. record {
-  sink = c.in-Ok-sink.sink;
-  filled = c.put_text-status.new.sink;
-  took = search rules;
-  gave = search rules;
-  fresh = search rules;
-  text = take c.in-Ok.length c.summarize.new.out;
-  holds = c.in-Ok.ensures.summary;
-  whole = c.put_text-status.ensures.whole;
-  part = c.put_text-status.ensures.part;
-  write = c.put_text-status.ensures.write;
-}
+pub returns-clause-does : goal.returns-clause-does
+returns-clause-does g c =
+    let e = c.write_summary.ensures in
+    does_print _ _ _ _ _ (g.H.Host.shelf c.args.host.now) (g.H.Host.shelf c.write_summary.new.host) c.write_summary.result
+    e.ends e.opened e.printed e.unprinted e.around e.others

@@ -3,33 +3,37 @@ use Rattle.std.proofs.Common.{◌≡◌, ◌∙◌, ◌+◌, sym, ap, subst, len
 use Rattle.rist_top.specs.Causes.{CanRefuse}
 use Rattle.rist_top.proofs.FrameLemmas.{links_back}
 use Rattle.rist_top.proofs.SendLemmas.{links_as_they_were}
-use Rattle.rist_top.proofs.ReceiveLemmas.{from_first}
+use Rattle.rist_top.proofs.HandedLemmas.{from_first}
 use Rattle.rist_top.proofs.GatingLemmas.{both_between, gates_same}
 use Rattle.rist_top.proofs.gating.gate_by_clocks.Goals as goal
 use Rattle.rist_top.proofs.gating.gate_by_clocks.Goals.{in-Ok-sealers_for, in-Err-sealers_for}
 
 pub returns-clause-gated : goal.returns-clause-gated
 returns-clause-gated g c told clock_is entropy_is ran =
+    let many : length c.in-Ok.clocks.items ≡ length c.args.line.now.inputs.items + length c.args.line.now.outputs.items + 1 = omega (arith, c.in-Ok.ensures.count, c.len.ensures, c.requires.count) in
     elim c.match-sealers_for.branch [
       | in-Ok-sealers_for w ↦
           let passes = w.gate_sealed-status.ensures.work (λ r. ran (subst CanRefuse (sym w.status-is) r)) in
           record {
-            clocks_were = c.in-Ok.clocks.items;
-            clocks_are = c.match-sealers_for.clocks.items;
-            clocks = from_first _ _ _ _ _ _ (c.in-Ok.ensures.ok (told, clock_is))
+            were = c.in-Ok.clocks.items;
+            are = c.match-sealers_for.clocks.items;
+            count = many;
+            places = from_first _ _ _ _ _ _ (c.in-Ok.ensures.ok (told, clock_is))
                 (ap (λ h. (g.H.Host.shelf h).clocks) w.host-is ∙ (ap (λ s. s.clocks) (w.gate_sealed-status.ensures.same told) ∙ (c.sealers_for.ensures.others told).live.clocks))
                 (c.back_clocks.ensures.state told) (ap (λ v. length v.items) w.clocks-is ∙ w.gate_sealed-status.ensures.clocks);
-            receiving = w.in-Ok-sealers_for.sealers.receiving;
-            sending = w.in-Ok-sealers_for.sealers.sending;
-            fresh_receiving = w.in-Ok-sealers_for.ensures.receiving;
-            fresh_sending = w.in-Ok-sealers_for.ensures.sending;
-            drawn = both_between _ _ _ _ _ _ _ (ap (λ s. s.entropies) (c.in-Ok.ensures.same told))
-                (ap (λ s. s.entropies) (c.back_clocks.ensures.same told)
-                ∙ (ap (λ h. (g.H.Host.shelf h).entropies) w.host-is ∙ ap (λ s. s.entropies) (w.gate_sealed-status.ensures.same told)))
-                (w.in-Ok-sealers_for.ensures.drawn (told, ap (λ s. s.next_entropy) (c.in-Ok.ensures.same told) ∙ entropy_is));
-            counts = passes.counts;
-            reported = ap (λ s. s.report) (c.back_clocks.ensures.same told) ∙ (ap (λ h. (g.H.Host.shelf h).report) w.host-is ∙ passes.reported told);
-            gates = gates_same _ _ _ _ _ _ _ _ _ _ _ _ _ (ap (λ v. v.items) w.links-is) (ap (λ v. v.items) w.clocks-is) w.status-is passes.gates;
+            did = record {
+              receiving = w.in-Ok-sealers_for.sealers.receiving;
+              sending = w.in-Ok-sealers_for.sealers.sending;
+              fresh_receiving = w.in-Ok-sealers_for.ensures.receiving;
+              fresh_sending = w.in-Ok-sealers_for.ensures.sending;
+              drawn = both_between _ _ _ _ _ _ _ (ap (λ s. s.entropies) (c.in-Ok.ensures.same told))
+                  (ap (λ s. s.entropies) (c.back_clocks.ensures.same told)
+                  ∙ (ap (λ h. (g.H.Host.shelf h).entropies) w.host-is ∙ ap (λ s. s.entropies) (w.gate_sealed-status.ensures.same told)))
+                  (w.in-Ok-sealers_for.ensures.drawn (told, ap (λ s. s.next_entropy) (c.in-Ok.ensures.same told) ∙ entropy_is));
+              counts = passes.counts;
+              reported = ap (λ s. s.report) (c.back_clocks.ensures.same told) ∙ (ap (λ h. (g.H.Host.shelf h).report) w.host-is ∙ passes.reported told);
+              gates = gates_same _ _ _ _ _ _ _ _ _ _ _ _ _ (ap (λ v. v.items) w.links-is) (ap (λ v. v.items) w.clocks-is) w.status-is passes.gates;
+            };
           }
       | in-Err-sealers_for w ↦ absurd (ran (subst CanRefuse (sym w.status-is) w.in-Err-sealers_for.ensures.err))
     ]

@@ -3,30 +3,35 @@ use Rattle.std.proofs.Common.{◌≡◌, ◌∙◌, sym, ap, subst, length, arit
 use Rattle.rist_top.specs.Causes.{CanRefuse}
 use Rattle.rist_top.proofs.FrameLemmas.{links_back}
 use Rattle.rist_top.proofs.SendLemmas.{drawn_between, links_as_they_were}
-use Rattle.rist_top.proofs.ReceiveLemmas.{from_first, receives_same}
+use Rattle.rist_top.proofs.HandedLemmas.{from_first}
+use Rattle.rist_top.proofs.ReceiveLemmas.{receives_same}
 use Rattle.rist_top.proofs.receiving.receive_by_clocks.Goals as goal
 use Rattle.rist_top.proofs.receiving.receive_by_clocks.Goals.{in-Ok-sealer_for, in-Err-sealer_for}
 
 pub returns-clause-received : goal.returns-clause-received
 returns-clause-received g c told clock_is entropy_is ran =
+    let many : length c.in-Ok.clocks.items ≡ length c.args.line.now.links.items = omega (arith, c.in-Ok.ensures.count, c.len.ensures, c.requires.count) in
     elim c.match-sealer_for.branch [
       | in-Ok-sealer_for w ↦
           let hears = w.receive_sealed.ensures.work (λ r. ran (subst CanRefuse (sym (ap (λ x. x.1) w.sink-is)) r)) in
           record {
-            clocks_were = c.in-Ok.clocks.items;
-            clocks_are = c.match-sealer_for.clocks.items;
-            clocks = from_first _ _ _ _ _ _ (c.in-Ok.ensures.ok (told, clock_is))
+            were = c.in-Ok.clocks.items;
+            are = c.match-sealer_for.clocks.items;
+            count = many;
+            places = from_first _ _ _ _ _ _ (c.in-Ok.ensures.ok (told, clock_is))
                 (ap (λ h. (g.H.Host.shelf h).clocks) w.host-is ∙ (ap (λ s. s.clocks) (w.receive_sealed.ensures.same told) ∙ (c.sealer_for.ensures.others told).live.clocks))
                 (c.back_clocks.ensures.state told) (ap (λ v. length v.items) w.clocks-is ∙ w.receive_sealed.ensures.clocks);
-            sealer = w.in-Ok-sealer_for.sealer;
-            fresh = w.in-Ok-sealer_for.ensures.ok;
-            drawn = drawn_between _ _ _ _ _ _ (ap (λ s. s.entropies) (c.in-Ok.ensures.same told))
-                (ap (λ s. s.entropies) (c.back_clocks.ensures.same told)
-                ∙ (ap (λ h. (g.H.Host.shelf h).entropies) w.host-is ∙ ap (λ s. s.entropies) (w.receive_sealed.ensures.same told)))
-                (w.in-Ok-sealer_for.ensures.drawn (told, ap (λ s. s.next_entropy) (c.in-Ok.ensures.same told) ∙ entropy_is));
-            counts = hears.counts;
-            reported = ap (λ s. s.report) (c.back_clocks.ensures.same told) ∙ (ap (λ h. (g.H.Host.shelf h).report) w.host-is ∙ hears.reported told);
-            receives = receives_same g.H.Output.Sink.contents g.H.Output.Sink.faults _ _ _ _ _ _ _ _ _ _ _ _ _ (ap (λ v. v.items) w.links-is) (ap (λ v. v.items) w.clocks-is) w.sink-is hears.receives;
+            did = record {
+              sealer = w.in-Ok-sealer_for.sealer;
+              fresh = w.in-Ok-sealer_for.ensures.ok;
+              drawn = drawn_between _ _ _ _ _ _ (ap (λ s. s.entropies) (c.in-Ok.ensures.same told))
+                  (ap (λ s. s.entropies) (c.back_clocks.ensures.same told)
+                  ∙ (ap (λ h. (g.H.Host.shelf h).entropies) w.host-is ∙ ap (λ s. s.entropies) (w.receive_sealed.ensures.same told)))
+                  (w.in-Ok-sealer_for.ensures.drawn (told, ap (λ s. s.next_entropy) (c.in-Ok.ensures.same told) ∙ entropy_is));
+              counts = hears.counts;
+              reported = ap (λ s. s.report) (c.back_clocks.ensures.same told) ∙ (ap (λ h. (g.H.Host.shelf h).report) w.host-is ∙ hears.reported told);
+              receives = receives_same g.H.Output.Sink.contents g.H.Output.Sink.faults _ _ _ _ _ _ _ _ _ _ _ _ _ (ap (λ v. v.items) w.links-is) (ap (λ v. v.items) w.clocks-is) w.sink-is hears.receives;
+            };
           }
       | in-Err-sealer_for w ↦ absurd (ran (subst CanRefuse (sym (ap (λ x. x.1) w.sink-is)) w.in-Err-sealer_for.ensures.err))
     ]

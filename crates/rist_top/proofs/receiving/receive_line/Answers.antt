@@ -1,15 +1,9 @@
--- The sink comes back with what was received.
-use Rattle.std.proofs.Common.{◌∙◌, ap}
-use Rattle.rist_top.proofs.ReceiveLemmas.{on_links_received, still_unused_behind}
+-- What the parts of a receiving leave is what its line does.
+use Rattle.rist_top.proofs.DoesReceiveLemmas.{does_receive}
 use Rattle.rist_top.proofs.receiving.receive_line.Goals as goal
 
-pub returns-clause-received : goal.returns-clause-received
-returns-clause-received g c unused ran = record {
-  sink = c.in-Ok.sink;
-  filled = c.receive_on_links-sink.result.0;
-  took = (c.in-Ok.ensures.ok unused.told).was;
-  gave = (c.back_sink.ensures.state unused.told).now (ap (λ f. f c.args.line.now.out.now) (c.receive_on_links-sink.ensures.others unused.told).sinks ∙ (c.in-Ok.ensures.ok unused.told).now);
-  empty = c.in-Ok.ensures.fresh;
-  received = on_links_received _ _ _ _ _ _ _ _ _ _ (c.in-Ok.ensures.same unused.told) (c.back_sink.ensures.same unused.told)
-      (c.receive_on_links-sink.ensures.received (still_unused_behind _ _ _ (c.in-Ok.ensures.same unused.told) unused) ran);
-}
+pub returns-clause-does : goal.returns-clause-does
+returns-clause-does g c =
+    let e = c.receive_into_sink.ensures in
+    does_receive _ _ _ _ _ _ (g.H.Host.shelf c.args.host.now) (g.H.Host.shelf c.receive_into_sink.new.host) c.receive_into_sink.result
+    e.opened e.received e.unreceived e.around e.links_opened e.order e.random

@@ -2,7 +2,8 @@
 use Rattle.std.proofs.Common.{◌∙◌, ap, length}
 use Rattle.rist_top.proofs.SendLemmas.{links_as_they_were}
 use Rattle.rist_top.proofs.FrameLemmas.{links_back}
-use Rattle.rist_top.proofs.ReceiveLemmas.{by_clocks_between, from_first}
+use Rattle.rist_top.proofs.HandedLemmas.{from_first}
+use Rattle.rist_top.proofs.ReceiveLemmas.{by_clocks_between}
 use Rattle.rist_top.proofs.receiving.receive_on_links.Goals as goal
 
 pub returns-clause-kept : goal.returns-clause-kept
@@ -21,11 +22,11 @@ returns-clause-received g c unused ran =
     let e = c.in-Ok.ensures.same unused.told in
     let f = c.back_links.ensures.same unused.told in
     record {
-      links_were = c.in-Ok.links.items;
-      links_are = c.receive_by_clocks-sink.new.links.items;
+      were = c.in-Ok.links.items;
+      are = c.receive_by_clocks-sink.new.links.items;
       count = c.in-Ok.ensures.count ∙ ap length c.as_slice.ensures.value;
-      links = from_first _ _ _ _ _ _ (c.in-Ok.ensures.ok (unused.told, unused.links)) (c.receive_by_clocks-sink.ensures.others unused.told).links
+      places = from_first _ _ _ _ _ _ (c.in-Ok.ensures.ok (unused.told, unused.links)) (c.receive_by_clocks-sink.ensures.others unused.told).links
           (c.back_links.ensures.state unused.told) c.receive_by_clocks-sink.ensures.links;
-      received = by_clocks_between _ _ _ _ _ _ _ _ _ _ _ _ (ap (λ s. s.clocks) e) (ap (λ s. s.entropies) e) (ap (λ s. s.clocks) f) (ap (λ s. s.entropies) f) (ap (λ s. s.report) f)
+      did = by_clocks_between _ _ _ _ _ _ _ _ _ _ _ _ (ap (λ s. s.clocks) e) (ap (λ s. s.entropies) e) (ap (λ s. s.clocks) f) (ap (λ s. s.entropies) f) (ap (λ s. s.report) f)
           (c.receive_by_clocks-sink.ensures.received unused.told (ap (λ s. s.next_clock) e ∙ unused.clock) (ap (λ s. s.next_entropy) e ∙ unused.entropy) ran);
     }

@@ -1,25 +1,9 @@
--- What the work leaves is what the line has done: source and sink were handed out for it, and came back.
-use Rattle.std.proofs.Common.{rules}
-use Rattle.rist_top.specs.Lines.{IsFresh}
+-- What the parts leave is what the line does.
+use Rattle.rist_top.proofs.DoesFilesLemmas.{does_files}
 use Rattle.rist_top.proofs.top.file_line.Goals as goal
 
-pub returns-clause-ran : goal.returns-clause-ran
-returns-clause-ran g c fresh unopened memory =
-    record {
-      source = c.in-Ok.source;
-      spent = c.work-source.result.source;
-      sink = c.in-Ok-sink.sink;
-      filled = c.work-source.result.sink;
-      took_source = search rules;
-      gave_source = search rules;
-      took_sink = search rules;
-      gave_sink = search rules;
-      fresh = search rules;
-      work = search rules;
-      read = search rules;
-      write = search rules;
-      random = λ e.
-          let still : IsFresh g.H.Host.tells (g.H.Host.shelf c.sink.new.self) = search rules in
-          let failed = c.work-source.ensures.random still e in
-          record { words = failed.words; drawn = failed.drawn; took = search rules; gave = search rules; rose = failed.rose };
-    }
+pub returns-clause-does : goal.returns-clause-does
+returns-clause-does g c =
+    let e = c.work_over_files.ensures in
+    does_files _ _ _ _ _ (g.H.Host.shelf c.args.host.now) (g.H.Host.shelf c.work_over_files.new.host) c.work_over_files.result
+    c.requires.range e.opened e.others e.order e.ran e.closed e.memory
