@@ -1,7 +1,7 @@
 //! The host of the system. What its objects give and take is not told: the trusted edge of the system.
 ghost use Rattle.std.specs.Prelude.{◌≡◌, false, None, IfOk, OnErr};
 ghost use Rattle.outside_io.specs.Causes.{Rose};
-ghost use Rattle.outside_io.specs.Real.{silent, IsSourceNamed, IsSinkNamed, KnowsFile};
+ghost use Rattle.outside_io.specs.Real.{silent, IsSourceNamed, IsSinkNamed, file_of};
 ghost use Rattle.outside_io.specs.Told.{IsEmpty};
 ghost use Rattle.outside_host.specs.Shelf.{nowhere, HasHostCause};
 
@@ -12,7 +12,7 @@ use libc::net::{POLLIN, poll};
 use libc::types::pollfd;
 use link_channels::Profile;
 use outside_io::{
-    FileIdentity, RealEntropy, RealSink, RealSource, create_sink, is_named, open_known_source,
+    FileIdentity, RealEntropy, RealSink, RealSource, create_sink, is_named, open_source,
 };
 use outside_net::{LinkSpec, ProcessClock, Role, UdpLink};
 use std::alloc::Global;
@@ -146,16 +146,16 @@ where
     fn source(&mut self, name: &str) -> Result<Self::Input, HostBad>
         ensures cause { HasHostCause self.old.faults self.new.faults result }
         ensures named { IfOk result (λ source. IsSourceNamed name.now source) }
-        // Standard input is no file that could be told from others.
-        ensures known { IfOk result (λ source. KnowsFile source self.new.read) }
+        // What it reads is taken down. Standard input is no file that could be told from others.
+        ensures known { IfOk result (λ source. self.new.read ≡ file_of source) }
         ensures stays { OnErr result (self.new.read ≡ self.old.read) }
     {
-        match open_known_source(self.rt, name) {
-            Ok((source, file)) => {
+        match open_source(self.rt, name) {
+            Ok(source) => {
                 if name == "-" {
                     await_input();
                 }
-                self.read = file;
+                self.read = source.file();
                 self.source = self.kept(name);
                 Ok(source)
             }
@@ -169,7 +169,7 @@ where
         ensures named { IfOk result (λ sink. IsSinkNamed name.now sink) }
         ensures stays { self.new.read ≡ self.old.read }
     {
-        if name != "-" && is_named(self.rt, name, self.read) {
+        if is_named(self.rt, name, self.read) {
             return Err(self.refuse_name(name, Reason::IsSource));
         }
         match create_sink(self.rt, name) {

@@ -30,7 +30,7 @@ pub use mem_source::MemSource;
 pub use memory::NoMemory;
 pub use nowhere::Nowhere;
 pub use pieces::Pieces;
-pub use real::{Reading, RealSink, RealSource, Writing, create_sink, is_named, open_known_source};
+pub use real::{Reading, RealSink, RealSource, Writing, create_sink, is_named, open_source};
 pub use real_entropy::RealEntropy;
 pub use sink::Sink;
 pub use source::{Failed, Source};

@@ -1,6 +1,7 @@
 //! Files and standard streams. What they give and take is not told: the trusted edge of the system.
-ghost use Rattle.std.specs.Prelude.{◌≡◌, ◌≤◌, ◌<◌, length, take, false, None, IfOk, OnOk, OnErr};
-ghost use Rattle.outside_io.specs.Real.{silent, source_faults, sink_faults, ReadsBehind, WritesBehind, WritesFront, WritesFrontBehind, IsSourceNamed, IsSinkNamed, KnowsFile};
+ghost use Rattle.std.specs.Prelude.{◌≡◌, ◌≤◌, ◌<◌, ◌↔◌, length, take, false, None, codes, IfOk, IsOkAnd, OnOk, OnErr, IsSome, IsTrue};
+ghost use Rattle.outside_io.specs.Real.{silent, source_faults, sink_faults, ReadsBehind, WritesBehind, WritesFront, WritesFrontBehind, IsSourceNamed, IsSinkNamed, IsNameOf, file_of};
+ghost use Rattle.std.specs.Fs.{file_type, IsFile};
 ghost use Rattle.std.specs.Io.{ReadsAtMost};
 ghost use Rattle.std.specs.Io.KnownBytes.{ReadConsumes, Appends as WriterAppends};
 ghost use Rattle.outside_io.specs.Causes.{HasCause};
@@ -8,7 +9,7 @@ ghost use Rattle.outside_io.specs.Told.{Appends, AppendsPart, Takes, IsEmpty};
 
 use crate::file_identity::FileIdentity;
 use crate::{Failed, Sink, Source};
-use std::fs::{self, Files, OpenFile};
+use std::fs::{self, Files, Metadata, OpenFile};
 use std::io::{self, Input, Print, Printer, Read, Write};
 
 /// Any reader, with a count of its faults.
@@ -86,11 +87,23 @@ impl<W: Write> Sink for Writing<W> {
     }
 }
 
-/// A file or standard input.
+/// A file, with its identity where it is a regular one, or standard input.
 #[derive(Drop)]
 pub enum RealSource<F, I> {
-    File(Reading<F>),
+    File(Reading<F>, Option<FileIdentity>),
     Stream(Reading<I>),
+}
+
+impl<F, I> RealSource<F, I> {
+    /// The regular file that it reads, if it is one.
+    pub fn file(&self) -> Option<FileIdentity>
+        ensures value { result ≡ file_of self.now }
+    {
+        match self {
+            RealSource::File(_, file) => *file,
+            RealSource::Stream(_) => None,
+        }
+    }
 }
 
 impl<F: Read, I: Read> Source for RealSource<F, I> {
@@ -107,7 +120,7 @@ impl<F: Read, I: Read> Source for RealSource<F, I> {
         ensures whole { ReadsBehind F.remaining I.remaining self.old self.new result buf.new }
     {
         match self {
-            RealSource::File(source) => source.read(buf),
+            RealSource::File(source, _) => source.read(buf),
             RealSource::Stream(source) => source.read(buf),
         }
     }
@@ -139,8 +152,11 @@ impl<F: Write, O: Write> Sink for RealSink<F, O> {
     }
 }
 
-/// Standard input under the name `-`, and else the file of this name.
-fn open_source<R: Files + Input>(rt: &R, name: &str) -> io::Result<RealSource<R::File, R::Reader>>
+/// A source: standard input under the name `-`, and else the file of this name.
+pub fn open_source<R: Files + Input>(
+    rt: &R,
+    name: &str,
+) -> io::Result<RealSource<R::File, R::Reader>>
     ensures named { IfOk result (λ source. IsSourceNamed name.now source) }
     ensures fresh { IfOk result (λ source. source_faults source ≡ 0) }
 {
@@ -150,44 +166,34 @@ fn open_source<R: Files + Input>(rt: &R, name: &str) -> io::Result<RealSource<R:
             faults: 0,
         }));
     }
-    match fs::open(rt, name) {
-        Ok(inner) => Ok(RealSource::File(Reading { inner, faults: 0 })),
-        Err(error) => Err(error),
-    }
+    let inner = fs::open(rt, name)?;
+    let file = FileIdentity::of(&inner.metadata()?);
+    Ok(RealSource::File(Reading { inner, faults: 0 }, file))
 }
 
-/// The regular file that a source reads, if it is one.
-fn file_read<F: OpenFile, I>(source: &RealSource<F, I>) -> io::Result<Option<FileIdentity>>
-    ensures known { IfOk result (λ file. KnowsFile source.now file) }
-{
-    match source {
-        RealSource::File(reading) => Ok(FileIdentity::of(&reading.inner.metadata()?)),
-        RealSource::Stream(_) => Ok(None),
-    }
-}
-
-/// A source, standard input under the name `-`, and the regular file that it reads, if it is one.
-pub fn open_known_source<R: Files + Input>(
-    rt: &R,
-    name: &str,
-) -> io::Result<(RealSource<R::File, R::Reader>, Option<FileIdentity>)>
-    ensures named { IfOk result (λ opened. IsSourceNamed name.now opened.0) }
-    ensures fresh { IfOk result (λ opened. source_faults opened.0 ≡ 0) }
-    ensures known { IfOk result (λ opened. KnowsFile opened.0 opened.1) }
-{
-    let source = open_source(rt, name)?;
-    let file = file_read(&source)?;
-    Ok((source, file))
-}
-
-/// Whether a name is that of this regular file.
+/// Whether a name is that of this regular file. The name `-` is no file's.
 pub fn is_named<R: Files>(rt: &R, name: &str, file: Option<FileIdentity>) -> bool
     ensures none { file ≡ None → result ≡ false }
+    ensures stream { name.now ≡ codes "-" → result ≡ false }
 {
-    match (fs::metadata(rt, name), file) {
-        (Ok(metadata), Some(file)) => FileIdentity::of(&metadata) == Some(file),
-        _ => false,
+    is_name_of(name, identity_of(fs::metadata(rt, name)), file)
+}
+
+/// The identity of what was found under a name, if that is a regular file.
+fn identity_of(found: io::Result<Metadata>) -> Option<FileIdentity>
+    ensures file { IsSome result ↔ IsOkAnd found (λ metadata. IsFile (file_type metadata)) }
+{
+    match found {
+        Ok(metadata) => FileIdentity::of(&metadata),
+        Err(_) => None,
     }
+}
+
+/// Whether the regular file that was found under a name is this one.
+fn is_name_of(name: &str, found: Option<FileIdentity>, file: Option<FileIdentity>) -> bool
+    ensures value { IsTrue result ↔ IsNameOf name.now found file }
+{
+    name != "-" && found.is_some() && found == file
 }
 
 /// Standard output under the name `-`, and else a new file of this name.
