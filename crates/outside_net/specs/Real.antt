@@ -1,5 +1,5 @@
 -- What a contract sees of links over UDP: whose peers are known.
-use Rattle.std.specs.Prelude.{◌≡◌, Bool, true, false, Option, None, Some}
+use Rattle.std.specs.Prelude.{◌≡◌, ℕ, ◌+◌, List, Bool, true, false, Option, None, Some}
 use Rattle.link_channels.specs.declared.channel.Channel.{Channel}
 use Rattle.link_channels.specs.declared.channel.Channel.TheVariants as channels
 use Rattle.link_channels.specs.declared.profile.Profile.{Profile}
@@ -8,11 +8,13 @@ use Rattle.outside_net.specs.declared.link.Got.{Got}
 use Rattle.outside_net.specs.declared.link.Got.TheVariants as got
 use Rattle.outside_net.specs.declared.link_spec.Role.{Role}
 use Rattle.outside_net.specs.declared.link_spec.Role.TheVariants.{Receives, Sends, Forwards}
+use Rattle.outside_net.specs.declared.link_spec.LinkSpec.{LinkSpec}
 use Rattle.outside_net.specs.declared.port.Peer.{Peer}
 use Rattle.outside_net.specs.declared.port.Peer.TheVariants.{Unknown, Last, Stated}
 use Rattle.outside_net.specs.declared.port.Port.{Port}
 use Rattle.outside_net.specs.declared.udp_link.UdpLink.{UdpLink}
 use Rattle.outside_net.specs.Links.{KnowsAfter}
+use Rattle.outside_net.specs.Sockets.{IsFirstPeer}
 
 -- an address stands for the peer
 abbrev pub is_known : Peer → Bool
@@ -56,6 +58,18 @@ stated_in role Simple channels.Tunnel = false
 stated_in role Main channels.Media = false
 stated_in role Main channels.Control = false
 stated_in role Main channels.Tunnel = is_sending role
+
+-- there is a socket, and this is its first peer
+abbrev pub StandsAt : Role → List ℕ → ℕ → Option Port → Type 0
+StandsAt role address port None = ⊥
+StandsAt role address port (Some socket) = IsFirstPeer role address port socket.peer
+
+-- the sockets of a link: in the Simple Profile control goes on the next port (VSF TR-06-1)
+abbrev pub IsOpenedAt : Role → Profile → LinkSpec → UdpLink → Type 0
+IsOpenedAt role Simple spec link = StandsAt role spec.address spec.port link.media
+    × StandsAt role spec.address (spec.port + 1) link.control × (link.tunnel ≡ None)
+IsOpenedAt role Main spec link = (link.media ≡ None) × (link.control ≡ None)
+    × StandsAt role spec.address spec.port link.tunnel
 
 -- no call of the link has failed or come to an end
 pub record IsUnused (link : UdpLink) : Type 0 where

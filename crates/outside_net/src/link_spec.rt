@@ -7,6 +7,17 @@ pub struct LinkSpec {
     pub port: u16,
 }
 
+impl LinkSpec {
+    ghost use Rattle.std.specs.Prelude.{◌+◌, ◌<◌, ◌^◌, SomeIff};
+
+    /// The port of control in the Simple Profile (VSF TR-06-1): the next one, if there is one.
+    pub fn control_port(&self) -> Option<u16>
+        ensures value { SomeIff result (self.now.port + 1 < 2 ^ 16) (self.now.port + 1) }
+    {
+        self.port.checked_add(1)
+    }
+}
+
 /// Which end of a link this is.
 #[derive(Clone, Copy, Debug, PartialEq, Eq)]
 pub enum Role {

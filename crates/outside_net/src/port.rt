@@ -1,4 +1,10 @@
 //! One socket of a link, and the peer of its channel.
+ghost use Rattle.std.specs.Prelude.{◌≡◌, ◌≤◌, take, true, IfOk};
+ghost use Rattle.outside_io.specs.Causes.{has_failed};
+ghost use Rattle.link_channels.specs.declared.bounds.TheConstants.{MAX_DATAGRAM as max_datagram};
+ghost use Rattle.outside_net.specs.Real.{is_known, is_sending};
+ghost use Rattle.outside_net.specs.Sockets.{IsAt, IsOwn, IsFirstPeer, is_no_fault, is_fault, answer_by};
+
 use crate::{Got, Role};
 use libc::net::{SO_RCVBUF, SOL_SOCKET, setsockopt};
 use link_channels::{Channel, MAX_DATAGRAM};
@@ -32,21 +38,17 @@ pub struct Port {
 impl Port {
     ghost use Rattle.std.specs.Prelude.{◌≡◌, IfOk, IfSome, OnErr, true, false};
     ghost use Rattle.outside_net.specs.Links.{IsWithin, has_come_to_end};
+    ghost use Rattle.outside_net.specs.Sockets.{IsFirstPeer, IsOn, learned, Learns};
     ghost use Rattle.outside_net.specs.Real.{is_known, is_sending, PeerAfter};
 
     /// Bound to the address, or from any port of this machine to it.
     pub fn open<R: Net>(rt: &R, address: [u8; 4], port: u16, role: Role) -> Result<Port, Failed>
-        ensures peer { IfOk result (λ port. is_known port.peer ≡ is_sending role) }
-        ensures before { IfOk result (λ port. port.before ≡ port.peer) }
+        ensures at { IfOk result (λ opened. IsFirstPeer role address port opened.peer) }
+        ensures peer { IfOk result (λ opened. is_known opened.peer ≡ is_sending role) }
+        ensures before { IfOk result (λ opened. opened.before ≡ opened.peer) }
     {
-        let [a, b, c, d] = address;
-        let stated = SocketAddr::V4(SocketAddrV4::new(Ipv4Addr::new(a, b, c, d), port));
-        let any = SocketAddr::V4(SocketAddrV4::new(Ipv4Addr::new(0, 0, 0, 0), 0));
-        let (own, peer) = match role {
-            Role::Receives => (stated, Peer::Unknown),
-            Role::Sends | Role::Forwards => (any, Peer::Stated(stated)),
-        };
-        match quick_socket(rt, own) {
+        let peer = first_peer(role, address, port);
+        match quick_socket(rt, own_address(role, address, port)) {
             Ok(socket) => Ok(Port {
                 socket,
                 peer,
@@ -81,6 +83,8 @@ impl Port {
     pub fn look(&mut self, channel: Channel, buf: &mut [u8; MAX_DATAGRAM]) -> Option<Got>
         ensures within { IfSome result IsWithin }
         ensures going { IfSome result (λ got. has_come_to_end got ≡ false) }
+        ensures channel { IfSome result (IsOn channel) }
+        ensures learns { Learns self.old.peer self.new.peer result }
         ensures peer { PeerAfter channel (is_known self.old.peer) (is_known self.new.peer) result }
         ensures before { self.new.before ≡ self.old.before }
     {
@@ -90,21 +94,17 @@ impl Port {
                 if count > MAX_DATAGRAM {
                     return Some(Got::Quiet);
                 }
-                buf[..count].copy_from_slice(&block[..count]);
+                give(&block, count, buf);
                 self.learn(from);
                 Some(Got::Datagram(channel, count))
             }
-            Err(error) => {
-                if is_no_fault(error.kind()) {
-                    return None;
-                }
-                Some(Got::Failed)
-            }
+            Err(error) => answer_by(error.kind()),
         }
     }
 
+    /// A datagram came from an address.
     fn learn(&mut self, from: SocketAddr)
-        ensures value { is_known self.new.peer ≡ true }
+        ensures value { self.new.peer ≡ learned self.old.peer from }
         ensures before { self.new.before ≡ self.old.before }
     {
         match self.peer {
@@ -124,15 +124,36 @@ impl Port {
             Peer::Last(to) => to,
             Peer::Stated(to) => to,
         };
-        match self.socket.send_to(octets, to) {
-            Ok(_) => Ok(true),
-            Err(error) => {
-                if is_no_fault(error.kind()) {
-                    return Ok(true);
-                }
-                Err(Failed)
-            }
-        }
+        outcome(self.socket.send_to(octets, to))
+    }
+}
+
+/// The address and the port, as the system has them.
+fn socket_address(address: [u8; 4], port: u16) -> SocketAddr
+    ensures value { IsAt address port result }
+{
+    let [a, b, c, d] = address;
+    SocketAddr::V4(SocketAddrV4::new(Ipv4Addr::new(a, b, c, d), port))
+}
+
+/// What the socket of a link is bound to: the link's address where it receives, and else any port of this machine.
+fn own_address(role: Role, address: [u8; 4], port: u16) -> SocketAddr
+    ensures value { IsOwn role address port result }
+{
+    match role {
+        Role::Receives => socket_address(address, port),
+        Role::Sends | Role::Forwards => socket_address([0, 0, 0, 0], 0),
+    }
+}
+
+/// Whom the socket of a link sends to before a datagram came.
+fn first_peer(role: Role, address: [u8; 4], port: u16) -> Peer
+    ensures value { IsFirstPeer role address port result }
+    ensures known { is_known result ≡ is_sending role }
+{
+    match role {
+        Role::Receives => Peer::Unknown,
+        Role::Sends | Role::Forwards => Peer::Stated(socket_address(address, port)),
     }
 }
 
@@ -146,9 +167,45 @@ fn quick_socket<R: Net>(rt: &R, own: SocketAddr) -> io::Result<UdpSocket> {
     Ok(socket)
 }
 
+/// Copies a datagram of so many octets to the front of the caller's block.
+fn give(block: &[u8; MAX_DATAGRAM + 1], count: usize, buf: &mut [u8; MAX_DATAGRAM])
+    requires fits { count ≤ max_datagram }
+    ensures octets { take count buf.new ≡ take count block.now }
+{
+    buf[..count].copy_from_slice(&block[..count]);
+}
+
+/// What a call that sends came to: a datagram that is lost on its way was taken.
+fn outcome(sent: io::Result<usize>) -> Result<bool, Failed>
+    ensures value { IfOk result (λ went. went ≡ true) }
+    ensures failed { has_failed result ≡ is_fault sent }
+{
+    match sent {
+        Ok(_) => Ok(true),
+        Err(error) => {
+            if is_no_fault(error.kind()) {
+                return Ok(true);
+            }
+            Err(Failed)
+        }
+    }
+}
+
+/// What a read that gave no datagram answers, by its error.
+fn answer_by(kind: ErrorKind) -> Option<Got>
+    ensures value { result ≡ answer_by kind }
+{
+    if is_no_fault(kind) {
+        return None;
+    }
+    Some(Got::Failed)
+}
+
 /// Nothing is there, the socket has no room, a call was interrupted, a peer's machine refuses, or no way leads there now: none
 /// of these is a fault of the link. So a path that is down for a while is used again when it is up.
-fn is_no_fault(kind: ErrorKind) -> bool {
+fn is_no_fault(kind: ErrorKind) -> bool
+    ensures value { result ≡ is_no_fault kind }
+{
     matches!(
         kind,
         ErrorKind::WouldBlock

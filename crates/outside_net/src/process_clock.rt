@@ -1,4 +1,7 @@
 //! The process clock. What it gives is not told: the trusted edge of the system.
+ghost use Rattle.std.specs.Prelude.{◌≡◌};
+ghost use Rattle.outside_net.specs.Sockets.{micros_of};
+
 use crate::Clock;
 use outside_io::Failed;
 use std::time;
@@ -40,9 +43,16 @@ impl<'a, R: time::Clock> Clock for ProcessClock<'a, R> {
 
     fn now(&mut self) -> u64 {
         if let Ok(now) = self.rt.monotonic() {
-            let passed = now.saturating_sub(self.start);
-            self.last = u64::try_from(passed.as_micros()).unwrap_or(u64::MAX);
+            self.last = micros_between(self.start, now);
         }
         self.last
     }
+}
+
+/// The microseconds between two moments, 0 where the second is the earlier one.
+fn micros_between(start: Duration, now: Duration) -> u64
+    ensures value { result ≡ micros_of start now }
+{
+    let passed = now.saturating_sub(start);
+    u64::try_from(passed.as_micros()).unwrap_or(u64::MAX)
 }

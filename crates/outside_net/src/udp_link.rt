@@ -1,7 +1,8 @@
 //! UDP links. What they give and take is not told: the trusted edge of the system.
-ghost use Rattle.std.specs.Prelude.{◌≡◌, true, false, IfOk, IfSome, OnErr};
+ghost use Rattle.std.specs.Prelude.{◌≡◌, ◌≤ℤ◌, pos, true, false, IfOk, IfSome, OnErr};
 ghost use Rattle.outside_net.specs.Links.{IsWithin, has_come_to_end};
 ghost use Rattle.outside_net.specs.Real.{knows_at, knew_at, LooksOn};
+ghost use Rattle.outside_net.specs.Sockets.{IsOn, other_channel};
 
 use crate::port::Port;
 use crate::{Got, Link, LinkSpec, Role};
@@ -36,7 +37,8 @@ impl UdpLink {
     ghost use Rattle.std.specs.Prelude.{◌≡◌, false, IfOk, IfSome};
     ghost use Rattle.outside_net.specs.Links.{IsWithin, has_come_to_end};
     ghost use Rattle.link_channels.specs.declared.channel.Channel.{Channel as ChannelValue};
-    ghost use Rattle.outside_net.specs.Real.{knows_in_link, knew_in_link, stated_in, IsUnused, KnowsAfterLook};
+    ghost use Rattle.outside_net.specs.Real.{knows_in_link, knew_in_link, stated_in, IsOpenedAt, IsUnused, KnowsAfterLook};
+    ghost use Rattle.outside_net.specs.Sockets.{IsOn, TakesTurns};
 
     /// Opens a link: it is bound to its address, or sends to it. Where an address can't be bound or is none of this
     /// machine's, it fails. In the Simple Profile control goes on the next port.
@@ -48,12 +50,13 @@ impl UdpLink {
     ) -> Result<UdpLink, Failed>
         ensures peers { IfOk result (λ link. (c : ChannelValue) → knows_in_link link c ≡ stated_in role profile c) }
         ensures before { IfOk result (λ link. (c : ChannelValue) → knew_in_link link c ≡ stated_in role profile c) }
+        ensures at { IfOk result (IsOpenedAt role profile spec.now) }
         ensures fresh { IfOk result IsUnused }
     {
         let is_patient = role == Role::Receives;
         match profile {
             Profile::Simple => {
-                let Some(control) = spec.port.checked_add(1) else {
+                let Some(control) = spec.control_port() else {
                     return Err(Failed);
                 };
                 let media = Port::open(rt, spec.address, spec.port, role)?;
@@ -100,6 +103,8 @@ impl UdpLink {
     /// Looks at one channel's socket.
     fn look_at(&mut self, channel: Channel, buf: &mut [u8; MAX_DATAGRAM]) -> Option<Got>
         ensures within { IfSome result IsWithin }
+        ensures channel { IfSome result (IsOn channel) }
+        ensures next { self.new.next ≡ self.old.next }
         ensures going { IfSome result (λ got. has_come_to_end got ≡ false) }
         ensures peer { KnowsAfterLook (knows_in_link self.old) (knows_in_link self.new) result }
         ensures before { (c : ChannelValue) → knew_in_link self.new c ≡ knew_in_link self.old c }
@@ -116,6 +121,7 @@ impl UdpLink {
     /// Looks at the sockets, the one first that gave least recently.
     fn look_at_all(&mut self, buf: &mut [u8; MAX_DATAGRAM]) -> Option<Got>
         ensures within { IfSome result IsWithin }
+        ensures turns { IfSome result (TakesTurns self.new.next) }
         ensures going { IfSome result (λ got. has_come_to_end got ≡ false) }
         ensures peer { KnowsAfterLook (knows_in_link self.old) (knows_in_link self.new) result }
         ensures before { (c : ChannelValue) → knew_in_link self.new c ≡ knew_in_link self.old c }
@@ -123,11 +129,7 @@ impl UdpLink {
         ensures ends { self.new.ends ≡ self.old.ends }
     {
         let first = self.next;
-        let second = match first {
-            Channel::Media => Channel::Control,
-            Channel::Control => Channel::Media,
-            Channel::Tunnel => Channel::Tunnel,
-        };
+        let second = other_channel(first);
         if let Some(got) = self.look_at(first, buf) {
             self.next = second;
             return Some(got);
@@ -139,6 +141,7 @@ impl UdpLink {
     /// read.
     fn look_or_wait(&mut self, buf: &mut [u8; MAX_DATAGRAM]) -> Option<Got>
         ensures within { IfSome result IsWithin }
+        ensures turns { IfSome result (TakesTurns self.new.next) }
         ensures going { IfSome result (λ got. has_come_to_end got ≡ false) }
         ensures peer { KnowsAfterLook (knows_in_link self.old) (knows_in_link self.new) result }
         ensures before { (c : ChannelValue) → knew_in_link self.new c ≡ knew_in_link self.old c }
@@ -163,8 +166,26 @@ impl UdpLink {
         if self.tunnel.is_some() {
             ends[0] = end_of(&self.tunnel);
         }
-        let _ = poll(&mut ends, WAIT_MS);
+        poll_within(&mut ends, WAIT_MS);
     }
+}
+
+/// The channel that takes turns with this one.
+fn other_channel(channel: Channel) -> Channel
+    ensures value { result ≡ other_channel channel }
+{
+    match channel {
+        Channel::Media => Channel::Control,
+        Channel::Control => Channel::Media,
+        Channel::Tunnel => Channel::Tunnel,
+    }
+}
+
+/// Waits until a socket has a datagram, or so many milliseconds have passed. `poll` takes a negative number for no limit.
+fn poll_within(ends: &mut [pollfd], limit: i32)
+    requires limited { pos 0 ≤ℤ limit }
+{
+    let _ = poll(ends, limit);
 }
 
 /// A socket for `poll`; -1, which it passes over, where there is none.
@@ -204,6 +225,7 @@ fn refuse(port: &mut Option<Port>)
 /// Looks at a socket, if there is one. None where it has nothing.
 fn look(port: &mut Option<Port>, channel: Channel, buf: &mut [u8; MAX_DATAGRAM]) -> Option<Got>
     ensures within { IfSome result IsWithin }
+    ensures channel { IfSome result (IsOn channel) }
     ensures going { IfSome result (λ got. has_come_to_end got ≡ false) }
     ensures peer { LooksOn channel port.old port.new result }
     ensures before { knew_at port.new ≡ knew_at port.old }

@@ -1,0 +1,98 @@
+-- What the calls of a socket mean: where it stands, whom it sends to, which errors are faults, and which socket comes
+-- next.
+use Rattle.std.specs.Prelude.{◌≡◌, ◌/◌, ◌-◌, ◌^◌, ℕ, List, [], ◌∷◌, min, if◌then◌else◌, not, Bool, true, false, Option, None, Some}
+use Rattle.std.specs.Prelude.{Result, Ok, Err}
+use Rattle.std.specs.Duration.{as_nanos}
+use Rattle.std.specs.declared.time.Duration.{Duration}
+use Rattle.std.specs.declared.net.socket_addr.SocketAddr.{SocketAddr}
+use Rattle.std.specs.declared.net.socket_addr.SocketAddr.TheVariants as addresses
+use Rattle.std.specs.Net.Addr.{ipv4_octets}
+use Rattle.std.specs.Net.Socket.{v4_ip, v4_port}
+use Rattle.std.specs.declared.io.Error.{Error}
+use Rattle.std.specs.declared.io.ErrorKind.{ErrorKind}
+use Rattle.std.specs.declared.io.ErrorKind.TheVariants as kinds
+use Rattle.std.specs.IoError.{error_kind}
+use Rattle.link_channels.specs.declared.channel.Channel.{Channel}
+use Rattle.link_channels.specs.declared.channel.Channel.TheVariants as channels
+use Rattle.outside_net.specs.declared.link.Got.{Got}
+use Rattle.outside_net.specs.declared.link.Got.TheVariants as got
+use Rattle.outside_net.specs.declared.link_spec.Role.{Role}
+use Rattle.outside_net.specs.declared.link_spec.Role.TheVariants.{Receives, Sends, Forwards}
+use Rattle.outside_net.specs.declared.port.Peer.{Peer}
+use Rattle.outside_net.specs.declared.port.Peer.TheVariants.{Unknown, Last, Stated}
+
+-- the address is IPv4, of these four octets and this port
+abbrev pub IsAt : List ℕ → ℕ → SocketAddr → Type 0
+IsAt octets port (addresses.V4 address) = (ipv4_octets (v4_ip address) ≡ octets) × (v4_port address ≡ port)
+IsAt octets port (addresses.V6 address) = ⊥
+
+-- where the socket of a link at this address and port stands: there where it receives, and at any port of this machine
+-- where it sends
+abbrev pub IsOwn : Role → List ℕ → ℕ → SocketAddr → Type 0
+IsOwn Receives octets port own = IsAt octets port own
+IsOwn Sends octets port own = IsAt (0 ∷ 0 ∷ 0 ∷ 0 ∷ []) 0 own
+IsOwn Forwards octets port own = IsAt (0 ∷ 0 ∷ 0 ∷ 0 ∷ []) 0 own
+
+-- whom it sends to at first: nobody where it receives, and the address and port, which stay, where it sends
+abbrev pub IsFirstPeer : Role → List ℕ → ℕ → Peer → Type 0
+IsFirstPeer Receives octets port peer = peer ≡ Unknown
+IsFirstPeer Sends octets port peer = (stated : SocketAddr) × (peer ≡ Stated stated) × IsAt octets port stated
+IsFirstPeer Forwards octets port peer = (stated : SocketAddr) × (peer ≡ Stated stated) × IsAt octets port stated
+
+-- whom it sends to once a datagram came from an address: a stated peer stays, and else it is who sent the last one
+abbrev pub learned : Peer → SocketAddr → Peer
+learned Unknown from = Last from
+learned (Last address) from = Last from
+learned (Stated address) from = Stated address
+
+-- after a look at a socket its peer is learned where it gave a datagram, and else it is the same
+abbrev pub Learns : Peer → Peer → Option Got → Type 0
+Learns old new None = new ≡ old
+Learns old new (Some (got.Datagram channel count)) = (from : SocketAddr) × (new ≡ learned old from)
+Learns old new (Some got.Quiet) = new ≡ old
+Learns old new (Some got.End) = new ≡ old
+Learns old new (Some got.Failed) = new ≡ old
+
+-- Errors that are no fault of a link: nothing is there, or no room, a signal came, the peer's machine refuses, or no way
+-- leads there now.
+abbrev pub is_no_fault : ErrorKind → Bool
+is_no_fault kinds.WouldBlock = true
+is_no_fault kinds.Interrupted = true
+is_no_fault kinds.ConnectionRefused = true
+is_no_fault kinds.HostUnreachable = true
+is_no_fault kinds.NetworkUnreachable = true
+is_no_fault kinds.NetworkDown = true
+is_no_fault _ = false
+
+-- the error of a call is a fault of the link
+abbrev pub is_fault : {T : Type 0} → Result T Error → Bool
+is_fault (Ok x) = false
+is_fault (Err error) = not (is_no_fault (error_kind error))
+
+-- what a read that gave nothing answers, by the kind of its error
+abbrev pub answer_by : ErrorKind → Option Got
+answer_by kind = if is_no_fault kind then None else Some got.Failed
+
+-- the channel that takes turns with this one
+abbrev pub other_channel : Channel → Channel
+other_channel channels.Media = channels.Control
+other_channel channels.Control = channels.Media
+other_channel channels.Tunnel = channels.Tunnel
+
+-- a datagram came on this channel
+abbrev pub IsOn : Channel → Got → Type 0
+IsOn channel (got.Datagram c count) = c ≡ channel
+IsOn channel got.Quiet = Unit {0}
+IsOn channel got.End = Unit {0}
+IsOn channel got.Failed = Unit {0}
+
+-- after a datagram of one channel the other is looked at first
+abbrev pub TakesTurns : Channel → Got → Type 0
+TakesTurns next (got.Datagram channel count) = next ≡ other_channel channel
+TakesTurns next got.Quiet = Unit {0}
+TakesTurns next got.End = Unit {0}
+TakesTurns next got.Failed = Unit {0}
+
+-- how many whole microseconds lie between two moments, up to 2^64 - 1: 0 where the second is the earlier one
+abbrev pub micros_of : Duration → Duration → ℕ
+micros_of start now = min ((as_nanos now - as_nanos start) / 1000) (2 ^ 64 - 1)
