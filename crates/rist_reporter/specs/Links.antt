@@ -31,7 +31,8 @@ pub record HasEntries (l : LinksState) : Type 0 where
 pub record AreLinksAfter (l : LinksState) (history : List Step) : Type 0 where
   pub sixteen : HasEntries l
   pub rtts : (link : ℕ) → link < MAX_LINKS → entry_at l.rtts link ≡ rtt_of link history
-  pub reports : (link : ℕ) → link < MAX_LINKS → entry_at l.reports link ≡ newest (times_each report_interval link history)
+  pub reports : (link : ℕ) → link < MAX_LINKS
+      → entry_at l.reports link ≡ newest (times_each report_interval link history)
   pub keepalives : (link : ℕ) → link < MAX_LINKS
       → entry_at l.keepalives link ≡ newest (times_each keepalive_interval link history)
 

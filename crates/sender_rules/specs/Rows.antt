@@ -13,11 +13,11 @@ packet number = record { number = number; timestamp = 0; strip = None; payload =
 abbrev pub sends : ℕ → ℕ → List Sending
 sends first count = map (λ number. First (packet number)) (range_with_len first count)
 
--- sequence numbers of 16 bits, and of 32, are asked for
+-- sequence numbers of 16 bits are asked for
 abbrev pub short : List ℕ → List AskedNumber
 short words = map (λ word. record { width = W16; word = word }) words
 
--- likewise of 32 bits
+-- sequence numbers of 32 bits are asked for
 abbrev pub long : List ℕ → List AskedNumber
 long words = map (λ word. record { width = W32; word = word }) words
 
