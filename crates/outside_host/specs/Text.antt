@@ -17,3 +17,7 @@ count_text row = row.name.now ++ (codes " " ++ decimal row.count)
 abbrev pub counts_text : List Count → List ℕ
 counts_text [] = []
 counts_text (row ∷ rest) = count_text row ++ flat_map (λ other. codes ", " ++ count_text other) rest
+
+-- the line that reports them
+abbrev pub report_text : List Count → List ℕ
+report_text counts = codes "rist: " ++ counts_text counts

@@ -33,3 +33,18 @@ impl<'a> Display for CountsText<'a> {
         Ok(())
     }
 }
+
+/// The line of the error output that reports counts.
+#[derive(Clone, Copy)]
+pub struct ReportText<'a>(pub &'a [Count]);
+
+impl<'a> Display for ReportText<'a> {
+    ghost use Rattle.std.specs.Prelude.{Some};
+    ghost use Rattle.outside_host.specs.Text.{report_text};
+
+    ghost output = { λ text. Some (report_text text.0.now) };
+
+    fn fmt<W: Write>(&self, f: &mut Formatter<W>) -> fmt::Result {
+        write!(f, "rist: {}", CountsText(self.0))
+    }
+}

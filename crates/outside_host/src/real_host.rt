@@ -3,9 +3,12 @@ ghost use Rattle.std.specs.Prelude.{◌≡◌, false, None, IfOk, OnErr};
 ghost use Rattle.outside_io.specs.Causes.{Rose};
 ghost use Rattle.outside_io.specs.Real.{silent, IsSourceNamed, IsSinkNamed, file_of};
 ghost use Rattle.outside_io.specs.Told.{IsEmpty};
-ghost use Rattle.outside_host.specs.Shelf.{nowhere, HasHostCause};
+ghost use Rattle.link_channels.specs.declared.channel.Channel.{Channel as ChannelValue};
+ghost use Rattle.outside_net.specs.Real.{knows_in_link, stated_in, IsOpenedAt};
+ghost use Rattle.outside_host.specs.RealHost.{untold, FailsAlone};
+ghost use Rattle.outside_host.specs.Shelf.{nowhere, HasHostCause, IsUnwritten};
 
-use crate::counts::CountsText;
+use crate::counts::ReportText;
 use crate::trouble::{Reason, Thing, Trouble};
 use crate::{Count, Host, HostBad};
 use libc::net::{POLLIN, poll};
@@ -145,6 +148,7 @@ where
 
     fn source(&mut self, name: &str) -> Result<Self::Input, HostBad>
         ensures cause { HasHostCause self.old.faults self.new.faults result }
+        ensures only { FailsAlone result }
         ensures named { IfOk result (λ source. IsSourceNamed name.now source) }
         // What it reads is taken down. Standard input is no file that could be told from others.
         ensures known { IfOk result (λ source. self.new.read ≡ file_of source) }
@@ -166,6 +170,7 @@ where
     fn sink(&mut self, name: &str) -> Result<Self::Output, HostBad>
         ensures fresh { IfOk result (λ _. IsEmpty silent) }
         ensures cause { HasHostCause self.old.faults self.new.faults result }
+        ensures only { FailsAlone result }
         ensures named { IfOk result (λ sink. IsSinkNamed name.now sink) }
         ensures stays { self.new.read ≡ self.old.read }
     {
@@ -185,12 +190,15 @@ where
         Ok(RealEntropy::new(self.rt))
     }
 
-    fn link(
-        &mut self,
-        spec: &LinkSpec,
-        role: Role,
-        profile: Profile,
-    ) -> Result<Self::Wire, HostBad> {
+    fn link(&mut self, spec: &LinkSpec, role: Role, profile: Profile) -> Result<Self::Wire, HostBad>
+        ensures fresh { IfOk result (λ _. IsUnwritten untold) }
+        ensures cause { HasHostCause self.old.faults self.new.faults result }
+        ensures only { FailsAlone result }
+        // It is opened as asked: at this address, in this role and profile.
+        ensures peers { IfOk result (λ link. (c : ChannelValue) → knows_in_link link c ≡ stated_in role profile c) }
+        ensures at { IfOk result (IsOpenedAt role profile spec.now) }
+        ensures stays { self.new.read ≡ self.old.read }
+    {
         match UdpLink::open(self.rt, spec, role, profile) {
             Ok(link) => Ok(link),
             Err(_) => {
@@ -200,7 +208,11 @@ where
         }
     }
 
-    fn clock(&mut self) -> Result<Self::Time, HostBad> {
+    fn clock(&mut self) -> Result<Self::Time, HostBad>
+        ensures cause { HasHostCause self.old.faults self.new.faults result }
+        ensures only { FailsAlone result }
+        ensures stays { self.new.read ≡ self.old.read }
+    {
         if let Some(clock) = &self.clock {
             return Ok(clock.with_same_start());
         }
@@ -230,9 +242,8 @@ where
 
     /// Writes them as a line to the error output.
     fn report(&mut self, counts: &[Count]) {
-        let counts = CountsText(counts);
         // A line that can't be written changes no answer.
-        let _ = eprintln!(self.rt; "rist: {counts}");
+        let _ = self.rt.eprintln(ReportText(counts));
     }
 }
 
@@ -243,7 +254,7 @@ fn why_no_link<R: Net>(rt: &R, spec: &LinkSpec, role: Role, profile: Profile) ->
         Role::Sends | Role::Forwards => [0; 4],
     };
     let control = match profile {
-        Profile::Simple => spec.port.saturating_add(1),
+        Profile::Simple => spec.control_port().unwrap_or(spec.port),
         Profile::Main => spec.port,
     };
     for port in [spec.port, control] {

@@ -1,6 +1,7 @@
 //! The counts that a host in memory was given last.
 ghost use Rattle.std.specs.Prelude.{◌≡◌, take};
 ghost use Rattle.outside_host.specs.Counts.{named};
+ghost use Rattle.outside_host.specs.declared.counts.TheConstants.{MAX_COUNTS as max_counts};
 
 use crate::counts::{Count, MAX_COUNTS};
 use std::marker::Model;
@@ -15,17 +16,18 @@ pub struct Report {
 impl Model for Report {
     ghost use Rattle.std.specs.Prelude.{◌≤◌, List, take};
     ghost use Rattle.outside_host.specs.Counts.{NamedCount, named};
+    ghost use Rattle.outside_host.specs.declared.counts.TheConstants.{MAX_COUNTS as max_counts};
 
     ghost Value = { List NamedCount };
 
     ghost view = { λ r. named (take r.length r.rows) };
 
-    ghost invariant = { λ r. r.length ≤ 16 };
+    ghost invariant = { λ r. r.length ≤ max_counts };
 }
 
 impl Report {
     pub fn of(counts: &[Count]) -> Report
-        ensures value { result ≡ named (take 16 counts.now) }
+        ensures value { result ≡ named (take max_counts counts.now) }
     {
         let none = Count { name: "", count: 0 };
         let mut rows = [none; MAX_COUNTS];

@@ -10,3 +10,9 @@ sink-tells g x x' x'' x3 x4 c = record { ok = λ told. nothing_told told; fresh 
 
 pub back_source-tells : goal.back_source-tells
 back_source-tells g x x' x'' x3 x4 c = record { state = λ told. nothing_told told; same = λ told. nothing_told told; cause = c.ensures.cause }
+
+pub link-tells : goal.link-tells
+link-tells g x x' x'' x3 x4 c = record { ok = λ told. nothing_told told; fresh = c.ensures.fresh; within = λ told. nothing_told told; err = λ told. nothing_told told; same = λ told. nothing_told told; cause = c.ensures.cause }
+
+pub clock-tells : goal.clock-tells
+clock-tells g x x' x'' x3 x4 c = record { ok = λ told. nothing_told told; next = λ told. nothing_told told; within = λ told. nothing_told told; err = λ told. nothing_told told; err_next = λ told. nothing_told told; same = λ told. nothing_told told; cause = c.ensures.cause }
