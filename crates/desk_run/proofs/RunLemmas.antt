@@ -1,5 +1,5 @@
 -- What workers tell, by their traces' lists.
-use Rattle.std.proofs.Common.{◌≡◌, ◌∷◌, ◌++◌, ◌<◌, ◌≤◌, ◌∙◌, ◌⊎◌, inl, inr, ℕ, List, [], length, map, reverse, Bool, true, false, Option, None, Some, is_some, unwrap_or, refl, ap, sym, subst, slice_get}
+use Rattle.std.proofs.Common.{◌≡◌, ◌∷◌, ◌++◌, ◌<◌, ◌≤◌, ◌∙◌, ◌⊎◌, inl, inr, ℕ, suc, arith, List, [], length, map, reverse, Bool, true, false, Option, None, Some, is_some, unwrap_or, refl, ap, sym, subst, slice_get}
 use Rattle.std.specs.Prelude.{slice_index_or, ◌||◌, ◌&&◌}
 use Rattle.std.specs.List.{All}
 use Rattle.std.specs.Option.{option_map}
@@ -10,13 +10,14 @@ use Rattle.rist_ends.specs.declared.counts.Counts.{Counts}
 use Rattle.rist_ends.specs.Counts.{AreCountsOf}
 use Rattle.rist_ends.specs.Receiver.{settings_of}
 use Rattle.rist_desk.specs.declared.ended.Ended.{Ended}
+use Rattle.rist_desk.specs.declared.ended.Ended.TheVariants as ends
 use Rattle.rist_desk.specs.declared.step.Step.{Step}
 use Rattle.rist_desk.specs.declared.worker.ServingLimits.{ServingLimits}
 use Rattle.rist_desk.specs.declared.worker.Worker.{Worker}
 use Rattle.rist_desk.specs.Desk.{DeskState, Given, StandsFor}
 use Rattle.rist_desk.specs.Legal.{phase_of}
 use Rattle.outside_net.specs.Links.{LinkTells}
-use Rattle.rist_desk.specs.Serving.{ServesOn, TraceTells}
+use Rattle.rist_desk.specs.Serving.{IsKeyed, ServesOn, TraceTells}
 use Rattle.rist_desk.specs.Steps.{history_of}
 use Rattle.rist_desk.proofs.ListLemmas.{one_more_told, reverse_more}
 use Rattle.reorder_buffer.specs.declared.phase.Phase.TheVariants as phases
@@ -27,8 +28,8 @@ use Rattle.desk_run.specs.declared.ending.Ending.TheVariants as endings
 use Rattle.rist_compare.specs.declared.tear.Tear.{Tear}
 use Rattle.desk_run.proofs.EndLemmas.{whole_is_exact, whole_by_epochs}
 use Rattle.desk_run.specs.Receiving.{own_lists, the_end, HasReceived, IsTorn, IsWhole}
-use Rattle.desk_run.specs.Run.{told_lists, EndsAs, IsExact, IsNewWorker}
-use Rattle.desk_run.specs.Setup.{Setup, IsSeat, no_steps}
+use Rattle.desk_run.specs.Run.{told_lists, EndsAs, IsExact, IsNewWorker, Outside, Receives}
+use Rattle.desk_run.specs.Setup.{Setup, IsSeat, given_to, no_steps}
 use Rattle.desk_run.specs.Workers.{ToldTrace, told_trace, told_by, link_of, clock_of, seat_of, is_unended}
 
 pub links_told : {L C U : Type 0} (tells : TraceTells U) (ws : List (Worker L C U)) → map link_of (map (told_by tells) ws) ≡ map link_of ws
@@ -72,6 +73,7 @@ serves_told given moments links tells limits link was is s = record {
     failed_cause = s.made.failed_cause;
   };
   full = s.full;
+  spent = s.spent;
 }
 
 -- each worker was served, as far as it tells
@@ -173,3 +175,33 @@ ends_as tells endings.LinksDown given desk ws counts exact finds =
 ends_as tells endings.Done given desk ws counts exact finds =
     let f = finds.done refl in
     (sound_told tells ws f.0, all_told is_link_failed tells ws ∙ f.1, subst (λ own. IsExact given desk own counts) (sym (lists_told tells ws)) (exact f.2))
+
+-- ---- pairs are wanting only where there is a sealer
+
+spent_is : (end : Option Ended) → is_spent end ≡ true → end ≡ Some ends.Spent
+spent_is None is = absurd (cc (is))
+spent_is (Some ends.End) is = absurd (cc (is))
+spent_is (Some ends.Turns) is = absurd (cc (is))
+spent_is (Some ends.Idle) is = absurd (cc (is))
+spent_is (Some ends.Failed) is = absurd (cc (is))
+spent_is (Some ends.Stopped) is = absurd (cc (is))
+spent_is (Some ends.WriteFault) is = absurd (cc (is))
+spent_is (Some ends.Spent) is = refl
+spent_is (Some ends.TraceFull) is = absurd (cc (is))
+
+-- of as many workers before and after, one ended so
+one_spent : {L C : Type 0} (P : Type 0) (were are : List (Worker L C ToldTrace)) → length are ≡ length were
+    → ((link : ℕ) (before after : Worker L C ToldTrace) → slice_get were link ≡ Some before → slice_get are link ≡ Some after → after.end ≡ Some ends.Spent → P)
+    → any_worker is_spent are ≡ true → P
+one_spent P were [] many each any = absurd (cc (any))
+one_spent P [] (a ∷ are) many each any = absurd (omega (arith, many))
+one_spent {L} {C} P (b ∷ were) (a ∷ are) many each any = by_first (is_spent a.end) refl any
+  where
+    by_first : (first : Bool) → is_spent a.end ≡ first → (first || any_worker is_spent are) ≡ true → P
+    by_first true is some = each 0 b a refl refl (spent_is a.end is)
+    by_first false is some = one_spent P were are (omega (arith, many)) (λ link before after. each (suc link) before after) some
+
+pub keyed_where_spent : {L C : Type 0} (moments : C → Option (ℕ → ℕ)) (tells : LinkTells L) (s : Setup) (limits : ServingLimits) (was is : Outside L C) (counts : Counts)
+    → Receives moments tells s limits was is counts endings.Spent → IsKeyed (given_to s was.contents was.faults)
+keyed_where_spent moments tells s limits was is counts run =
+    one_spent (IsKeyed (given_to s was.contents was.faults)) run.were run.are run.as_many (λ link before after had has. (run.served link before after had has).spent) run.ends

@@ -1,5 +1,6 @@
 -- What a worker did, by what its objects tell.
-use Rattle.std.specs.Prelude.{◌≡◌, ◌≤◌, ◌*◌, ℕ, List, Option, None, Some}
+use Rattle.std.specs.Prelude.{◌≡◌, ◌≤◌, ◌*◌, ℕ, List, Bool, true, Option, None, Some, is_some}
+use Rattle.link_channels.specs.declared.channel.Channel.{Channel}
 use Rattle.outside_io.specs.Causes.{RoseWhere}
 use Rattle.outside_net.specs.Links.{LinkTells, Answer}
 use Rattle.rist_wire.specs.declared.session.Session.{Session}
@@ -15,10 +16,11 @@ use Rattle.rist_desk.specs.Inside.Going.{IsTask, is_link_end, is_link_failure}
 
 -- this is what a worker is given, where its clock and its link tell
 pub record IsFeed (f : Feed) (session : Session) (place : ℕ) (limits : ServingLimits) (moments : Option (ℕ → ℕ))
-    (answers : Option (ℕ → Answer)) : Type 0 where
+    (answers : Option (ℕ → Answer)) (knows : Channel → Bool) : Type 0 where
   pub task : IsTask f session place limits
   pub moments_are : moments ≡ Some f.moments
   pub answers_are : answers ≡ Some f.answers
+  pub knows_are : knows ≡ f.knows
 
 -- The worker at this place ended: its own list has gained the steps of its turns, and its link what they made. Of a
 -- named desk that tells its steps, that is what the rules make.
@@ -26,8 +28,9 @@ pub record ServesBy {L C U : Type 0} (desk : Option Given) (moments : C → Opti
     (list : U → Option (List Step)) (limits : ServingLimits) (place : ℕ) (old new : Worker L C U) : Type 0 where
   pub end : Ended
   pub ended : new.end ≡ Some end
-  pub served : (f : Feed) → IsFeed f old.opener place limits (moments old.clock) (tells.reads old.link)
-      → IsServed desk f (tells.knows old.link) (tells.knows new.link) end (moments new.clock) (tells.reads new.link)
+  pub served : (f : Feed)
+      → IsFeed f old.opener place limits (moments old.clock) (tells.reads old.link) (tells.knows old.link)
+      → IsServed desk f (tells.knows new.link) end (moments new.clock) (tells.reads new.link)
       (holds (list old.trace) (tells.taken old.link)) (holds (list new.trace) (tells.taken new.link))
   pub session : new.opener ≡ old.opener
   -- End and Failed come exactly where the link's count rose
@@ -44,11 +47,17 @@ pub record TraceTells (U : Type 0) : Type 0 where
   pub list : U → Option (List Step)
   pub limit : U → Option ℕ
 
--- so on this desk; and where it ended since a trace was full, that is its own, or the desk's was
+-- a desk that tells its steps was made with a sealer
+abbrev pub IsKeyed : Given → Type 0
+IsKeyed given = given.tells_steps ≡ true → is_some given.shutter.sealer ≡ true
+
+-- So on this desk. Where the worker ended since a trace was full, that is its own, or the desk's was; and where it ended
+-- since pairs were wanting, the desk has a sealer.
 pub record ServesOn {L C U : Type 0} (given : Given) (moments : C → Option (ℕ → ℕ)) (tells : LinkTells L)
     (trace : TraceTells U) (limits : ServingLimits) (place : ℕ) (old new : Worker L C U) : Type 0 where
   pub made : ServesBy (Some given) moments tells trace.list limits place old new
   pub full : new.end ≡ Some ends.TraceFull → LacksRoom given (trace.limit new.trace) (trace.list new.trace)
+  pub spent : new.end ≡ Some ends.Spent → IsKeyed given
 
 -- a worker at this place may make all its turns, of two steps at most, on what is shared
 pub record MayServe {S L C U : Type 0} (is_of : S → ℕ → U → Type 0) (left : U → ℕ) (shared : S) (limits : ServingLimits)

@@ -6,7 +6,7 @@ ghost use Rattle.rist_desk.specs.Turns.{is_tick_due, quiet_since, is_idle};
 use outside_net::Got;
 
 /// How long after a tick the next one is due, in microseconds (this profile).
-pub const TICK_INTERVAL: u64 = 5_000;
+const TICK_INTERVAL: u64 = 5_000;
 
 /// A turn of a worker.
 #[derive(Clone, Copy)]

@@ -5,7 +5,7 @@ ghost use Rattle.outside_io.specs.Causes.{RoseWhere};
 ghost use Rattle.rist_desk.specs.Turns.{Feed, IsServed};
 ghost use Rattle.rist_desk.specs.Sending.{holds, LacksRoom};
 ghost use Rattle.outside_net.specs.Links.{LinkTells};
-ghost use Rattle.rist_desk.specs.Serving.{IsFeed, Serves, ServesOn, TraceTells, MayServe, Leaves};
+ghost use Rattle.rist_desk.specs.Serving.{IsFeed, IsKeyed, Serves, ServesOn, TraceTells, MayServe, Leaves};
 ghost use Rattle.rist_desk.specs.Inside.Going.{is_link_end, is_link_failure};
 
 use crate::access::Access;
@@ -34,13 +34,14 @@ fn all_turns<S: Shares<U>, U, L: Link, C: Clock, R: Wait>(
     requires left { 2 * limits.now.turns ≤ S.left worker.old.trace }
     ensures own { S.is_of desk.now place worker.new.trace }
     ensures served { (f : Feed) → IsFeed f worker.old.opener place limits.now (C.moments worker.old.clock)
-        (L.reads worker.old.link)
-        → IsServed (Some S.given) f (L.knows worker.old.link) (L.knows worker.new.link) result
+        (L.reads worker.old.link) (L.knows worker.old.link)
+        → IsServed (Some S.given) f (L.knows worker.new.link) result
         (C.moments worker.new.clock) (L.reads worker.new.link)
         (holds (S.list worker.old.trace) (L.taken worker.old.link))
         (holds (S.list worker.new.trace) (L.taken worker.new.link)) }
     ensures session { worker.new.opener ≡ worker.old.opener }
     ensures full { result ≡ Ended.TraceFull → LacksRoom S.given (S.limit worker.new.trace) (S.list worker.new.trace) }
+    ensures spent { result ≡ Ended.Spent → IsKeyed S.given }
     ensures stopped { result ≡ Ended.Stopped → S.broken worker.new.trace }
     ensures fault { result ≡ Ended.WriteFault → S.broken worker.new.trace }
     ensures ends { RoseWhere (is_link_end (Some result)) (L.ends worker.old.link) (L.ends worker.new.link) }

@@ -9,7 +9,8 @@ ghost use Rattle.rist_ends.specs.Told.{IsFit, IsNoEnd};
 ghost use Rattle.rist_wire.specs.Item.{item_of};
 ghost use Rattle.rist_desk.specs.Items.{told_plan, item_plan, datagram_plan};
 ghost use Rattle.rist_desk.specs.Turns.{is_tick_due, tick_steps, ticked_after};
-ghost use Rattle.rist_desk.specs.Sending.{Goes, CutShort, LacksRoom, IsKnownIn, holds, written, written_where};
+ghost use Rattle.rist_desk.specs.Sending.{Goes, CutShort, LacksRoom, holds, written, written_where};
+ghost use Rattle.rist_desk.specs.Serving.{IsKeyed};
 ghost use Rattle.rist_desk.specs.Inside.Going.{KeepsRest};
 ghost use Rattle.rist_desk.specs.Inside.Links.{IsKept, IsKeptBy, IsInside, SentPart, has_link_failed, peers_by};
 
@@ -56,15 +57,13 @@ fn make_step<S: Shares<U>, U, L: Link, R: Wait>(
     ensures desk { access.new.desk ≡ access.old.desk }
     ensures own { S.is_of access.old.desk.now told.now.link own.new }
     ensures left { S.left own.old ≤ S.left own.new + 1 }
-    ensures ok { OnOk result (Goes (Some S.given) (L.knows link.old) (holds (S.list own.old) (L.taken link.old))
-        (holds (S.list own.new) (L.taken link.new))
-        (told_plan told.now ∷ [])) }
-    ensures err { IfErr result (λ end. CutShort (Some S.given) (L.knows link.old) end
-        (holds (S.list own.old) (L.taken link.old))
-        (holds (S.list own.new) (L.taken link.new))
-        (told_plan told.now ∷ [])) }
+    ensures ok { OnOk result (Goes (Some S.given) (holds (S.list own.old) (L.taken link.old))
+        (holds (S.list own.new) (L.taken link.new)) (told_plan (L.knows link.old) told.now ∷ [])) }
+    ensures err { IfErr result (λ end. CutShort (Some S.given) end (holds (S.list own.old) (L.taken link.old))
+        (holds (S.list own.new) (L.taken link.new)) (told_plan (L.knows link.old) told.now ∷ [])) }
     ensures inside { IfErr result IsInside }
     ensures full { result ≡ Err Ended.TraceFull → LacksRoom S.given (S.limit own.new) (S.list own.new) }
+    ensures spent { result ≡ Err Ended.Spent → IsKeyed S.given }
     ensures stopped { result ≡ Err Ended.Stopped → S.broken own.new }
     ensures fault { result ≡ Err Ended.WriteFault → S.broken own.new }
     ensures same { IsKept L.reads L.ends L.knows link.old link.new }
@@ -102,13 +101,15 @@ fn step_item<S: Shares<U>, U, L: Link, R: Wait>(
     ensures desk { access.new.desk ≡ access.old.desk }
     ensures own { S.is_of access.old.desk.now turn.place own.new }
     ensures left { S.left own.old ≤ S.left own.new + 1 }
-    ensures ok { OnOk result (Goes (Some S.given) (L.knows link.old) (holds (S.list own.old) (L.taken link.old))
-        (holds (S.list own.new) (L.taken link.new)) (item_plan turn.place turn.us item.now ∷ [])) }
-    ensures err { IfErr result (λ end. CutShort (Some S.given) (L.knows link.old) end
-        (holds (S.list own.old) (L.taken link.old))
-        (holds (S.list own.new) (L.taken link.new)) (item_plan turn.place turn.us item.now ∷ [])) }
+    ensures ok { OnOk result (Goes (Some S.given) (holds (S.list own.old) (L.taken link.old))
+        (holds (S.list own.new) (L.taken link.new))
+        (item_plan (L.knows link.old) turn.place turn.us item.now ∷ [])) }
+    ensures err { IfErr result (λ end. CutShort (Some S.given) end (holds (S.list own.old) (L.taken link.old))
+        (holds (S.list own.new) (L.taken link.new))
+        (item_plan (L.knows link.old) turn.place turn.us item.now ∷ [])) }
     ensures inside { IfErr result IsInside }
     ensures full { result ≡ Err Ended.TraceFull → LacksRoom S.given (S.limit own.new) (S.list own.new) }
+    ensures spent { result ≡ Err Ended.Spent → IsKeyed S.given }
     ensures stopped { result ≡ Err Ended.Stopped → S.broken own.new }
     ensures fault { result ≡ Err Ended.WriteFault → S.broken own.new }
     ensures same { IsKept L.reads L.ends L.knows link.old link.new }
@@ -149,21 +150,22 @@ pub fn step_datagram<S: Shares<U>, U, L: Link, C, R: Wait>(
     requires place { turn.place < MAX_LINKS }
     requires own { S.is_of access.old.desk.now turn.place worker.old.trace }
     requires left { 1 ≤ S.left worker.old.trace }
-    requires grown { IsKnownIn (L.knew worker.old.link) (L.knows worker.old.link) }
     ensures desk { access.new.desk ≡ access.old.desk }
     ensures own { S.is_of access.old.desk.now turn.place worker.new.trace }
     ensures left { S.left worker.old.trace ≤ S.left worker.new.trace + 1 }
-    ensures ok { OnOk result (Goes (Some S.given) (L.knew worker.old.link)
+    ensures ok { OnOk result (Goes (Some S.given) (holds (S.list worker.old.trace) (L.taken worker.old.link))
+        (holds (S.list worker.new.trace) (L.taken worker.new.link))
+        (datagram_plan (peers_by (item_of worker.old.opener channel octets.old) (L.knew worker.old.link)
+        (L.knows worker.old.link)) worker.old.opener turn.place turn.us channel octets.old ∷ [])) }
+    ensures err { IfErr result (λ end. CutShort (Some S.given) end
         (holds (S.list worker.old.trace) (L.taken worker.old.link))
         (holds (S.list worker.new.trace) (L.taken worker.new.link))
-        (datagram_plan worker.old.opener turn.place turn.us channel octets.old ∷ [])) }
-    ensures err { IfErr result (λ end. CutShort (Some S.given) (L.knew worker.old.link) end
-        (holds (S.list worker.old.trace) (L.taken worker.old.link))
-        (holds (S.list worker.new.trace) (L.taken worker.new.link))
-        (datagram_plan worker.old.opener turn.place turn.us channel octets.old ∷ [])) }
+        (datagram_plan (peers_by (item_of worker.old.opener channel octets.old) (L.knew worker.old.link)
+        (L.knows worker.old.link)) worker.old.opener turn.place turn.us channel octets.old ∷ [])) }
     ensures inside { IfErr result IsInside }
     ensures full { result ≡ Err Ended.TraceFull
         → LacksRoom S.given (S.limit worker.new.trace) (S.list worker.new.trace) }
+    ensures spent { result ≡ Err Ended.Spent → IsKeyed S.given }
     ensures stopped { result ≡ Err Ended.Stopped → S.broken worker.new.trace }
     ensures fault { result ≡ Err Ended.WriteFault → S.broken worker.new.trace }
     ensures same { IsKeptBy L.reads L.ends L.knew L.knows (item_of worker.old.opener channel octets.old)
@@ -190,13 +192,15 @@ pub fn step_tick<S: Shares<U>, U, L: Link, R: Wait>(
     ensures desk { access.new.desk ≡ access.old.desk }
     ensures own { S.is_of access.old.desk.now turn.place own.new }
     ensures left { S.left own.old ≤ S.left own.new + 1 }
-    ensures ok { OnOk result (Goes (Some S.given) (L.knows link.old) (holds (S.list own.old) (L.taken link.old))
-        (holds (S.list own.new) (L.taken link.new)) (tick_steps turn.place turn.us (is_tick_due ticked.old turn.us))) }
-    ensures err { IfErr result (λ end. CutShort (Some S.given) (L.knows link.old) end
-        (holds (S.list own.old) (L.taken link.old))
-        (holds (S.list own.new) (L.taken link.new)) (tick_steps turn.place turn.us (is_tick_due ticked.old turn.us))) }
+    ensures ok { OnOk result (Goes (Some S.given) (holds (S.list own.old) (L.taken link.old))
+        (holds (S.list own.new) (L.taken link.new))
+        (tick_steps (L.knows link.old) turn.place turn.us (is_tick_due ticked.old turn.us))) }
+    ensures err { IfErr result (λ end. CutShort (Some S.given) end (holds (S.list own.old) (L.taken link.old))
+        (holds (S.list own.new) (L.taken link.new))
+        (tick_steps (L.knows link.old) turn.place turn.us (is_tick_due ticked.old turn.us))) }
     ensures inside { IfErr result IsInside }
     ensures full { result ≡ Err Ended.TraceFull → LacksRoom S.given (S.limit own.new) (S.list own.new) }
+    ensures spent { result ≡ Err Ended.Spent → IsKeyed S.given }
     ensures stopped { result ≡ Err Ended.Stopped → S.broken own.new }
     ensures fault { result ≡ Err Ended.WriteFault → S.broken own.new }
     ensures same { IsKept L.reads L.ends L.knows link.old link.new }

@@ -1,13 +1,13 @@
 //! One turn of a worker.
 ghost use Rattle.std.specs.Prelude.{◌≡◌, ◌<◌, ◌≤◌, ◌+◌, ℕ, Bool, nat_le, false, OnOk, IfErr, Some, Err};
 ghost use Rattle.link_channels.specs.declared.bounds.TheConstants.{MAX_LINKS};
-ghost use Rattle.link_channels.specs.declared.channel.Channel.{Channel};
 ghost use Rattle.outside_io.specs.Causes.{RoseWhere};
 ghost use Rattle.outside_net.specs.Links.{Gave, Quiet};
 ghost use Rattle.rist_desk.specs.Turns.{Feed, is_tick_due, tick_steps, turn_steps, ticked_after, end_by, IsServed};
 ghost use Rattle.rist_wire.specs.Item.{item_of};
-ghost use Rattle.rist_desk.specs.Sending.{Holds, holds, Goes, TurnEnds, LacksRoom, IsKnownIn};
-ghost use Rattle.rist_desk.specs.Inside.Links.{IsKept, IsKeptBy, has_link_failed};
+ghost use Rattle.rist_desk.specs.Sending.{Holds, holds, Goes, TurnEnds, LacksRoom};
+ghost use Rattle.rist_desk.specs.Serving.{IsKeyed};
+ghost use Rattle.rist_desk.specs.Inside.Links.{IsKept, IsKeptBy, has_link_failed, peers_by};
 ghost use Rattle.rist_desk.specs.Inside.Going.{IsTask, IsGoing, KeepsRest, has_link_ended};
 
 use crate::access::Access;
@@ -32,22 +32,22 @@ fn datagram_turn<S: Shares<U>, U, L: Link, C, R: Wait>(
     requires place { turn.place < MAX_LINKS }
     requires own { S.is_of access.old.desk.now turn.place worker.old.trace }
     requires left { 2 ≤ S.left worker.old.trace }
-    requires grown { IsKnownIn (L.knew worker.old.link) (L.knows worker.old.link) }
     ensures desk { access.new.desk ≡ access.old.desk }
     ensures own { S.is_of access.old.desk.now turn.place worker.new.trace }
     ensures left { S.left worker.old.trace ≤ S.left worker.new.trace + 2 }
-    ensures gains { OnOk result (Goes (Some S.given) (L.knew worker.old.link)
-        (holds (S.list worker.old.trace) (L.taken worker.old.link))
+    ensures gains { OnOk result (Goes (Some S.given) (holds (S.list worker.old.trace) (L.taken worker.old.link))
         (holds (S.list worker.new.trace) (L.taken worker.new.link))
-        (turn_steps worker.old.opener turn.place ticked.old turn.us
+        (turn_steps (peers_by (item_of worker.old.opener channel octets.old) (L.knew worker.old.link)
+        (L.knows worker.old.link)) worker.old.opener turn.place ticked.old turn.us
         (Gave (record { channel = channel; octets = octets.old })))) }
     ensures going { OnOk result (turn.last ≡ false) }
     ensures ticked { OnOk result (ticked.new ≡ ticked_after ticked.old turn.us) }
-    ensures ended { (idle : Bool) → IfErr result (λ end. TurnEnds (Some S.given) (L.knew worker.old.link) end
+    ensures ended { (idle : Bool) → IfErr result (λ end. TurnEnds (Some S.given) end
         (end_by (Gave (record { channel = channel; octets = octets.old })) turn.last idle)
         (holds (S.list worker.old.trace) (L.taken worker.old.link))
         (holds (S.list worker.new.trace) (L.taken worker.new.link))
-        (turn_steps worker.old.opener turn.place ticked.old turn.us
+        (turn_steps (peers_by (item_of worker.old.opener channel octets.old) (L.knew worker.old.link)
+        (L.knows worker.old.link)) worker.old.opener turn.place ticked.old turn.us
         (Gave (record { channel = channel; octets = octets.old })))) }
     ensures same { IsKeptBy L.reads L.ends L.knew L.knows (item_of worker.old.opener channel octets.old)
         worker.old.link worker.new.link }
@@ -55,6 +55,7 @@ fn datagram_turn<S: Shares<U>, U, L: Link, C, R: Wait>(
     ensures inside { has_link_ended result ≡ false }
     ensures full { result ≡ Err Ended.TraceFull
         → LacksRoom S.given (S.limit worker.new.trace) (S.list worker.new.trace) }
+    ensures spent { result ≡ Err Ended.Spent → IsKeyed S.given }
     ensures stopped { result ≡ Err Ended.Stopped → S.broken worker.new.trace }
     ensures fault { result ≡ Err Ended.WriteFault → S.broken worker.new.trace }
     ensures cause { RoseWhere (has_link_failed result) (L.faults worker.old.link) (L.faults worker.new.link) }
@@ -78,22 +79,21 @@ fn quiet_turn<S: Shares<U>, U, L: Link, C, R: Wait>(
     ensures desk { access.new.desk ≡ access.old.desk }
     ensures own { S.is_of access.old.desk.now turn.place worker.new.trace }
     ensures left { S.left worker.old.trace ≤ S.left worker.new.trace + 2 }
-    ensures gains { OnOk result (Goes (Some S.given) (L.knows worker.old.link)
-        (holds (S.list worker.old.trace) (L.taken worker.old.link))
+    ensures gains { OnOk result (Goes (Some S.given) (holds (S.list worker.old.trace) (L.taken worker.old.link))
         (holds (S.list worker.new.trace) (L.taken worker.new.link))
-        (tick_steps turn.place turn.us (is_tick_due ticked.old turn.us))) }
+        (tick_steps (L.knows worker.old.link) turn.place turn.us (is_tick_due ticked.old turn.us))) }
     ensures going { OnOk result ((turn.last ≡ false) × (idle ≡ false)) }
     ensures ticked { OnOk result (ticked.new ≡ ticked_after ticked.old turn.us) }
-    ensures ended { IfErr result (λ end. TurnEnds (Some S.given) (L.knows worker.old.link) end
-        (end_by Quiet turn.last idle)
+    ensures ended { IfErr result (λ end. TurnEnds (Some S.given) end (end_by Quiet turn.last idle)
         (holds (S.list worker.old.trace) (L.taken worker.old.link))
         (holds (S.list worker.new.trace) (L.taken worker.new.link))
-        (tick_steps turn.place turn.us (is_tick_due ticked.old turn.us))) }
+        (tick_steps (L.knows worker.old.link) turn.place turn.us (is_tick_due ticked.old turn.us))) }
     ensures same { IsKept L.reads L.ends L.knows worker.old.link worker.new.link }
     ensures rest { KeepsRest worker.old worker.new }
     ensures inside { has_link_ended result ≡ false }
     ensures full { result ≡ Err Ended.TraceFull
         → LacksRoom S.given (S.limit worker.new.trace) (S.list worker.new.trace) }
+    ensures spent { result ≡ Err Ended.Spent → IsKeyed S.given }
     ensures stopped { result ≡ Err Ended.Stopped → S.broken worker.new.trace }
     ensures fault { result ≡ Err Ended.WriteFault → S.broken worker.new.trace }
     ensures cause { RoseWhere (has_link_failed result) (L.faults worker.old.link) (L.faults worker.new.link) }
@@ -120,25 +120,26 @@ pub fn make_turn<S: Shares<U>, U, L: Link, C: Clock, R: Wait>(
     ensures desk { access.new.desk ≡ access.old.desk }
     ensures own { S.is_of access.old.desk.now place worker.new.trace }
     ensures left { S.left worker.old.trace ≤ S.left worker.new.trace + 2 }
-    ensures going { OnOk result ((f : Feed) (n : ℕ) (knows : Channel → Bool) (first : Holds)
+    ensures going { OnOk result ((f : Feed) (n : ℕ) (first : Holds)
         → IsTask f worker.old.opener place limits.now → last ≡ nat_le f.turns (n + 1)
-        → IsGoing (Some S.given) f n knows (L.knows worker.old.link) (C.moments worker.old.clock)
+        → IsGoing (Some S.given) f n (L.knows worker.old.link) (C.moments worker.old.clock)
         (L.reads worker.old.link)
         first (holds (S.list worker.old.trace) (L.taken worker.old.link)) pace.old.ticked pace.old.since
-        → IsGoing (Some S.given) f (n + 1) knows (L.knows worker.new.link) (C.moments worker.new.clock)
+        → IsGoing (Some S.given) f (n + 1) (L.knows worker.new.link) (C.moments worker.new.clock)
         (L.reads worker.new.link)
         first (holds (S.list worker.new.trace) (L.taken worker.new.link)) pace.new.ticked pace.new.since) }
-    ensures ended { IfErr result (λ end. (f : Feed) (n : ℕ) (knows : Channel → Bool) (first : Holds)
+    ensures ended { IfErr result (λ end. (f : Feed) (n : ℕ) (first : Holds)
         → IsTask f worker.old.opener place limits.now → last ≡ nat_le f.turns (n + 1)
-        → IsGoing (Some S.given) f n knows (L.knows worker.old.link) (C.moments worker.old.clock)
+        → IsGoing (Some S.given) f n (L.knows worker.old.link) (C.moments worker.old.clock)
         (L.reads worker.old.link)
         first (holds (S.list worker.old.trace) (L.taken worker.old.link)) pace.old.ticked pace.old.since
-        → IsServed (Some S.given) f knows (L.knows worker.new.link) end (C.moments worker.new.clock)
+        → IsServed (Some S.given) f (L.knows worker.new.link) end (C.moments worker.new.clock)
         (L.reads worker.new.link)
         first (holds (S.list worker.new.trace) (L.taken worker.new.link))) }
     ensures more { OnOk result (last ≡ false) }
     ensures full { result ≡ Err Ended.TraceFull
         → LacksRoom S.given (S.limit worker.new.trace) (S.list worker.new.trace) }
+    ensures spent { result ≡ Err Ended.Spent → IsKeyed S.given }
     ensures stopped { result ≡ Err Ended.Stopped → S.broken worker.new.trace }
     ensures fault { result ≡ Err Ended.WriteFault → S.broken worker.new.trace }
     ensures session { worker.new.opener ≡ worker.old.opener }

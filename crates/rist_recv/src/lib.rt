@@ -3,7 +3,6 @@
 #![tactic(auto)]
 
 mod in_turns;
-pub mod laws;
 mod receiving;
 mod running;
 mod text;

@@ -15,8 +15,8 @@ invariant-turns g l = record {
   session : l.worker.opener ≡ l.initial.worker.opener;
   ends : g.L.Link.ends l.worker.link ≡ g.L.Link.ends l.initial.worker.link;
   faults : g.L.Link.faults l.worker.link ≡ g.L.Link.faults l.initial.worker.link;
-  going : (f : Feed) → IsFeed f l.initial.worker.opener l.place l.limits (g.C.Clock.moments l.initial.worker.clock) (g.L.Link.reads l.initial.worker.link)
-      → IsGoing (Some g.S.Shares.given) f l.made (g.L.Link.knows l.initial.worker.link) (g.L.Link.knows l.worker.link) (g.C.Clock.moments l.worker.clock) (g.L.Link.reads l.worker.link)
+  going : (f : Feed) → IsFeed f l.initial.worker.opener l.place l.limits (g.C.Clock.moments l.initial.worker.clock) (g.L.Link.reads l.initial.worker.link) (g.L.Link.knows l.initial.worker.link)
+      → IsGoing (Some g.S.Shares.given) f l.made (g.L.Link.knows l.worker.link) (g.C.Clock.moments l.worker.clock) (g.L.Link.reads l.worker.link)
       (holds (g.S.Shares.list l.initial.worker.trace) (g.L.Link.taken l.initial.worker.link)) (holds (g.S.Shares.list l.worker.trace) (g.L.Link.taken l.worker.link)) l.pace.ticked l.pace.since;
 }
 
