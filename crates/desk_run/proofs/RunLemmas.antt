@@ -195,11 +195,12 @@ one_spent : {L C : Type 0} (P : Type 0) (were are : List (Worker L C ToldTrace))
     → any_worker is_spent are ≡ true → P
 one_spent P were [] many each any = absurd (cc (any))
 one_spent P [] (a ∷ are) many each any = absurd (omega (arith, many))
-one_spent {L} {C} P (b ∷ were) (a ∷ are) many each any = by_first (is_spent a.end) refl any
+one_spent {L} {C} P (b ∷ were) (a ∷ are) many each any =
+    by_first (is_spent a.end) refl any (λ some. one_spent P were are (omega (arith, many)) (λ link before after. each (suc link) before after) some)
   where
-    by_first : (first : Bool) → is_spent a.end ≡ first → (first || any_worker is_spent are) ≡ true → P
-    by_first true is some = each 0 b a refl refl (spent_is a.end is)
-    by_first false is some = one_spent P were are (omega (arith, many)) (λ link before after. each (suc link) before after) some
+    by_first : (first : Bool) → is_spent a.end ≡ first → (first || any_worker is_spent are) ≡ true → (any_worker is_spent are ≡ true → P) → P
+    by_first true is some rest = each 0 b a refl refl (spent_is a.end is)
+    by_first false is some rest = rest some
 
 pub keyed_where_spent : {L C : Type 0} (moments : C → Option (ℕ → ℕ)) (tells : LinkTells L) (s : Setup) (limits : ServingLimits) (was is : Outside L C) (counts : Counts)
     → Receives moments tells s limits was is counts endings.Spent → IsKeyed (given_to s was.contents was.faults)
