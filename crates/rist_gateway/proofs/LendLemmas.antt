@@ -8,6 +8,7 @@ use Rattle.rist_gateway.specs.declared.side_worker.SideWorker.{SideWorker}
 use Rattle.rist_gateway.specs.Workers.{LookedAt, SidesTell, side_clock, side_workers}
 use Rattle.rist_gateway.specs.Inside.Sides.{LookedWith, seated_sides, sending_part, sending_parts, without_pass}
 use Rattle.rist_gateway.specs.Sides.{ServesSide}
+use Rattle.rist_desk.specs.declared.beside.Side.{Side}
 use Rattle.rist_desk.specs.declared.worker.ServingLimits.{ServingLimits}
 use Rattle.rist_gateway.proofs.GatherLemmas.{last_same, reverse_twice}
 
@@ -137,12 +138,12 @@ pub clocks_told : {D P : Type 0} (sides : List (SideWorker D P)) → map side_cl
 clocks_told [] = refl
 clocks_told (s ∷ sides) = ap (λ l. s.clock ∷ l) (clocks_told sides)
 
-side_told : {D P : Type 0} (moments : D → Option (ℕ → ℕ)) (limits : ServingLimits) (old new : SideWorker D P) → ServesSide moments limits old new → ServesSide moments limits (without_pass old) (without_pass new)
-side_told moments limits old new s = record { end = s.end; ended = s.ended; link = s.link; served = s.served }
+side_told : {D P : Type 0} (looks : ℕ → ℕ → Side → Type 0) (moments : D → Option (ℕ → ℕ)) (limits : ServingLimits) (old new : SideWorker D P) → ServesSide looks moments limits old new → ServesSide looks moments limits (without_pass old) (without_pass new)
+side_told looks moments limits old new s = record { end = s.end; ended = s.ended; link = s.link; served = s.served }
 
 -- each looked at its link, as far as they tell
 pub looked_told : {S D P : Type 0} (tells : SidesTell S P) (shared : S) (moments : D → Option (ℕ → ℕ)) (limits : ServingLimits) (first : ℕ) (were are : List (SideWorker D P)) → LookedWith tells shared moments limits first were are
-    → LookedAt moments limits (map without_pass were) (map without_pass are)
+    → LookedAt tells.looks moments limits (map without_pass were) (map without_pass are)
 looked_told {S} {D} {P} tells shared moments limits first were are l = record {
   count = length-map are without_pass ∙ (l.count ∙ sym (length-map were without_pass));
   looked = λ place d less.
@@ -151,9 +152,9 @@ looked_told {S} {D} {P} tells shared moments limits first were are l = record {
 }
   where
     at : (ws now : List (SideWorker D P)) (place : ℕ) (d : SideWorker D (Unit {0})) → place < length ws → place < length now
-        → ((e : SideWorker D P) → ServesSide moments limits (get_or ws place e) (get_or now place e))
-        → ServesSide moments limits (get_or (map without_pass ws) place d) (get_or (map without_pass now) place d)
+        → ((e : SideWorker D P) → ServesSide tells.looks moments limits (get_or ws place e) (get_or now place e))
+        → ServesSide tells.looks moments limits (get_or (map without_pass ws) place d) (get_or (map without_pass now) place d)
     at [] now place d less more all = absurd (omega (arith, less))
     at (w ∷ ws) [] place d less more all = absurd (omega (arith, more))
-    at (w ∷ ws) (a ∷ now) zero d less more all = side_told moments limits w a (all w)
+    at (w ∷ ws) (a ∷ now) zero d less more all = side_told tells.looks moments limits w a (all w)
     at (w ∷ ws) (a ∷ now) (suc place) d less more all = at ws now place d (omega (arith, less)) (omega (arith, more)) all

@@ -3,5 +3,5 @@ mod LendLemmas
 mod MoveLemmas
 mod OnwardLemmas
 mod RunLemmas
-mod SideLemmas
+pub mod SideLemmas
 mod TurnLemmas

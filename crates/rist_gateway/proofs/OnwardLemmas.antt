@@ -37,7 +37,7 @@ shown_served {L} line flow session h i (x ∷ was) is same given link d among =
     let P : LinkState → LinkState → Type 0 = λ a b. IsServed plain (tried_on (tried_as flow session) link h) (tried_on (tried_as flow session) link i) a b in
     subst (λ (a : LinkState). P a (get_or (map (shown line) is) link d)) (sym (get_or-map (shown line) (x ∷ was) link x d here))
     (subst (λ (b : LinkState). P (shown line (get_or (x ∷ was) link x)) b) (sym (get_or-map (shown line) is link x d there))
-    (record { gained = s.gained; more = s.more; taken = s.taken; faults = s.faults }))
+    (record { gained = s.gained; more = s.more; taken = s.taken; answers = s.answers; knows = s.knows; faults = s.faults }))
 
 reads_shown : {L : Type 0} (line : LinkTells L) (xs : List L) → map (λ (s : LinkState). s.reads) (map (shown line) xs) ≡ map line.reads xs
 reads_shown line [] = refl

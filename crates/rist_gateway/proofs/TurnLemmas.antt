@@ -2,6 +2,7 @@
 use Rattle.std.proofs.Common.{◌≡◌, ◌∙◌, ◌<◌, ◌≤◌, ◌+◌, ◌^◌, ℕ, zero, suc, List, [], ◌∷◌, ◌++◌, map, length, slice_get, take, drop, get_or, Some, refl, ap, sym, subst, arith}
 use Rattle.std.proofs.lemmas.List.{length-map}
 use Rattle.std.proofs.lemmas.Option.{get_or_from_slice_get}
+use Rattle.rist_desk.specs.declared.beside.Side.{Side}
 use Rattle.rist_desk.specs.declared.step.Step.{Step}
 use Rattle.rist_desk.specs.declared.worker.ServingLimits.{ServingLimits}
 use Rattle.rist_desk.specs.declared.worker.Worker.{Worker}
@@ -67,11 +68,11 @@ seated_at place (c ∷ clocks) (p ∷ passes) zero d same less = refl
 seated_at place (c ∷ clocks) (p ∷ passes) (suc k) d same less = seated_at (place + 1) clocks passes k d (omega (arith, same)) (omega (arith, less))
 
 -- and each side worker with that of its own, behind those of the workers
-pub sides_may : {N K D : Type 0} (desk : TurnDesk N K) (limits : ServingLimits) (n : ℕ) (passes : List (Pass Step (Shared N K))) (clocks : List D) → AreFreshFor desk passes → limits.turns ≤ 2 ^ 40
+pub sides_may : {N K D : Type 0} (looks : ℕ → ℕ → Side → Type 0) (desk : TurnDesk N K) (limits : ServingLimits) (n : ℕ) (passes : List (Pass Step (Shared N K))) (clocks : List D) → AreFreshFor desk passes → limits.turns ≤ 2 ^ 40
     → length (drop n passes) ≡ length clocks
     → (k : ℕ) (d : SideWorker D (Pass Step (Shared N K))) → k < length (seated_sides 0 clocks (drop n passes))
-    → MayLook (sides_as IsBeside turns_left) desk limits (n + k) (get_or (seated_sides 0 clocks (drop n passes)) k d)
-sides_may desk limits n passes clocks fresh few same k d less =
+    → MayLook (sides_as IsBeside turns_left looks) desk limits (n + k) (get_or (seated_sides 0 clocks (drop n passes)) k d)
+sides_may looks desk limits n passes clocks fresh few same k d less =
     let p = (get_or (seated_sides 0 clocks (drop n passes)) k d).pass in
     let f = fresh.each (n + k) p (sym (behind n passes k) ∙ seated_at 0 clocks (drop n passes) k d same less) in
     record { own = fresh_beside desk (n + k) p f; left_is = omega (arith, f.left, few) }

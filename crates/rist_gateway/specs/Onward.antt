@@ -188,6 +188,12 @@ Looks old new micros link side =
     (from : Course) → IsAt old from
     → Moves old new from (λ to. LooksAt (setup_of old) micros link old.puts side from to)
 
+-- an aside of one that was made as this: before it and after it holds what holds of every such one
+pub record LooksOnce (first old new : OnwardState) (micros link : ℕ) (side : Side) : Type 0 where
+  pub was : IsOnward first old
+  pub is : IsOnward first new
+  pub looks : Looks old new micros link side
+
 -- what a name holds that was picked for nothing
 abbrev pub nothing_first : OnwardState
 nothing_first =

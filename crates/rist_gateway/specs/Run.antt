@@ -14,7 +14,8 @@ use Rattle.desk_run.specs.Run.{Receives, TimedLinks, outside}
 use Rattle.rist_gateway.specs.declared.ending.GateEnding.{GateEnding}
 use Rattle.rist_gateway.specs.declared.ending.GateEnding.TheVariants as gates
 use Rattle.rist_gateway.specs.declared.side_worker.SideWorker.{SideWorker}
-use Rattle.rist_gateway.specs.Onward.{OnwardState, IsOnward, IsUncalled, shown}
+use Rattle.rist_desk.specs.declared.beside.Side.{Side}
+use Rattle.rist_gateway.specs.Onward.{OnwardState, IsOnward, IsUncalled, LooksOnce, shown}
 use Rattle.rist_gateway.specs.Setup.{GateSetup}
 use Rattle.rist_gateway.specs.Workers.{LookedAt, side_clock, side_workers}
 
@@ -48,13 +49,19 @@ EndsGate endings.Done put looked ending = ending ≡ looked_ending looked gates.
 
 -- ---- a run
 
+-- a sending end that was made as this looked at a link, at a moment, which came to this
+pub record LooksOn (first : OnwardState) (micros link : ℕ) (side : Side) : Type 0 where
+  pub before : OnwardState
+  pub after : OnwardState
+  pub looked : LooksOnce first before after micros link side
+
 -- the clocks of the links that are sent on were those of side workers, one for each link at its place, and each looked
--- at its link
-pub record AreLookedAt {C : Type 0} (moments : C → Option (ℕ → ℕ)) (limits : ServingLimits)
-    (clocks_were clocks_are : List C) : Type 0 where
+-- at its link, once a turn
+pub record AreLookedAt {C : Type 0} (looks : ℕ → ℕ → Side → Type 0) (moments : C → Option (ℕ → ℕ))
+    (limits : ServingLimits) (clocks_were clocks_are : List C) : Type 0 where
   pub are : List (SideWorker C (Unit {0}))
   pub clocks_have : map side_clock are ≡ clocks_are
-  pub looked : LookedAt moments limits (side_workers 0 clocks_were) are
+  pub looked : LookedAt looks moments limits (side_workers 0 clocks_were) are
 
 -- The links that are sent on were handed to a sender which had done nothing, and which did this with them: all that it
 -- did, deed by deed, was to send what was put to it, payload by payload, and to look at its links; the octets of the
@@ -89,6 +96,6 @@ pub record Forwards {L C : Type 0} (moments : C → Option (ℕ → ℕ)) (line 
   pub clock_had : slice_get was.clocks (length was.links) ≡ Some clock_was
   pub clock_has : slice_get is.clocks (length was.links) ≡ Some clock_is
   pub sends : SendsOnward moments line s (drop inputs was.links) (drop inputs is.links) clock_was clock_is first last
-  pub looked : AreLookedAt moments limits (drop inputs (take (length was.links) was.clocks))
+  pub looked : AreLookedAt (LooksOn first) moments limits (drop inputs (take (length was.links) was.clocks))
       (drop inputs (take (length was.links) is.clocks))
   pub ends : EndsGate ended last.put_bad last.aside_bad ending

@@ -57,41 +57,52 @@ abbrev pub AllGoOn : ServingLimits → (ℕ → ℕ) → List Side → Type 0
 AllGoOn limits moments [] = Unit {0}
 AllGoOn limits moments (side ∷ before) = AllGoOn limits moments before × (end_at limits moments side before ≡ None)
 
--- A side worker made turns up to one that was the last, of which each took one moment and made one aside.
-pub record IsSideServed (limits : ServingLimits) (moments : ℕ → ℕ) (end : SideEnded)
-    (left : Option (ℕ → ℕ)) : Type 0 where
+-- each of them is what a look came to, on this link and at the moment of its turn
+abbrev pub AreLooks : (ℕ → ℕ → Side → Type 0) → ℕ → (ℕ → ℕ) → List Side → Type 0
+AreLooks looks link moments [] = Unit {0}
+AreLooks looks link moments (side ∷ before) =
+    AreLooks looks link moments before × looks (moments (length before)) link side
+
+-- A side worker of a link made turns up to one that was the last, of which each took one moment and made one aside: a
+-- look at that link, at that moment.
+pub record IsSideServed (looks : ℕ → ℕ → Side → Type 0) (link : ℕ) (limits : ServingLimits) (moments : ℕ → ℕ)
+    (end : SideEnded) (left : Option (ℕ → ℕ)) : Type 0 where
   pub before : List Side
   pub last : Side
+  pub looked : AreLooks looks link moments (last ∷ before)
   pub within : length before < limits.turns
   pub going : AllGoOn limits moments before
   pub ends : end_at limits moments last before ≡ Some end
   pub took : left ≡ Some (from (length before + 1) moments)
 
 -- a side worker ended
-pub record ServesSide {C P : Type 0} (moments : C → Option (ℕ → ℕ)) (limits : ServingLimits)
-    (old new : SideWorker C P) : Type 0 where
+pub record ServesSide {C P : Type 0} (looks : ℕ → ℕ → Side → Type 0) (moments : C → Option (ℕ → ℕ))
+    (limits : ServingLimits) (old new : SideWorker C P) : Type 0 where
   pub end : SideEnded
   pub ended : new.end ≡ Some end
   pub link : new.link ≡ old.link
-  pub served : (told : ℕ → ℕ) → moments old.clock ≡ Some told → IsSideServed limits told end (moments new.clock)
+  pub served : (told : ℕ → ℕ) → moments old.clock ≡ Some told
+      → IsSideServed looks old.link limits told end (moments new.clock)
 
 -- ---- one turn
 
--- a turn, of whatever its aside came to
-pub record SideTurn (m n : Option (ℕ → ℕ)) (idle : ℕ) (last : Bool) (found now : Option Found)
-    (result : Option SideEnded) : Type 0 where
+-- a turn, of whatever its aside came to: a look at the link, at the next moment
+pub record SideTurn (looks : ℕ → ℕ → Side → Type 0) (link : ℕ) (m n : Option (ℕ → ℕ)) (idle : ℕ) (last : Bool)
+    (found now : Option Found) (result : Option SideEnded) : Type 0 where
   pub side : Side
   pub moment : ℕ
   pub first : IsFirst m moment
+  pub looked : looks moment link side
   pub moments : n ≡ option_map later m
   pub found_is : now ≡ found_after found moment side
   pub result_is : result ≡ end_by side last (is_quiet idle now moment)
 
 -- after so many turns, none of which was the last
-pub record IsSideGoing (limits : ServingLimits) (moments : ℕ → ℕ) (made : ℕ) (left : Option (ℕ → ℕ))
-    (found : Option Found) : Type 0 where
+pub record IsSideGoing (looks : ℕ → ℕ → Side → Type 0) (link : ℕ) (limits : ServingLimits) (moments : ℕ → ℕ)
+    (made : ℕ) (left : Option (ℕ → ℕ)) (found : Option Found) : Type 0 where
   pub sides : List Side
   pub count : length sides ≡ made
+  pub looked : AreLooks looks link moments sides
   pub going : AllGoOn limits moments sides
   pub took : left ≡ Some (from made moments)
   pub found_is : found ≡ found_by moments sides

@@ -1,6 +1,7 @@
 -- What the threads of a gateway do.
 use Rattle.std.specs.Prelude.{◌≡◌, ◌<◌, ◌≤◌, ◌+◌, ℕ, List, [], ◌∷◌, length, slice_index_or, Option, None}
 use Rattle.link_channels.specs.declared.bounds.TheConstants.{MAX_LINKS}
+use Rattle.rist_desk.specs.declared.beside.Side.{Side}
 use Rattle.rist_desk.specs.declared.step.Step.{Step}
 use Rattle.rist_desk.specs.declared.worker.ServingLimits.{ServingLimits}
 use Rattle.rist_desk.specs.declared.worker.Worker.{Worker}
@@ -18,10 +19,11 @@ IsPlaced (parts.Receiving worker) place = place < MAX_LINKS
 IsPlaced (parts.Sending side) place = Unit {0}
 
 -- what side workers have of their own tells: of what it is, under which number, with no step made, and for how many
--- looks it is good
+-- looks it is good; and what a look may come to, at a moment and on a link
 pub record SidesTell (S P : Type 0) : Type 1 where
   pub is_of : S → ℕ → P → Type 0
   pub left : P → ℕ
+  pub looks : ℕ → ℕ → Side → Type 0
 
 -- what is shared was made with this, and what its workers and its side workers have of their own tells so much
 pub record SharedTells (S U P : Type 0) : Type 1 where
@@ -33,8 +35,8 @@ pub record SharedTells (S U P : Type 0) : Type 1 where
   pub sides : SidesTell S P
 
 -- these, as a trait has them
-abbrev pub sides_as : {S P : Type 0} → (S → ℕ → P → Type 0) → (P → ℕ) → SidesTell S P
-sides_as is_of left = record { is_of = is_of; left = left }
+abbrev pub sides_as : {S P : Type 0} → (S → ℕ → P → Type 0) → (P → ℕ) → (ℕ → ℕ → Side → Type 0) → SidesTell S P
+sides_as is_of left looks = record { is_of = is_of; left = left; looks = looks }
 
 -- what is shared, as a trait has it, with what its side workers look at
 abbrev pub shared_as : {S U P : Type 0} → Given → (U → Option (List Step)) → (U → Option ℕ) → (S → ℕ → U → Type 0)
@@ -70,7 +72,7 @@ pub record ServesWith {S L C U P : Type 0} (tells : SharedTells S U P) (shared :
 -- a side worker looked at its link, and no step was made with its pass
 pub record LooksWith {S D P : Type 0} (tells : SidesTell S P) (shared : S) (moments : D → Option (ℕ → ℕ))
     (limits : ServingLimits) (number : ℕ) (old new : SideWorker D P) : Type 0 where
-  pub looks : ServesSide moments limits old new
+  pub looks : ServesSide tells.looks moments limits old new
   pub own : tells.is_of shared number new.pass
 
 -- a worker served its link, or a side worker looked at its own
@@ -96,8 +98,8 @@ abbrev pub side_clock : {D P : Type 0} → SideWorker D P → D
 side_clock side = side.clock
 
 -- each of the side workers looked at its link
-pub record LookedAt {D P : Type 0} (moments : D → Option (ℕ → ℕ)) (limits : ServingLimits)
-    (were are : List (SideWorker D P)) : Type 0 where
+pub record LookedAt {D P : Type 0} (looks : ℕ → ℕ → Side → Type 0) (moments : D → Option (ℕ → ℕ))
+    (limits : ServingLimits) (were are : List (SideWorker D P)) : Type 0 where
   pub count : length are ≡ length were
   pub looked : (place : ℕ) (d : SideWorker D P) → place < length were
-      → ServesSide moments limits (slice_index_or were place d) (slice_index_or are place d)
+      → ServesSide looks moments limits (slice_index_or were place d) (slice_index_or are place d)

@@ -7,6 +7,7 @@ ghost use Rattle.rist_desk.specs.Desk.{IsNew, state_of};
 ghost use Rattle.turn_desk.specs.Own.{AreFreshFor, passes_in};
 ghost use Rattle.desk_run.specs.Run.{Receives, outside};
 ghost use Rattle.desk_run.specs.Setup.{Setup, IsMadeInTurns, given_to, setup_in_turns};
+ghost use Rattle.turn_desk.specs.Asides.{LooksAt};
 ghost use Rattle.rist_gateway.specs.Run.{AreLookedAt};
 
 use crate::either_worker::EitherWorker;
@@ -64,7 +65,8 @@ fn served_in_turns<
         (outside links.old.items clocks.old.items contents faults)
         (outside links.new.items clocks.new.items (K.contents result.sink) (K.faults result.sink))
         result.counts result.ending }
-    ensures looked { AreLookedAt C.moments limits.now beside.old.items beside.new.items }
+    ensures looked { AreLookedAt (LooksAt K.contents K.faults K.looks) C.moments limits.now
+        beside.old.items beside.new.items }
     ensures links { length links.new.items ≡ length links.old.items }
     ensures clocks { length clocks.new.items ≡ length clocks.old.items }
     ensures beside { length beside.new.items ≡ length beside.old.items }
@@ -119,7 +121,8 @@ fn named_in_turns<
         (outside links.old.items clocks.old.items (K.contents sink) (K.faults sink))
         (outside links.new.items clocks.new.items (K.contents run.sink) (K.faults run.sink))
         run.counts run.ending) }
-    ensures looked { IfOk result (λ run. AreLookedAt C.moments limits.now beside.old.items beside.new.items) }
+    ensures looked { IfOk result (λ run. AreLookedAt (LooksAt K.contents K.faults K.looks) C.moments limits.now
+        beside.old.items beside.new.items) }
     ensures memory { IfErr result (λ left. (left ≡ sink) × (links.new.items ≡ links.old.items)
         × (clocks.new.items ≡ clocks.old.items) × (beside.new.items ≡ beside.old.items)) }
     ensures links { length links.new.items ≡ length links.old.items }
@@ -175,7 +178,8 @@ pub(crate) fn receive_in_turns<
         (outside links.old.items clocks.old.items (K.contents sink) (K.faults sink))
         (outside links.new.items clocks.new.items (K.contents run.sink) (K.faults run.sink))
         run.counts run.ending) }
-    ensures looked { IfOk result (λ run. AreLookedAt C.moments limits.now beside.old.items beside.new.items) }
+    ensures looked { IfOk result (λ run. AreLookedAt (LooksAt K.contents K.faults K.looks) C.moments limits.now
+        beside.old.items beside.new.items) }
     ensures memory { IfErr result (λ left. (left ≡ sink) × (links.new.items ≡ links.old.items)
         × (clocks.new.items ≡ clocks.old.items) × (beside.new.items ≡ beside.old.items)) }
     ensures links { length links.new.items ≡ length links.old.items }

@@ -8,6 +8,7 @@ mod ending;
 mod found;
 mod handed;
 mod in_turns;
+pub mod laws;
 mod lending;
 mod look;
 mod memory;

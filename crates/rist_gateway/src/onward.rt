@@ -2,7 +2,7 @@
 ghost use Rattle.std.specs.Prelude.{◌≡◌, [], OnOk, OnErr, None, Some, min, ◌+◌, ◌-◌, ◌^◌};
 ghost use Rattle.outside_io.specs.Causes.{HasCause};
 ghost use Rattle.outside_io.specs.Told.{Appends, AppendsPart};
-ghost use Rattle.rist_gateway.specs.Onward.{IsOnward, IsUncalled, Puts, Looks, onward_of, passed_of, shows};
+ghost use Rattle.rist_gateway.specs.Onward.{IsOnward, IsUncalled, Puts, LooksOnce, onward_of, passed_of, shows};
 ghost use Rattle.rist_gateway.specs.Onward.{why_of, bad_after};
 
 use crate::cuts::send_parts;
@@ -175,11 +175,11 @@ fn bad_after(was: Option<SendBad>, side: Side) -> Option<SendBad>
 }
 
 impl<G: OnwardOrigin, L: Link + Drop, C: Clock + Drop> Beside for Onward<G, L, C> {
-    ghost looks = { λ old new us link side. Looks (shows ⟦<L as TellingLink>⟧.tells C.moments old)
+    ghost looks = { λ old new us link side. LooksOnce G.first (shows ⟦<L as TellingLink>⟧.tells C.moments old)
         (shows ⟦<L as TellingLink>⟧.tells C.moments new) us link side };
 
     fn aside(&mut self, us: u64, link: u8) -> Side
-        ensures looks { Looks (shows ⟦<L as TellingLink>⟧.tells C.moments self.old)
+        ensures looks { LooksOnce G.first (shows ⟦<L as TellingLink>⟧.tells C.moments self.old)
             (shows ⟦<L as TellingLink>⟧.tells C.moments self.new) us link result }
         ensures faults { self.new.faults ≡ self.old.faults }
         ensures bad { self.new.aside_bad ≡ bad_after self.old.aside_bad result }

@@ -5,6 +5,7 @@ ghost use Rattle.outside_io.specs.Told.{IsEmpty};
 ghost use Rattle.rist_desk.specs.Desk.{IsNew, state_of};
 ghost use Rattle.desk_run.specs.Run.{Receives, outside};
 ghost use Rattle.desk_run.specs.Setup.{given_to, setup_of};
+ghost use Rattle.turn_desk.specs.Asides.{LooksAt};
 ghost use Rattle.rist_gateway.specs.Run.{AreLookedAt};
 ghost use Rattle.rist_gateway.specs.Setup.{IsKeptEnd, IsReceivingEnd, received_setup_of};
 
@@ -50,7 +51,8 @@ fn named_run<
         (outside links.old.items clocks.old.items (K.contents sink) (K.faults sink))
         (outside links.new.items clocks.new.items (K.contents result.sink) (K.faults result.sink))
         result.counts result.ending }
-    ensures looked { AreLookedAt C.moments limits.now beside.old.items beside.new.items }
+    ensures looked { AreLookedAt (LooksAt K.contents K.faults K.looks) C.moments limits.now
+        beside.old.items beside.new.items }
     ensures links { length links.new.items ≡ length links.old.items }
     ensures clocks { length clocks.new.items ≡ length clocks.old.items }
     ensures beside { length beside.new.items ≡ length beside.old.items }
@@ -115,7 +117,8 @@ fn receive_kept<
         (outside links.old.items clocks.old.items (K.contents sink) (K.faults sink))
         (outside links.new.items clocks.new.items (K.contents result.sink) (K.faults result.sink))
         result.counts result.ending }
-    ensures looked { AreLookedAt C.moments limits.now beside.old.items beside.new.items }
+    ensures looked { AreLookedAt (LooksAt K.contents K.faults K.looks) C.moments limits.now
+        beside.old.items beside.new.items }
     ensures links { length links.new.items ≡ length links.old.items }
     ensures clocks { length clocks.new.items ≡ length clocks.old.items }
     ensures beside { length beside.new.items ≡ length beside.old.items }
@@ -156,7 +159,8 @@ pub(crate) fn receive_beside<
         (outside links.old.items clocks.old.items (K.contents sink) (K.faults sink))
         (outside links.new.items clocks.new.items (K.contents run.sink) (K.faults run.sink))
         run.counts run.ending) }
-    ensures looked { IfOk result (λ run. AreLookedAt C.moments limits.now beside.old.items beside.new.items) }
+    ensures looked { IfOk result (λ run. AreLookedAt (LooksAt K.contents K.faults K.looks) C.moments limits.now
+        beside.old.items beside.new.items) }
     ensures memory { IfErr result (λ left. (left ≡ sink) × (links.new.items ≡ links.old.items)
         × (clocks.new.items ≡ clocks.old.items) × (beside.new.items ≡ beside.old.items)) }
     ensures links { length links.new.items ≡ length links.old.items }

@@ -4,7 +4,7 @@ ghost use Rattle.link_channels.specs.declared.bounds.TheConstants.{MAX_LINKS};
 ghost use Rattle.desk_run.specs.Run.{timed_links};
 ghost use Rattle.rist_gateway.specs.Onward.{IsUncalled, onward_of, passed_of};
 ghost use Rattle.rist_gateway.specs.Inside.Played.{PlaysOn};
-ghost use Rattle.rist_gateway.specs.Run.{AreLookedAt, Forwards};
+ghost use Rattle.rist_gateway.specs.Run.{AreLookedAt, Forwards, LooksOn};
 ghost use Rattle.rist_gateway.specs.Setup.{IsGateMade, IsReceivingEnd, gate_setup_of, received_setup_of};
 
 use crate::ending::{GateEnding, ending_of};
@@ -81,7 +81,8 @@ fn forward<
         (received_setup_of T.limit receiving) limits.now
         (timed_links links.old.items clocks.old.items) (timed_links links.new.items clocks.new.items)
         G.first result.links.items result.clock gated.counts gated.ending) }
-    ensures looked { IfOk result.ended (λ gated. AreLookedAt C.moments limits.now beside.old.items beside.new.items) }
+    ensures looked { IfOk result.ended (λ gated. AreLookedAt (LooksOn G.first) C.moments limits.now
+        beside.old.items beside.new.items) }
     ensures refused { OnErr result.ended ((links.new.items ≡ links.old.items) × (clocks.new.items ≡ clocks.old.items)
         × (beside.new.items ≡ beside.old.items) × (result.links.items ≡ end.links.items) × (result.clock ≡ end.clock)) }
     ensures onward { length result.links.items ≡ length end.links.items }

@@ -33,15 +33,15 @@ pub trait SharesBeside<P> {
 impl<N: DeskOrigin, T: StepTrace + Drop, K: Beside + Drop> SharesBeside<()>
     for Mutex<Desk<N, T, K>> {
     ghost use Rattle.std.specs.Prelude.{◌^◌};
-    ghost use Rattle.rist_desk.specs.Desk.{DeskState};
-    ghost use Rattle.rist_desk.specs.Aside.{HandsOn};
+    ghost use Rattle.turn_desk.specs.Asides.{LooksAt};
 
-    ghost looks = { λ us link side. (d : DeskState) × HandsOn K.contents K.faults K.looks d us link side };
+    ghost looks = { LooksAt K.contents K.faults K.looks };
 
     ghost is_beside = { λ desk number own. Unit {0} };
 
     ghost looks_left = { λ own. 2 ^ 58 };
 
+    #[tactic(auto, using(crate::proofs::SideLemmas::looks_handed))]
     fn aside<R: Wait>(&self, rt: &R, own: &mut (), us: u64, link: u8) -> Side {
         let _ = own;
         self.lock(rt).aside(us, link)

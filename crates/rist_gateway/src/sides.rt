@@ -185,15 +185,15 @@ pub(crate) fn serve_both<
     requires room { HasRoom parts.old.items (vec_capacity parts.old) (length workers.old.items) }
     requires may { (i : ℕ) (d : _) → i < length workers.old.items
         → MayServe S.is_of S.left desk.now limits.now i (slice_index_or workers.old.items i d) }
-    requires may_look { MayLookAtLinks (sides_as S.is_beside S.looks_left) desk.now limits.now
+    requires may_look { MayLookAtLinks (sides_as S.is_beside S.looks_left S.looks) desk.now limits.now
         (length workers.old.items) parts.old.items }
     ensures count { length workers.new.items ≡ length workers.old.items }
     ensures on { (i : ℕ) (d : _) → i < length workers.old.items → ServesWith
         (shared_as S.given S.list S.limit S.is_of S.left S.broken
-        (sides_as S.is_beside S.looks_left)) desk.now C.moments
+        (sides_as S.is_beside S.looks_left S.looks)) desk.now C.moments
         ⟦<L as TellingLink>⟧.tells
         limits.now i (slice_index_or workers.old.items i d) (slice_index_or workers.new.items i d) }
-    ensures looked { LookAtLinks (sides_as S.is_beside S.looks_left) desk.now C.moments limits.now
+    ensures looked { LookAtLinks (sides_as S.is_beside S.looks_left S.looks) desk.now C.moments limits.now
         (length workers.old.items) parts.old.items parts.new.items }
 {
     let count = workers.len();

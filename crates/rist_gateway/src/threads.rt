@@ -34,7 +34,8 @@ fn side_turn<S: SharesBeside<P>, P, C: Clock, R: Wait>(
     ensures own { (number : ℕ) → S.is_beside desk.now number side.old.pass
         → S.is_beside desk.now number side.new.pass }
     ensures left { S.looks_left side.old.pass ≤ S.looks_left side.new.pass + 1 }
-    ensures made { SideTurn (C.moments side.old.clock) (C.moments side.new.clock) idle last found.old found.new result }
+    ensures made { SideTurn S.looks side.old.link (C.moments side.old.clock) (C.moments side.new.clock)
+        idle last found.old found.new result }
     ensures link { side.new.link ≡ side.old.link }
     ensures more { IfNone result (last ≡ false) }
 {
@@ -57,7 +58,7 @@ fn side_turns<S: SharesBeside<P>, P, C: Clock, R: Wait>(
     ensures own { (number : ℕ) → S.is_beside desk.now number side.old.pass
         → S.is_beside desk.now number side.new.pass }
     ensures served { (told : ℕ → ℕ) → C.moments side.old.clock ≡ Some told
-        → IsSideServed limits.now told result (C.moments side.new.clock) }
+        → IsSideServed S.looks side.old.link limits.now told result (C.moments side.new.clock) }
     ensures link { side.new.link ≡ side.old.link }
 {
     let mut found = None;
@@ -82,8 +83,9 @@ fn serve_side<S: SharesBeside<P>, P, C: Clock, R: Wait>(
     limits: &ServingLimits,
 )
     requires turns { (0 < limits.now.turns) × (limits.now.turns ≤ 2 ^ 40) }
-    requires may { MayLook (sides_as S.is_beside S.looks_left) desk.now limits.now place side.old }
-    ensures { LooksWith (sides_as S.is_beside S.looks_left) desk.now C.moments limits.now place side.old side.new }
+    requires may { MayLook (sides_as S.is_beside S.looks_left S.looks) desk.now limits.now place side.old }
+    ensures { LooksWith (sides_as S.is_beside S.looks_left S.looks) desk.now C.moments
+        limits.now place side.old side.new }
 {
     // The place is that of its pass, for the proof alone.
     let _ = place;
@@ -102,9 +104,9 @@ fn serve_part<S: Shares<U> + SharesBeside<P>, L: Link, C: Clock, U, D: Clock, P,
     requires placed { IsPlaced part.old place }
     requires turns { (0 < limits.now.turns) × (limits.now.turns ≤ 2 ^ 40) }
     requires may { MayBegin (shared_as S.given S.list S.limit S.is_of S.left S.broken
-        (sides_as S.is_beside S.looks_left)) desk.now limits.now place part.old }
+        (sides_as S.is_beside S.looks_left S.looks)) desk.now limits.now place part.old }
     ensures { ServesPart (shared_as S.given S.list S.limit S.is_of S.left S.broken
-        (sides_as S.is_beside S.looks_left)) desk.now C.moments D.moments
+        (sides_as S.is_beside S.looks_left S.looks)) desk.now C.moments D.moments
         ⟦<L as TellingLink>⟧.tells
         limits.now place part.old part.new }
 {
@@ -130,10 +132,10 @@ pub fn gate<
     requires turns { (0 < limits.now.turns) × (limits.now.turns ≤ 2 ^ 40) }
     requires may { (i : ℕ) (d : _) → i < length parts.old → MayBegin
         (shared_as S.given S.list S.limit S.is_of S.left S.broken
-        (sides_as S.is_beside S.looks_left)) desk.now limits.now i (slice_index_or parts.old i d) }
+        (sides_as S.is_beside S.looks_left S.looks)) desk.now limits.now i (slice_index_or parts.old i d) }
     ensures { (i : ℕ) (d : _) → i < length parts.old → ServesPart
         (shared_as S.given S.list S.limit S.is_of S.left S.broken
-        (sides_as S.is_beside S.looks_left)) desk.now C.moments D.moments
+        (sides_as S.is_beside S.looks_left S.looks)) desk.now C.moments D.moments
         ⟦<L as TellingLink>⟧.tells
         limits.now i (slice_index_or parts.old i d) (slice_index_or parts.new i d) }
 {

@@ -10,3 +10,4 @@ pub mod FlowLemmas
 mod Rows
 pub mod ServedLemmas
 pub mod DownLemmas
+pub mod PeerLemmas

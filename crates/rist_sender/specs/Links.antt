@@ -1,5 +1,5 @@
 -- What links took, datagram by datagram.
-use Rattle.std.specs.Prelude.{◌≡◌, ◌≢◌, ℕ, List, [], ◌∷◌, ◌++◌, slice_index_or, Bool, true, false}
+use Rattle.std.specs.Prelude.{◌≡◌, ◌≢◌, ℕ, List, [], ◌∷◌, ◌++◌, map, slice_index_or, Bool, true, false}
 use Rattle.std.specs.Option.{option_map}
 use Rattle.std.specs.List.{AllByRecursion, list_any}
 use Rattle.outside_io.specs.Causes.{RoseWhere}
@@ -25,6 +25,10 @@ abbrev pub datagrams_taken : List Tried → List Datagram
 datagrams_taken [] = []
 datagrams_taken (tried ∷ more) = taken_as tried.channel tried.octets tried.answer ++ datagrams_taken more
 
+-- the datagrams that were written on a link, in order, whatever became of them
+abbrev pub datagrams_given : List Tried → List Datagram
+datagrams_given tried = map (λ t. record { channel = t.channel; octets = t.octets }) tried
+
 -- the answer says that the write failed
 abbrev pub is_failed : Answer → Bool
 is_failed Took = false
@@ -36,6 +40,12 @@ abbrev pub IsBy : (Channel → Bool) → Channel → Answer → Type 0
 IsBy knows channel Took = knows channel ≡ true
 IsBy knows channel NoPeer = knows channel ≡ false
 IsBy knows channel Failed = Unit {0}
+
+-- a datagram is taken only where its channel's peer is known by then, and is left only where it wasn't known at first
+abbrev pub IsByThen : (Channel → Bool) → (Channel → Bool) → Channel → Answer → Type 0
+IsByThen was is channel Took = is channel ≡ true
+IsByThen was is channel NoPeer = was channel ≡ false
+IsByThen was is channel Failed = Unit {0}
 
 -- A link was given these datagrams, in order, and nothing else: it took those that it took behind what it had taken,
 -- where it tells that, and its count of faults rose exactly where a write failed.

@@ -1,13 +1,15 @@
 -- What links were given over several calls, reads among them.
 use Rattle.std.specs.Prelude.{◌≡◌, ◌≢◌, ◌≤◌, ◌<◌, ℕ, List, ◌++◌, length, slice_index_or, Bool, true, false}
 use Rattle.std.specs.Option.{option_map}
-use Rattle.std.specs.List.{list_any}
+use Rattle.std.specs.List.{AllByRecursion, list_any}
 use Rattle.outside_io.specs.Causes.{Rose, RoseWhere}
 use Rattle.link_channels.specs.declared.channel.Channel.{Channel}
 use Rattle.outside_net.specs.Streams.{later, IsFirst}
 use Rattle.outside_net.specs.Links.{Answer, Gave, Quiet, End, Failed, LinkTells, IsOver, LearnsOf}
 use Rattle.rist_wire.specs.declared.session.Session.{Session}
-use Rattle.rist_sender.specs.Links.{Tried, datagrams_taken, is_failed}
+use Rattle.rist_wire.specs.declared.item.Kind.{Kind}
+use Rattle.rist_wire.specs.Datagrams.{channel_of}
+use Rattle.rist_sender.specs.Links.{Tried, datagrams_taken, is_failed, IsByThen}
 use Rattle.rist_sender.specs.History.{Event, tried_as, tried_on}
 
 -- the count of faults of a link rose where a write on it failed; else it may have risen by a read that failed
@@ -15,12 +17,22 @@ abbrev pub RisesWith : Bool → ℕ → ℕ → Type 0
 RisesWith true before now = Rose before now
 RisesWith false before now = before ≤ now
 
+-- a link knows the peers of these channels still, and may know more
+abbrev pub KeepsPeers : (Channel → Bool) → (Channel → Bool) → Type 0
+KeepsPeers was is = (c : Channel) → was c ≡ true → is c ≡ true
+
+-- the peer of each channel of a session is known
+abbrev pub KnowsPeers : Session → (Channel → Bool) → Type 0
+KnowsPeers session knows = (kind : Kind) → knows (channel_of session kind) ≡ true
+
 -- One link was given the datagrams that its history gained, and no others: it took those that it took behind what it
--- had taken, where it tells that.
+-- had taken, where it tells that. It forgot no peer, and left a datagram only where the peer wasn't known at first.
 pub record IsServed {L : Type 0} (line : LinkTells L) (had has : List Tried) (was is : L) : Type 0 where
   pub gained : List Tried
   pub more : has ≡ had ++ gained
   pub taken : line.taken is ≡ option_map (λ held. held ++ datagrams_taken gained) (line.taken was)
+  pub answers : AllByRecursion (λ tried. IsByThen (line.knows was) (line.knows is) tried.channel tried.answer) gained
+  pub knows : KeepsPeers (line.knows was) (line.knows is)
   pub faults : RisesWith (list_any (λ tried. is_failed tried.answer) gained) (line.faults was) (line.faults is)
 
 -- each link was given the datagrams that its history gained, and no others

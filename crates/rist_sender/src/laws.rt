@@ -1,6 +1,6 @@
-//! What the definitions of a sender's datagrams mean at the other end, and what its history means where flows follow
-//! one another.
-ghost use Rattle.std.specs.Prelude.{◌≡◌, ◌%◌, ◌^◌, ◌<◌, ◌≤◌, ℕ, Bool, true, false, List, [], ◌∷◌, ◌++◌, All};
+//! What the definitions of a sender's datagrams mean at the other end, what links took of them, and what its history
+//! means where flows follow one another.
+ghost use Rattle.std.specs.Prelude.{◌≡◌, ◌%◌, ◌^◌, ◌-◌, ◌<◌, ◌≤◌, ℕ, Bool, true, false, List, [], ◌∷◌, ◌++◌, All};
 ghost use Rattle.link_channels.specs.declared.bounds.TheConstants.{MAX_PAYLOAD};
 ghost use Rattle.std.specs.Prelude.{Option, Ok, is_some};
 ghost use Rattle.std.specs.Prelude.{length, if◌then◌else◌};
@@ -19,7 +19,15 @@ ghost use Rattle.rtcp_compound.specs.Compound.{Content};
 ghost use Rattle.rist_sender.specs.Messages.{Message, Original, Retransmission, media_of, message_channel};
 ghost use Rattle.rist_sender.specs.Messages.{message_datagram};
 ghost use Rattle.rist_sender.specs.History.{Event, Renewed, effective_time, sendings_of, is_down, last_time};
+ghost use Rattle.rist_sender.specs.History.{tried_as, tried_on};
+ghost use Rattle.rist_sender.specs.Links.{Tried, datagrams_given, datagrams_taken};
+ghost use Rattle.rist_sender.specs.Served.{AreServed, IsServed, KnowsPeers};
+ghost use Rattle.std.specs.List.{AllByRecursion};
+ghost use Rattle.std.specs.Option.{option_map};
+ghost use Rattle.std.specs.Prelude.{slice_index_or};
 ghost use Rattle.rist_sender.specs.Calls.{Rules, packet_for, packets_again, status_at};
+
+use outside_net::{Link, TellingLink};
 
 /// In its session the datagram of a payload is taken as media of the flow with its packet's number and timestamp, as an
 /// original or as a retransmission; and its content is the payload, each null packet that was deleted put back as the
@@ -44,6 +52,25 @@ pub fn each_payload_is_taken()
     ensures content { (width : Width) (nulls again : Bool) (flow number tick : ℕ) (payload : List ℕ)
         → content_of (media_value width (media_of flow again (packet_for nulls number tick payload)))
         ≡ (if nulls then blanking_of payload else payload) }
+{}
+
+/// A link that knew the peers of the channels at first, and of whose calls none failed (its count of faults, of 64 bits,
+/// had room and stands), took each datagram that it was given, in order. So where a link knew each peer of the session,
+/// it took just the datagrams that its sender's history says were written on it, behind what it had taken.
+pub fn a_link_with_its_peers_takes_all<L: Link>()
+    ensures one { (had has : List Tried) (was is : L)
+        → (served : IsServed ⟦<L as TellingLink>⟧.tells had has was is) → L.faults was < 2 ^ 64 - 1
+        → L.faults is ≡ L.faults was
+        → AllByRecursion (λ tried. L.knows was tried.channel ≡ true) served.gained
+        → datagrams_taken served.gained ≡ datagrams_given served.gained }
+    ensures all { (flow : ℕ) (session : Session) (history : List Event) (were are : List L) (link : ℕ) (d : L)
+        → AreServed ⟦<L as TellingLink>⟧.tells flow session [] history were are → link < length were
+        → L.faults (slice_index_or were link d) < 2 ^ 64 - 1
+        → L.faults (slice_index_or are link d) ≡ L.faults (slice_index_or were link d)
+        → KnowsPeers session (L.knows (slice_index_or were link d))
+        → L.taken (slice_index_or are link d)
+        ≡ option_map (λ held. held ++ datagrams_given (tried_on (tried_as flow session) link history))
+        (L.taken (slice_index_or were link d)) }
 {}
 
 /// Where a flow begins behind another, what is stored, sent again and counted in reports is that of its own packets,

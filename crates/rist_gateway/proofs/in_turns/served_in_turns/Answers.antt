@@ -5,6 +5,7 @@ use Rattle.std.proofs.lemmas.List.{length-append, length-drop, length-map, lengt
 use Rattle.outside_net.specs.Links.{LinkTells}
 use Rattle.rist_desk.specs.Serving.{ServesOn}
 use Rattle.turn_lock.specs.declared.pass.Pass.{Pass}
+use Rattle.turn_desk.specs.Asides.{LooksAt}
 use Rattle.turn_desk.specs.Own.{IsBeside, IsOf, own_list}
 use Rattle.desk_run.specs.Receiving.{own_lists}
 use Rattle.desk_run.specs.Run.{Receives, outside}
@@ -75,14 +76,14 @@ serve_both-requires-clause-may_look g c κs within = λ were is place d less.
     let behind : length (drop n passes) ≡ length clocks = length-drop n passes ∙ omega (arith, all) in
     let many = sym (length-map c.seated_with-workers.result.items link_of) ∙ ap length c.seated_with-workers.ensures.links in
     let same = sides_same (seated_sides 0 clocks (drop n passes)) were (sym seated.1 ∙ is) in
-    subst (λ (m : ℕ). MayLook (sides_as IsBeside turns_left) desk limits (m + place) (slice_index_or were place d)) (sym many)
-    (subst (λ (ws : List (SideWorker g.row.C.Denot (Pass Step (Shared g.row.N.Denot g.row.K.Denot)))). (k : ℕ) (e : _) → k < length ws → MayLook (sides_as IsBeside turns_left) desk limits (n + k) (slice_index_or ws k e)) same
-    (sides_may desk limits n passes clocks c.requires.passes c.requires.turns.1 behind) place d less)
+    subst (λ (m : ℕ). MayLook (sides_as IsBeside turns_left (LooksAt g.K.Sink.contents g.K.Sink.faults g.K.Beside.looks)) desk limits (m + place) (slice_index_or were place d)) (sym many)
+    (subst (λ (ws : List (SideWorker g.row.C.Denot (Pass Step (Shared g.row.N.Denot g.row.K.Denot)))). (k : ℕ) (e : _) → k < length ws → MayLook (sides_as IsBeside turns_left (LooksAt g.K.Sink.contents g.K.Sink.faults g.K.Beside.looks)) desk limits (n + k) (slice_index_or ws k e)) same
+    (sides_may (LooksAt g.K.Sink.contents g.K.Sink.faults g.K.Beside.looks) desk limits n passes clocks c.requires.passes c.requires.turns.1 behind) place d less)
 
 -- the side workers as they came back
 after_of : (g : given.Over) (c : After-serve_both g)
     → (are : List (SideWorker g.row.C.Denot (Pass Step (Shared g.row.N.Denot g.row.K.Denot)))) × (c.serve_both.new.parts.items ≡ sending_parts are)
-    × LookedWith (sides_as IsBeside turns_left) c.args.desk g.C.Clock.moments c.args.limits.now (length c.seated_with-workers.result.items)
+    × LookedWith (sides_as IsBeside turns_left (LooksAt g.K.Sink.contents g.K.Sink.faults g.K.Beside.looks)) c.args.desk g.C.Clock.moments c.args.limits.now (length c.seated_with-workers.result.items)
     (seated_sides 0 c.args.beside.now.items (drop (length c.args.links.now.items) c.args.passes.items)) are
 after_of g c =
     let n = length c.args.links.now.items in
@@ -225,7 +226,7 @@ returns-clause-looked g c =
     record {
       are = map without_pass l.0;
       clocks_have = clocks_told l.0 ∙ sym (back.0 ∙ ap (λ cs. cs ++ map side_clock l.0) c.seat_sides.ensures.none);
-      looked = subst (λ ws. LookedAt g.C.Clock.moments c.args.limits.now ws (map without_pass l.0)) (seated_told 0 clocks (drop n passes) behind)
+      looked = subst (λ ws. LookedAt (LooksAt g.K.Sink.contents g.K.Sink.faults g.K.Beside.looks) g.C.Clock.moments c.args.limits.now ws (map without_pass l.0)) (seated_told 0 clocks (drop n passes) behind)
           (looked_told _ _ g.C.Clock.moments c.args.limits.now _ (seated_sides 0 clocks (drop n passes)) l.0 l.2);
     }
 

@@ -14,6 +14,7 @@ use Rattle.desk_run.specs.Setup.{given_to, setup_of}
 use Rattle.desk_run.specs.Workers.{seat_of, told_by}
 use Rattle.std.specs.Prelude.{vec_capacity}
 use Rattle.std.proofs.Common.{◌++◌, length, rules}
+use Rattle.turn_desk.specs.Asides.{LooksAt}
 use Rattle.rist_gateway.specs.Workers.{LookedAt, side_clock}
 use Rattle.rist_gateway.specs.Inside.Sides.{seated_sides, without_pass}
 use Rattle.rist_gateway.proofs.LendLemmas.{clocks_told, looked_told, parts_count, seated_told, side_count}
@@ -101,7 +102,7 @@ returns-clause-looked g c =
     record {
       are = map without_pass l.0;
       clocks_have = clocks_told l.0 ∙ sym (back.0 ∙ ap (λ cs. cs ++ map side_clock l.0) c.seat_sides.ensures.none);
-      looked = subst (λ ws. LookedAt g.C.Clock.moments c.args.limits.now ws (map without_pass l.0)) (seated_told 0 clocks passes c.requires.made.passes)
+      looked = subst (λ ws. LookedAt (LooksAt g.K.Sink.contents g.K.Sink.faults g.K.Beside.looks) g.C.Clock.moments c.args.limits.now ws (map without_pass l.0)) (seated_told 0 clocks passes c.requires.made.passes)
           (looked_told _ _ g.C.Clock.moments c.args.limits.now _ (seated_sides 0 clocks passes) l.0 l.2);
     }
 

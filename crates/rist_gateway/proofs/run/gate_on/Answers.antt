@@ -5,9 +5,9 @@ use Rattle.std.proofs.lemmas.List.{append_assoc, length-append, length-map}
 use Rattle.std.specs.Prelude.{vec_capacity}
 use Rattle.desk_run.specs.Run.{Receives, outside}
 use Rattle.desk_run.proofs.SeatLemmas.{one_less, pushed}
-use Rattle.rist_gateway.specs.Onward.{onward_of, passed_of, shown}
+use Rattle.rist_gateway.specs.Onward.{OnwardState, onward_of, passed_of, shown}
 use Rattle.rist_gateway.specs.Setup.{IsReceivingEnd, received_setup_of}
-use Rattle.rist_gateway.specs.Run.{AreLookedAt}
+use Rattle.rist_gateway.specs.Run.{AreLookedAt, LooksOn}
 use Rattle.rist_gateway.proofs.LendLemmas.{back_is, cut_counts, front_is}
 use Rattle.rist_gateway.proofs.RunLemmas.{last_at, take_front, ok_both, on_err, together}
 use Rattle.rist_gateway.proofs.run.gate_on.Given as given
@@ -163,12 +163,13 @@ returns-clause-work g c =
     let was_back = p.clocks_back ∙ ap (drop inputs) (front_is whole clocks (clock ∷ []) clocks_was (sym c.in-Some.ensures.items) front_long) in
     let now_back = back_is inputs f.new.clocks.items sides (f.new.clocks.items ++ sides) refl clocks_three ∙ ap (drop inputs) (front_is whole (f.new.clocks.items ++ sides) (f.result.clock ∷ []) clocks_now all_clocks back_long) in
     let shown_long = length-map c.hand_on.new.onward.items (shown line) in
+    let first : OnwardState = onward_of line c.args.made.sender c.args.made.opener c.hand_on.new.onward.items (passed_of (g.C.Clock.moments clock) []) 0 0 None None in
     ok_both f.result.ended _ _ _ f.ensures.work f.ensures.looked
     (λ gated played looked.
     let received : List g.row.L.Denot → List g.row.L.Denot → List g.row.C.Denot → List g.row.C.Denot → Type 0 = λ a b x y.
     Receives g.C.Clock.moments line (received_setup_of g.T.Trace.limit c.args.made.receiving) c.args.limits.now (outside a x (Some []) 0) (outside b y (Some played.last.passed.sent) played.last.faults) gated.counts played.ended in
     record {
-      first = onward_of line c.args.made.sender c.args.made.opener c.hand_on.new.onward.items (passed_of (g.C.Clock.moments clock) []) 0 0 None None;
+      first = first;
       last = played.last;
       ended = played.ended;
       receives = subst (λ a. received a (take inputs links_now) (take inputs clocks_was) (take inputs clocks_now)) p.links_front
@@ -197,7 +198,7 @@ returns-clause-work g c =
         clock_has = played.clock_is;
         onward = played.does;
       };
-      looked = subst (λ a. AreLookedAt g.C.Clock.moments c.args.limits.now a (drop inputs (take whole clocks_now))) was_back
-          (subst (λ b. AreLookedAt g.C.Clock.moments c.args.limits.now c.hand_on-2.new.onward.items b) now_back looked);
+      looked = subst (λ a. AreLookedAt (LooksOn first) g.C.Clock.moments c.args.limits.now a (drop inputs (take whole clocks_now))) was_back
+          (subst (λ b. AreLookedAt (LooksOn first) g.C.Clock.moments c.args.limits.now c.hand_on-2.new.onward.items b) now_back looked);
       ends = played.ends;
     })

@@ -14,7 +14,7 @@ use Rattle.rist_gateway.proofs.sides.serve_both.Goals as goal
 
 abbrev tells_of : (g : given.Over) → SharedTells g.row.S.Denot g.row.U.Denot g.row.P.Denot
 tells_of g = shared_as g.S.Shares.given g.S.Shares.list g.S.Shares.limit g.S.Shares.is_of g.S.Shares.left g.S.Shares.broken
-    (sides_as g.S.SharesBeside.is_beside g.S.SharesBeside.looks_left)
+    (sides_as g.S.SharesBeside.is_beside g.S.SharesBeside.looks_left g.S.SharesBeside.looks)
 
 abbrev links_of : (g : given.Over) → LinkTells g.row.L.Denot
 links_of g = record { reads = g.L.Link.reads; taken = g.L.Link.taken; knows = g.L.Link.knows; ends = g.L.Link.ends; faults = g.L.Link.faults }

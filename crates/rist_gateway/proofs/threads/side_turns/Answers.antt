@@ -10,7 +10,7 @@ turns-init g c = record {
   link = refl;
   own = λ number own. own;
   left = omega (arith, c.requires.left);
-  going = λ told took. side_first c.args.limits.now told _ (took ∙ ap Some (sym (from_zero told)));
+  going = λ told took. side_first g.S.SharesBeside.looks c.args.side.now.link c.args.limits.now told _ (took ∙ ap Some (sym (from_zero told)));
 }
 
 pub side_turn-requires : goal.side_turn-requires
@@ -21,7 +21,7 @@ side_turn-requires g c = record {
 
 pub returns-in-Some-clause-served : goal.returns-in-Some-clause-served
 returns-in-Some-clause-served g c = λ told took.
-    side_over c.args.limits.now told c.turns.made _ _ _ c.turns.found c.side_turn.new.found c.side_turn.result c.in-Some.end refl c.turns.invariant.within (c.turns.invariant.going told took) c.side_turn.ensures.made c.in-Some.is
+    side_over g.S.SharesBeside.looks c.args.side.now.link c.turns.side.link c.args.limits.now told c.turns.made _ _ _ c.turns.found c.side_turn.new.found c.side_turn.result c.in-Some.end refl c.turns.invariant.within (c.turns.invariant.going told took) c.turns.invariant.link c.side_turn.ensures.made c.in-Some.is
 
 pub returns-in-Some-clause-own : goal.returns-in-Some-clause-own
 returns-in-Some-clause-own g c = λ number own. c.side_turn.ensures.own number (c.turns.invariant.own number own)
@@ -32,5 +32,5 @@ turns-preserved g c = record {
   link = c.side_turn.ensures.link ∙ c.turns.invariant.link;
   own = λ number own. c.side_turn.ensures.own number (c.turns.invariant.own number own);
   left = omega (arith, c.turns.invariant.left, c.side_turn.ensures.left);
-  going = λ told took. side_on c.args.limits.now told c.turns.made _ _ _ c.turns.found c.side_turn.new.found c.side_turn.result refl (c.turns.invariant.going told took) c.side_turn.ensures.made c.in-None.is;
+  going = λ told took. side_on g.S.SharesBeside.looks c.args.side.now.link c.turns.side.link c.args.limits.now told c.turns.made _ _ _ c.turns.found c.side_turn.new.found c.side_turn.result refl (c.turns.invariant.going told took) c.turns.invariant.link c.side_turn.ensures.made c.in-None.is;
 }

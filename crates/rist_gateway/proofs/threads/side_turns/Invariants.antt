@@ -9,7 +9,7 @@ invariant-turns g l = record {
   link : l.side.link ≡ l.initial.side.link;
   own : (number : ℕ) → g.S.SharesBeside.is_beside l.desk number l.initial.side.pass → g.S.SharesBeside.is_beside l.desk number l.side.pass;
   left : l.limits.turns ≤ g.S.SharesBeside.looks_left l.side.pass + l.made;
-  going : (told : ℕ → ℕ) → g.C.Clock.moments l.initial.side.clock ≡ Some told → IsSideGoing l.limits told l.made (g.C.Clock.moments l.side.clock) l.found;
+  going : (told : ℕ → ℕ) → g.C.Clock.moments l.initial.side.clock ≡ Some told → IsSideGoing g.S.SharesBeside.looks l.initial.side.link l.limits told l.made (g.C.Clock.moments l.side.clock) l.found;
 }
 
 abbrev pub decreases-turns : goal.decreases-turns
