@@ -1,39 +1,72 @@
 //! The program: words and the real host in, a status out. Its text goes to the error output, and behind it what was wrong.
 #![tactic(auto)]
 
-ghost use Rattle.std.specs.Prelude.{◌≡◌};
+ghost use Rattle.std.specs.Prelude.{◌≡◌, ◌≢◌, ◌⊎◌, IfOk, IfErr, MatchBool};
+ghost use Rattle.std.specs.Vec.Iter.{into_iter_items};
 ghost use Rattle.std.specs.Process.{exit_status};
+ghost use Rattle.std.specs.declared.io.ErrorKind.TheVariants.{OutOfMemory};
+ghost use Rattle.outside_io.specs.Causes.{Rose};
 ghost use Rattle.rist_top.specs.ExitCodes.{exit_code_of};
+ghost use Rattle.rist_top.specs.Lines.{AsksNothing, IsNoLine};
 
 use outside_host::RealHost;
 use rist_top::{Status, complaint, run};
-use std::env;
+use std::alloc::Global;
+use std::env::{self, Args};
+use std::io::ErrorKind;
 use std::process::ExitCode;
 use std::sync::Wait;
 use std::thread::Threads;
 
-/// The words of the command line, or the status where they can't be had: a word that isn't UTF-8 is no line.
+/// The words of the command line, or the status where they can't be had.
 fn words_of(rt: &HostRuntime) -> Result<Vec<String>, Status> {
-    let Ok(args) = env::args(rt) else {
-        return Err(Status::Usage);
-    };
-    let mut words = Vec::new(rt.alloc());
-    for word in args {
-        if words.push(word).is_err() {
-            return Err(Status::Memory);
-        }
+    match env::args(rt) {
+        Ok(args) => all_of(rt.alloc(), args),
+        Err(error) => Err(refusal(error.kind())),
     }
-    Ok(words)
 }
 
-/// How the words of the command line end with the real host, and with threads of this runtime.
-fn status_of<R: Threads + Wait + Sync>(
+/// Why the system gives no words: memory is refused, or one of them isn't UTF-8, and that is no line.
+fn refusal(kind: ErrorKind) -> Status
+    ensures memory { kind ≡ OutOfMemory → result ≡ Status.Memory }
+    ensures usage { kind ≢ OutOfMemory → result ≡ Status.Usage }
+{
+    if kind == ErrorKind::OutOfMemory {
+        return Status::Memory;
+    }
+    Status::Usage
+}
+
+/// All words as they come, empty ones too.
+fn all_of(alloc: Global, args: Args) -> Result<Vec<String>, Status>
+    ensures words { IfOk result (λ words. words.items ≡ into_iter_items args) }
+    ensures only { IfErr result (λ status. status ≡ Status.Memory) }
+{
+    match args.collect(alloc) {
+        Ok(words) => Ok(words),
+        Err(_) => Err(Status::Memory),
+    }
+}
+
+/// Does what the words say, once, with the real host and with threads of this runtime. Says how that ended, and gives the
+/// exit status.
+fn exit_for<R: Threads + Wait + Sync>(
     rt: &HostRuntime,
     threads: &R,
     words: &[String],
     host: &mut RealHost<'_, HostRuntime>,
-) -> Status {
-    run(threads, rt.alloc(), words, host)
+) -> ExitCode
+    // The words are refused exactly where they are no line and ask for nothing, memory aside.
+    ensures usage { exit_status result ≡ 2 → IsNoLine words.now }
+    ensures unasked { exit_status result ≡ 2 → AsksNothing words.now }
+    ensures refused { IsNoLine words.now → AsksNothing words.now
+        → (exit_status result ≡ 2) ⊎ (exit_status result ≡ 1) }
+    // A fault at opening is told exactly where a call of the host failed.
+    ensures opened { exit_status result ≡ 3 → Rose host.old.faults host.new.faults }
+    ensures others { exit_status result ≢ 3 → host.new.faults ≡ host.old.faults }
+{
+    let status = run(threads, rt.alloc(), words, host);
+    ended(rt, status, words, host)
 }
 
 /// Whether the words are those of a split, which writes to several sinks: the host knows the last one's name alone.
@@ -75,6 +108,13 @@ fn explain(rt: &HostRuntime, status: &Status, words: &[String], host: &RealHost<
     }
 }
 
+/// Whether the error output says how the program ended: not where it did its work.
+fn is_told(status: &Status) -> bool
+    ensures value { MatchBool result (status.now ≢ Status.Done) (status.now ≡ Status.Done) }
+{
+    *status != Status::Done
+}
+
 /// Says on the error output how the program ended, and gives its exit status.
 fn ended(
     rt: &HostRuntime,
@@ -84,7 +124,7 @@ fn ended(
 ) -> ExitCode
     ensures exit { exit_status result ≡ exit_code_of status }
 {
-    if status != Status::Done {
+    if is_told(&status) {
         // A text that can't be written changes no status.
         let _ = eprintln!(rt; "rist: {status}");
         explain(rt, &status, words, host);
@@ -95,10 +135,7 @@ fn ended(
 fn main(rt: HostRuntime) -> ExitCode {
     let mut host = RealHost::with_memory(&rt, rt.alloc());
     match words_of(&rt) {
-        Ok(words) => {
-            let status = status_of(&rt, &rt, words.as_slice(), &mut host);
-            ended(&rt, status, words.as_slice(), &host)
-        }
+        Ok(words) => exit_for(&rt, &rt, words.as_slice(), &mut host),
         Err(status) => ended(&rt, status, &[], &host),
     }
 }

@@ -1,5 +1,6 @@
 //! What no clause says: that calls succeed, and that files, streams, links and clocks do what they say.
 use crate::asserts::{assert_got, assert_octets, assert_put, assert_read, assert_written};
+use crate::heard::Heard;
 use link_channels::{Channel, Profile};
 use outside_host::{
     Count, CountsText, Host, HostBad, MemHost, MemParts, Opened, Place, RealHost, Slot,
@@ -201,6 +202,28 @@ fn a_file_is_not_written_over_while_it_is_read(rt: HostRuntime) -> Result<(), Fa
     fs::write(&rt, "both.bin", b"ABC")?;
     assert_not_over(&rt, &mut RealHost::new(&rt))?;
     fs::remove_file(&rt, "both.bin")?;
+    Ok(())
+}
+
+/// A file of the octets `ABC` is read as the source, and meanwhile another one that is there is written.
+fn assert_other_written<H: Host>(rt: &impl Abort, host: &mut H) -> Result<(), Fail> {
+    let mut source = source_of(host, "read.bin")?;
+    write_file(rt, host, "other.bin", b"DE", b"F")?;
+    let mut buf = [0; 8];
+    assert_read(rt, &mut source, &mut buf, Ok(3));
+    assert_octets(rt, &buf[..3], b"ABC");
+    host.back_source("read.bin", source);
+    Ok(())
+}
+
+#[test]
+fn another_file_that_is_there_is_written_while_one_is_read(rt: HostRuntime) -> Result<(), Fail> {
+    fs::write(&rt, "read.bin", b"ABC")?;
+    fs::write(&rt, "other.bin", b"what was there")?;
+    assert_other_written(&rt, &mut RealHost::new(&rt))?;
+    assert_octets(&rt, fs::read(&rt, "other.bin")?.as_slice(), b"DEF");
+    fs::remove_file(&rt, "read.bin")?;
+    fs::remove_file(&rt, "other.bin")?;
     Ok(())
 }
 
@@ -408,6 +431,14 @@ fn the_counts_that_came_last_are_kept(rt: HostRuntime) -> Result<(), Fail> {
     assert_reported(&rt, &host, Some(&many[..16]));
     host.report(&COUNTED);
     assert_reported(&rt, &host, Some(&COUNTED));
+    Ok(())
+}
+
+#[test]
+fn a_report_is_said_on_the_error_output(rt: HostRuntime) -> Result<(), Fail> {
+    let heard = Heard::new(&rt, "rist: kept 3, twice 1");
+    RealHost::new(&heard).report(&COUNTED);
+    assert!(rt; heard.times() == 1);
     Ok(())
 }
 

@@ -14,6 +14,8 @@ mod captures;
 #[cfg(test)]
 mod frames;
 #[cfg(test)]
+mod heard;
+#[cfg(test)]
 mod hosts;
 #[cfg(test)]
 mod links;
