@@ -1,6 +1,7 @@
 -- What the calls of a socket mean: where it stands, whom it sends to, which errors are faults, and which socket comes
 -- next.
-use Rattle.std.specs.Prelude.{◌≡◌, ◌/◌, ◌-◌, ◌^◌, ℕ, List, [], ◌∷◌, min, if◌then◌else◌, not, Bool, true, false, Option, None, Some}
+use Rattle.std.specs.Prelude.{◌≡◌, ◌/◌, ◌-◌, ◌^◌, ℕ, List, [], ◌∷◌, min, if◌then◌else◌, not, Bool, true, false}
+use Rattle.std.specs.Prelude.{Option, None, Some}
 use Rattle.std.specs.Prelude.{Result, Ok, Err}
 use Rattle.std.specs.Duration.{as_nanos}
 use Rattle.std.specs.declared.time.Duration.{Duration}
@@ -53,8 +54,8 @@ Learns old new (Some got.Quiet) = new ≡ old
 Learns old new (Some got.End) = new ≡ old
 Learns old new (Some got.Failed) = new ≡ old
 
--- Errors that are no fault of a link: nothing is there, or no room, a signal came, the peer's machine refuses, or no way
--- leads there now.
+-- Errors that are no fault of a link: nothing is there, or no room, a signal came, the peer's machine refuses, or no
+-- way leads there now.
 abbrev pub is_no_fault : ErrorKind → Bool
 is_no_fault kinds.WouldBlock = true
 is_no_fault kinds.Interrupted = true
