@@ -9,6 +9,7 @@ use std::sync::atomic::{AtomicU64, Ordering};
 use std::time::{Clock, Duration};
 
 /// Counts the lines of this text.
+#[derive(Drop)]
 pub struct Heard<'a> {
     rt: &'a HostRuntime,
     line: &'a str,

@@ -260,36 +260,36 @@ fn a_sending_link_reads_at_once_and_rests_about_a_millisecond(
     Ok(())
 }
 
-#[test]
-fn a_forwarding_link_sends_and_is_answered(rt: HostRuntime) -> Result<(), Failed> {
-    let (mut receiving, spec) = bound(&rt, Profile::Main)?;
-    let mut forwarding = UdpLink::open(&rt, &spec, Role::Forwards, Profile::Main)?;
-    let mut block = [0; 2048];
-    assert_written(&rt, &mut forwarding, Channel::Tunnel, b"AB", Ok(true));
-    assert_next(&rt, &mut receiving, &mut block, Channel::Tunnel, 2);
-    assert_written(&rt, &mut receiving, Channel::Tunnel, b"C", Ok(true));
-    assert_next(&rt, &mut forwarding, &mut block, Channel::Tunnel, 1);
-    assert_octets(&rt, &block[..1], b"C");
-    Ok(())
+/// A receiving link on a free port of this machine, and a link that forwards to it.
+fn hop(rt: &HostRuntime) -> Result<(UdpLink, UdpLink), Failed> {
+    let (receiving, spec) = bound(rt, Profile::Main)?;
+    let forwarding = UdpLink::open(rt, &spec, Role::Forwards, Profile::Main)?;
+    Ok((receiving, forwarding))
 }
 
-/// A receiving link that knows whom it answers, and the link that forwards to it.
-fn hop(rt: &HostRuntime) -> Result<(UdpLink, UdpLink), Failed> {
-    let (mut receiving, spec) = bound(rt, Profile::Main)?;
-    let mut forwarding = UdpLink::open(rt, &spec, Role::Forwards, Profile::Main)?;
-    assert_written(rt, &mut forwarding, Channel::Tunnel, b"A", Ok(true));
-    assert_next(rt, &mut receiving, &mut [0; 2048], Channel::Tunnel, 1);
-    Ok((receiving, forwarding))
+/// The first link sends these octets to the second.
+fn assert_sent<L: Link>(rt: &impl Abort, from: &mut L, to: &mut L, octets: &[u8]) {
+    let mut block = [0; 2048];
+    assert_written(rt, from, Channel::Tunnel, octets, Ok(true));
+    assert_next(rt, to, &mut block, Channel::Tunnel, octets.len());
+    assert!(rt; block.get(..octets.len()) == Some(octets));
+}
+
+#[test]
+fn a_forwarding_link_sends_and_is_answered(rt: HostRuntime) -> Result<(), Failed> {
+    let (mut receiving, mut forwarding) = hop(&rt)?;
+    assert_sent(&rt, &mut forwarding, &mut receiving, b"AB");
+    assert_sent(&rt, &mut receiving, &mut forwarding, b"C");
+    Ok(())
 }
 
 #[test]
 fn of_two_links_out_the_second_alone_is_asked(rt: HostRuntime) -> Result<(), Failed> {
-    let (_quiet, mut first) = hop(&rt)?;
+    let (mut quiet, mut first) = hop(&rt)?;
     let (mut asking, mut second) = hop(&rt)?;
-    let mut block = [0; 2048];
-    assert_written(&rt, &mut asking, Channel::Tunnel, b"Q", Ok(true));
-    assert_next(&rt, &mut second, &mut block, Channel::Tunnel, 1);
-    assert_octets(&rt, &block[..1], b"Q");
-    assert_quiet(&rt, &mut first, &mut block);
+    assert_sent(&rt, &mut first, &mut quiet, b"A");
+    assert_sent(&rt, &mut second, &mut asking, b"A");
+    assert_sent(&rt, &mut asking, &mut second, b"Q");
+    assert_quiet(&rt, &mut first, &mut [0; 2048]);
     Ok(())
 }
