@@ -6,7 +6,7 @@ ghost use Rattle.std.specs.Vec.Iter.{into_iter_items};
 ghost use Rattle.std.specs.Process.{exit_status};
 ghost use Rattle.std.specs.declared.io.ErrorKind.TheVariants.{OutOfMemory};
 ghost use Rattle.outside_io.specs.Causes.{Rose};
-ghost use Rattle.rist_top.specs.ExitCodes.{exit_code_of};
+ghost use Rattle.run_parts.specs.ExitCodes.{exit_code_of};
 ghost use Rattle.rist_top.specs.Lines.{AsksNothing, IsNoLine};
 
 use outside_host::RealHost;

@@ -1,2 +1,3 @@
 pub mod Tears
+pub mod Text
 pub mod Inside

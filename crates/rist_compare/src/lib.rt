@@ -5,7 +5,9 @@ mod comparing;
 mod own;
 mod same;
 mod tear;
+mod text;
 
 pub use comparing::compare;
 pub use own::OwnSteps;
 pub use tear::Tear;
+pub use text::TearText;

@@ -5,9 +5,7 @@
 mod in_turns;
 mod receiving;
 mod running;
-mod text;
 
 pub use in_turns::receive_in_turns;
 pub use receiving::receive;
 pub use running::receive_on;
-pub use text::TearText;

@@ -1,20 +1,12 @@
 -- The words of a command line are one line at most.
-use Rattle.std.proofs.Common.{◌≡◌, ◌∙◌, Option, None, Some, ap, refl, sym, subst}
-use mathlib.Core.Logic.{inl, inr}
-use Rattle.outside_host.specs.Shelf.{Shelf}
-use Rattle.rist_words.specs.CommandLine.{CommandLine, Replay, Show, Count, Pack, Split, Send, Recv, Gate, Drill, SendCommand, RecvCommand, GateCommand}
-use Rattle.rist_top.specs.Causes.{CanRefuse}
-use Rattle.rist_top.specs.Lines.{IsOverFiles, IsPlain, plain_line}
-use Rattle.rist_top.specs.Objects.{Tells}
-use Rattle.rist_top.specs.Ran.{Ran}
-use Rattle.rist_top.specs.declared.status.Status.{Status}
-use Rattle.rist_top.specs.declared.status.Status.TheVariants as statuses
+use Rattle.std.proofs.Common.{◌≡◌, ◌∙◌, Option, None, Some, ap, sym, subst}
+use Rattle.rist_words.specs.CommandLine.{CommandLine, Replay, Show, Count, Pack, Split, Send, Recv, Gate, Drill}
+use Rattle.rist_words.specs.CommandLine.{SendCommand, RecvCommand, GateCommand, SplitCommand, DrillCommand}
+use Rattle.run_files.specs.Works.{IsOverFiles}
+use Rattle.rist_top.specs.Lines.{IsPlain, plain_line}
 
 pub same_line : (x y : CommandLine) → Some x ≡ Some y → x ≡ y
 same_line x y e = cc
-
-pub ran_line : {I O E L C : Type 0} (tells : Tells I O E) (old new : Shelf I O E L C) (c k : CommandLine) (status : Status) → c ≡ k → Ran tells old new c status → Ran tells old new k status
-ran_line tells old new c k status is ran = subst (λ x. Ran tells old new x status) is ran
 
 -- what is a line is none of no line
 pub is_line : (o : Option CommandLine) (c : CommandLine) → o ≡ Some c → o ≡ None → ⊥
@@ -62,6 +54,16 @@ same_receiving o c d e f = cc (e, f)
 pub same_gate : (o : Option CommandLine) (c d : GateCommand) → o ≡ Some (Gate c) → o ≡ Some (Gate d) → c ≡ d
 same_gate o c d e f = cc (e, f)
 
--- nothing is begun where memory is refused
-pub refuses : CanRefuse statuses.Memory
-refuses = inr (inl refl)
+-- words that are no line of a command that waits for nobody are no split
+pub no_split : (o : Option CommandLine) (c : SplitCommand) → plain_line o ≡ None → o ≡ Some (Split c) → ⊥
+no_split o c none is = absurd (cc (none, is))
+
+pub same_split : (x y : SplitCommand) → Split x ≡ Split y → x ≡ y
+same_split x y e = cc
+
+-- words that are no line of a command that waits for nobody are no simulated run
+pub no_drill : (o : Option CommandLine) (c : DrillCommand) → plain_line o ≡ None → o ≡ Some (Drill c) → ⊥
+no_drill o c none is = absurd (cc (none, is))
+
+pub same_drill : (x y : DrillCommand) → Drill x ≡ Drill y → x ≡ y
+same_drill x y e = cc

@@ -1,11 +1,11 @@
 -- Whether the words of a command line, the program's name first, are a line.
-use Rattle.std.specs.Prelude.{◌≡◌, Bool, List, Option, Some, None, IsTrue, map, string_bytes}
+use Rattle.std.specs.Prelude.{◌≡◌, List, Option, Some, None, map, string_bytes}
 use Rattle.std.specs.declared.string.String.{String}
-use Rattle.outside_host.specs.Shelf.{Shelf}
 use Rattle.rist_help.specs.Asks.{ask_of}
 use Rattle.rist_help.specs.declared.Ask.{Ask}
 use Rattle.rist_words.specs.CommandLine.{CommandLine, Replay, Show, Count, Pack, Split, Send, Recv, Gate, Drill}
 use Rattle.rist_words.specs.CommandLine.{SplitCommand, SendCommand, RecvCommand, GateCommand, DrillCommand, line_of}
+use Rattle.run_files.specs.Works.{IsOverFiles}
 
 -- the words are this line
 abbrev pub IsLine : {A : Type 0} → List (String A) → CommandLine → Type 0
@@ -52,19 +52,6 @@ AsksNothing words = ask_of (map string_bytes words) ≡ None
 abbrev pub IfAsk : {A : Type 0} → List (String A) → (Ask → Type 0) → Type 0
 IfAsk words P = (ask : Ask) → ask_of (map string_bytes words) ≡ Some ask → P ask
 
--- a command over a source and a sink: any but a split, which has a sink for each output, those over links, and a
--- simulated run, which reads nothing
-abbrev pub IsOverFiles : CommandLine → Type 0
-IsOverFiles (Replay c) = Unit {0}
-IsOverFiles (Show c) = Unit {0}
-IsOverFiles (Count c) = Unit {0}
-IsOverFiles (Pack c) = Unit {0}
-IsOverFiles (Split c) = ⊥
-IsOverFiles (Send c) = ⊥
-IsOverFiles (Recv c) = ⊥
-IsOverFiles (Gate c) = ⊥
-IsOverFiles (Drill c) = ⊥
-
 -- P holds of the line that they are, if they are one over a source and a sink
 abbrev pub IfFiles : {A : Type 0} → List (String A) → (CommandLine → Type 0) → Type 0
 IfFiles words P = (c : CommandLine) → IsLine words c → IsOverFiles c → P c
@@ -88,7 +75,3 @@ IfGate words P = (c : GateCommand) → IsLine words (Gate c) → P c
 -- P holds of the simulated run that they are, if they are one
 abbrev pub IfDrill : {A : Type 0} → List (String A) → (DrillCommand → Type 0) → Type 0
 IfDrill words P = (c : DrillCommand) → IsLine words (Drill c) → P c
-
--- a host tells what stands on its shelf, and has handed out no random words yet
-abbrev pub IsFresh : {I O E L C : Type 0} → Bool → Shelf I O E L C → Type 0
-IsFresh tells shelf = IsTrue tells × (shelf.next_entropy ≡ 0)

@@ -3,19 +3,8 @@
 #![tactic(auto)]
 
 mod asking;
-mod drilling;
-mod gating;
-mod receiving;
-mod reporting;
-mod sealing;
-mod sending;
-mod sessions;
-mod splitting;
-mod status;
-mod telling;
 mod top;
-mod working;
 
 pub use rist_help::complaint;
-pub use status::Status;
+pub use run_parts::Status;
 pub use top::{plain, run};

@@ -1,34 +1,31 @@
-//! The top call, and a line from its objects to its status.
+//! The top call: from words to a line, and from a line to its status.
 ghost use Rattle.std.specs.Prelude.{◌≡◌, ◌≢◌, ◌⊎◌, Err, IfOk, IsTrue};
 ghost use Rattle.outside_io.specs.Causes.{HasOpenCause};
 ghost use Rattle.rist_words.specs.CommandLine.{Drill, DrillCommand, Gate, Recv, Send, SendCommand, Split, SplitCommand};
 ghost use Rattle.rist_words.specs.Shown.{shown, shown_gate, shown_recv};
 ghost use Rattle.rist_words.specs.Ranges.{IsInRange};
-ghost use Rattle.rist_top.specs.Causes.{fault_of};
+ghost use Rattle.run_parts.specs.Causes.{fault_of};
 ghost use Rattle.rist_top.specs.Lines.{AsksNothing, IfAsk, IfDrill, IfFiles, IfGate, IfReceiving, IfSend, IfSplit};
-ghost use Rattle.rist_top.specs.Lines.{IsFresh, IsLine, IsNoLine, IsNoPlainLine, IsOverFiles, IsPlain};
-ghost use Rattle.rist_top.specs.Ran.{Ran, source_name, sink_name};
-ghost use Rattle.rist_top.specs.Frame.{KeepsOthers, OpensSourceFirst};
-ghost use Rattle.rist_top.specs.Untouched.{Untouched};
-ghost use Rattle.rist_top.specs.DoesAsk.{DoesAsk};
-ghost use Rattle.rist_top.specs.DoesFiles.{DoesFiles};
-ghost use Rattle.rist_top.specs.DoesSplit.{DoesSplit};
-ghost use Rattle.rist_top.specs.DoesSend.{DoesSend};
-ghost use Rattle.rist_top.specs.DoesReceive.{DoesReceive};
-ghost use Rattle.rist_top.specs.DoesGate.{DoesGate};
-ghost use Rattle.rist_top.specs.DoesDrill.{DoesDrill};
+ghost use Rattle.rist_top.specs.Lines.{IsLine, IsNoLine, IsNoPlainLine, IsPlain};
+ghost use Rattle.run_files.specs.Works.{IsOverFiles};
+ghost use Rattle.run_print.specs.DoesAsk.{DoesAsk};
+ghost use Rattle.run_files.specs.DoesFiles.{DoesFiles};
+ghost use Rattle.run_split.specs.DoesSplit.{DoesSplit};
+ghost use Rattle.run_send.specs.DoesSend.{DoesSend};
+ghost use Rattle.run_receive.specs.DoesReceive.{DoesReceive};
+ghost use Rattle.run_gate.specs.DoesGate.{DoesGate};
+ghost use Rattle.run_print.specs.DoesDrill.{DoesDrill};
 
 use crate::asking::answer;
-use crate::drilling::drill_line;
-use crate::gating::gate_line;
-use crate::receiving::receive_line;
-use crate::sending::send_line;
-use crate::splitting::split_line;
-use crate::status::Status;
-use crate::telling::Telling;
-use crate::working::{Worked, work};
 use outside_host::Host;
 use rist_words::{GateLine, Line, RecvLine, Refused, line};
+use run_files::file_line;
+use run_gate::gate_line;
+use run_parts::{Status, Telling};
+use run_print::drill_line;
+use run_receive::receive_line;
+use run_send::send_line;
+use run_split::split_line;
 use std::alloc::Global;
 use std::sync::Wait;
 use std::thread::Threads;
@@ -183,84 +180,5 @@ fn run_line<H: Host>(alloc: Global, host: &mut H, line: &Line<'_>) -> Status
         Line::Send(line) => send_line(alloc, host, line),
         Line::Drill(line) => drill_line(alloc, host, line),
         Line::Recv(_) | Line::Gate(_) => unreachable!(),
-    }
-}
-
-/// Does a line over a source and a sink.
-fn file_line<H: Host>(alloc: Global, host: &mut H, line: &Line<'_>) -> Status
-    requires range { IsInRange (shown line.now) }
-    requires files { IsOverFiles (shown line.now) }
-    ensures does { DoesFiles H.tells ⟦<H as Telling>⟧.objects (shown line.now)
-        (H.faults host.old) (H.faults host.new) (H.shelf host.old) (H.shelf host.new) result }
-    ensures line { result ≢ Status.Usage }
-    ensures opened { HasOpenCause (fault_of result) (H.faults host.old) (H.faults host.new) }
-{
-    work_over_files(alloc, host, line)
-}
-
-// Works on the source and the sink of a line. Each clause says a part of what that leaves.
-fn work_over_files<H: Host>(alloc: Global, host: &mut H, line: &Line<'_>) -> Status
-    requires range { IsInRange (shown line.now) }
-    requires files { IsOverFiles (shown line.now) }
-    ensures line { result ≢ Status.Usage }
-    ensures opened { HasOpenCause (fault_of result) (H.faults host.old) (H.faults host.new) }
-    ensures others { IsFresh H.tells (H.shelf host.old)
-        → KeepsOthers (H.shelf host.old) (H.shelf host.new) (shown line.now) }
-    ensures order { IsTrue H.tells → OpensSourceFirst (H.shelf host.old) (H.shelf host.new) (shown line.now) }
-    ensures ran { IsFresh H.tells (H.shelf host.old) → result ≢ Status.OpenFault → result ≢ Status.Memory
-        → Ran ⟦<H as Telling>⟧.objects (H.shelf host.old) (H.shelf host.new) (shown line.now) result }
-    ensures closed { IsTrue H.tells → result ≡ Status.OpenFault
-        → Untouched (H.shelf host.old) (H.shelf host.new) (shown line.now) }
-    ensures memory { IsFresh H.tells (H.shelf host.old) → result ≡ Status.Memory
-        → Untouched (H.shelf host.old) (H.shelf host.new) (shown line.now)
-        ⊎ Ran ⟦<H as Telling>⟧.objects (H.shelf host.old) (H.shelf host.new) (shown line.now) result }
-{
-    let source = match host.source(source_name(line)) {
-        Ok(source) => source,
-        Err(bad) => return Status::of_host(bad),
-    };
-    let sink = match host.sink(sink_name(line)) {
-        Ok(sink) => sink,
-        Err(bad) => {
-            host.back_source(source_name(line), source);
-            return Status::of_host(bad);
-        }
-    };
-    let Worked {
-        source,
-        sink,
-        status,
-    } = work(alloc, host, line, source, sink);
-    host.back_source(source_name(line), source);
-    host.back_sink(sink_name(line), sink);
-    status
-}
-
-/// The name of a line's source; empty where it has none.
-fn source_name<'a>(line: &Line<'a>) -> &'a str
-    ensures value { result.now ≡ source_name (shown line.now) }
-{
-    match line {
-        Line::Replay(line) => line.capture,
-        Line::Show(line) => line.capture,
-        Line::Count(line) => line.capture,
-        Line::Pack(line) => line.source,
-        Line::Split(line) => line.capture,
-        Line::Send(line) => line.source,
-        Line::Recv(_) | Line::Gate(_) | Line::Drill(_) => "",
-    }
-}
-
-/// The name of the sink of a line that has one.
-fn sink_name<'a>(line: &Line<'a>) -> &'a str
-    requires files { IsOverFiles (shown line.now) }
-    ensures value { result.now ≡ sink_name (shown line.now) }
-{
-    match line {
-        Line::Replay(line) => line.out,
-        Line::Show(_) | Line::Count(_) => "-",
-        Line::Pack(line) => line.capture,
-        Line::Split(_) | Line::Send(_) | Line::Recv(_) | Line::Gate(_) | Line::Drill(_) =>
-            unreachable!(),
     }
 }

@@ -1,6 +1,6 @@
 use Rattle.std.proofs.Common.{◌∙◌, sym}
 use Rattle.rist_top.proofs.AskLemmas.{asked_same, asks_none_of, same_ask}
-use Rattle.rist_top.proofs.PrintLemmas.{does_print}
+use Rattle.run_print.proofs.PrintLemmas.{does_print}
 use Rattle.rist_top.proofs.asking.answer.Goals as goal
 
 pub returns-in-Some-clause-asks : goal.returns-in-Some-clause-asks

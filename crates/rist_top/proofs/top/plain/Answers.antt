@@ -2,14 +2,13 @@
 use Rattle.std.proofs.Common.{◌∙◌, rules, subst, sym}
 use Rattle.rist_words.proofs.RangeLemmas.{line_range}
 use Rattle.rist_help.proofs.AskLemmas.{asks_none}
-use Rattle.rist_top.specs.Lines.{IsOverFiles}
+use Rattle.run_files.specs.Works.{IsOverFiles}
 use Rattle.rist_top.proofs.AskLemmas.{line_asks_nothing}
-use Rattle.rist_top.proofs.LineLemmas.{no_files, no_sending, same_line}
-use Rattle.rist_top.proofs.DrillLemmas.{no_drill}
-use Rattle.rist_top.proofs.DoesFilesLemmas.{files_nothing, files_same}
-use Rattle.rist_top.proofs.DoesSendLemmas.{sends_nothing}
-use Rattle.rist_top.proofs.DoesSplitLemmas.{no_split, splits_nothing}
-use Rattle.rist_top.proofs.PrintLemmas.{prints_nothing}
+use Rattle.rist_top.proofs.LineLemmas.{no_files, no_sending, same_line, no_drill, no_split}
+use Rattle.run_files.proofs.DoesFilesLemmas.{files_nothing, files_same}
+use Rattle.run_send.proofs.DoesSendLemmas.{sends_nothing}
+use Rattle.run_split.proofs.DoesSplitLemmas.{splits_nothing}
+use Rattle.run_print.proofs.PrintLemmas.{prints_nothing}
 use Rattle.rist_top.proofs.top.plain.Goals as goal
 
 pub run_line-requires-clause-range : goal.run_line-requires-clause-range

@@ -3,16 +3,16 @@ use Rattle.std.proofs.Common.{◌∙◌, subst, sym}
 use Rattle.rist_words.proofs.RangeLemmas.{line_range}
 use Rattle.rist_words.specs.CommandLine.{Gate, Recv}
 use Rattle.rist_help.proofs.AskLemmas.{asks_none}
-use Rattle.rist_top.specs.Lines.{IsOverFiles}
+use Rattle.run_files.specs.Works.{IsOverFiles}
 use Rattle.rist_top.proofs.AskLemmas.{line_asks_nothing}
-use Rattle.rist_top.proofs.LineLemmas.{gate_is_none, is_line, no_both, no_files, no_gate, no_receiving, no_sending, receiving_is_none, same_gate, same_line, same_receiving}
-use Rattle.rist_top.proofs.DrillLemmas.{no_drill}
-use Rattle.rist_top.proofs.DoesFilesLemmas.{files_nothing, files_same}
-use Rattle.rist_top.proofs.DoesGateLemmas.{gate_same, gates_nothing}
-use Rattle.rist_top.proofs.DoesReceiveLemmas.{receive_same, receives_nothing}
-use Rattle.rist_top.proofs.DoesSendLemmas.{sends_nothing}
-use Rattle.rist_top.proofs.DoesSplitLemmas.{no_split, splits_nothing}
-use Rattle.rist_top.proofs.PrintLemmas.{prints_nothing}
+use Rattle.rist_top.proofs.LineLemmas.{gate_is_none, is_line, no_both, no_files, no_gate, no_receiving, no_sending}
+use Rattle.rist_top.proofs.LineLemmas.{receiving_is_none, same_gate, same_line, same_receiving, no_drill, no_split}
+use Rattle.run_files.proofs.DoesFilesLemmas.{files_nothing, files_same}
+use Rattle.run_gate.proofs.DoesGateLemmas.{gate_same, gates_nothing}
+use Rattle.run_receive.proofs.DoesReceiveLemmas.{receive_same, receives_nothing}
+use Rattle.run_send.proofs.DoesSendLemmas.{sends_nothing}
+use Rattle.run_split.proofs.DoesSplitLemmas.{splits_nothing}
+use Rattle.run_print.proofs.PrintLemmas.{prints_nothing}
 use Rattle.rist_top.proofs.top.run.Goals as goal
 
 pub receive_line-requires-clause-range : goal.receive_line-requires-clause-range

@@ -1,10 +1,10 @@
 -- A line that is a split, a sending, or a simulated run, is done as one.
 use Rattle.std.proofs.Common.{◌∙◌, sym, ap}
 use Rattle.rist_words.specs.Shown.{shown, shown_drill, shown_send, shown_split}
-use Rattle.rist_top.proofs.DrillLemmas.{drilled_same, same_drill}
-use Rattle.rist_top.proofs.DoesSplitLemmas.{same_split, split_same}
-use Rattle.rist_top.proofs.DoesSendLemmas.{send_same}
-use Rattle.rist_top.proofs.LineLemmas.{same_sending}
+use Rattle.run_print.proofs.PrintLemmas.{drilled_same}
+use Rattle.rist_top.proofs.LineLemmas.{same_drill, same_split, same_sending}
+use Rattle.run_split.proofs.DoesSplitLemmas.{split_same}
+use Rattle.run_send.proofs.DoesSendLemmas.{send_same}
 use Rattle.rist_top.proofs.top.run_line.Goals as goal
 
 pub returns-in-Split-clause-splits : goal.returns-in-Split-clause-splits

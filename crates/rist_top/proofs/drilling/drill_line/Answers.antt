@@ -1,9 +1,0 @@
--- What the parts leave is what the line does.
-use Rattle.rist_top.proofs.PrintLemmas.{does_print}
-use Rattle.rist_top.proofs.drilling.drill_line.Goals as goal
-
-pub returns-clause-does : goal.returns-clause-does
-returns-clause-does g c =
-    let e = c.write_summary.ensures in
-    does_print _ _ _ _ _ (g.H.Host.shelf c.args.host.now) (g.H.Host.shelf c.write_summary.new.host) c.write_summary.result
-    e.ends e.opened e.printed e.unprinted e.around e.others

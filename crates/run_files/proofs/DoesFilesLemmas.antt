@@ -1,0 +1,104 @@
+-- What a command over a source and a sink does, by what its parts leave.
+use Rattle.std.proofs.Common.{◌≡◌, ◌∙◌, refl, sym, subst, ◌≢◌, ◌⊎◌, ℕ, Bool}
+use mathlib.Core.Logic.{inl, inr}
+use Rattle.outside_host.specs.Shelf.{Shelf}
+use Rattle.rist_words.specs.CommandLine.{CommandLine, Replay, Show, Count, Pack, Split, Send, Recv, Gate, Drill}
+use Rattle.std.specs.Prelude.{IsTrue}
+use Rattle.outside_io.specs.Causes.{HasOpenCause}
+use Rattle.rist_words.specs.Ranges.{IsInRange}
+use Rattle.run_parts.specs.Objects.{Tells}
+use Rattle.run_files.specs.Ran.{Ran}
+use Rattle.run_parts.specs.declared.status.Status.{Status}
+use Rattle.run_parts.specs.declared.status.Status.TheVariants as statuses
+use Rattle.run_parts.specs.Causes.{fault_of}
+use Rattle.run_files.specs.DoesFiles.{DoesFiles}
+use Rattle.run_files.specs.Frame.{KeepsOthers, OpensSourceFirst}
+use Rattle.run_parts.specs.Hosts.{IsFresh}
+use Rattle.run_files.specs.Untouched.{LeavesAtMemory, Untouched}
+use Rattle.run_files.proofs.ExactLemmas.{ran_reached, ran_epochs, ran_front}
+use Rattle.run_files.proofs.CompleteLemmas.{ran_completes}
+use Rattle.run_files.proofs.UntouchedLemmas.{line_at_memory}
+
+pub ran_line : {I O E L C : Type 0} (tells : Tells I O E) (old new : Shelf I O E L C) (c k : CommandLine) (status : Status) → c ≡ k → Ran tells old new c status → Ran tells old new k status
+ran_line tells old new c k status is ran = subst (λ x. Ran tells old new x status) is ran
+
+not_open : statuses.Done ≡ statuses.OpenFault → ⊥
+not_open e = cc
+
+not_memory : statuses.Done ≡ statuses.Memory → ⊥
+not_memory e = cc
+
+pub does_files : {I O E L C : Type 0} (told : Bool) (tells : Tells I O E) (c : CommandLine) (were are : ℕ) (old new : Shelf I O E L C) (status : Status)
+    → IsInRange c
+    → HasOpenCause (fault_of status) were are
+    → (IsFresh told old → KeepsOthers old new c)
+    → (IsTrue told → OpensSourceFirst old new c)
+    → (IsFresh told old → status ≢ statuses.OpenFault → status ≢ statuses.Memory → Ran tells old new c status)
+    → (IsTrue told → status ≡ statuses.OpenFault → Untouched old new c)
+    → (IsFresh told old → status ≡ statuses.Memory → Untouched old new c ⊎ Ran tells old new c status)
+    → DoesFiles told tells c were are old new status
+does_files told tells c were are old new status range cause others order ran closed memory = record {
+  others = others;
+  order = order;
+  ran = ran;
+  closed = closed;
+  memory = λ fresh refused. line_at_memory _ old new _ c status (memory fresh refused) refl refused;
+  reached = λ r is fresh done.
+      ran_reached _ old new r status (subst IsInRange is range).some_delay done
+      (ran_line _ _ _ _ _ _ is (ran fresh (λ e. not_open (sym done ∙ e)) (λ e. not_memory (sym done ∙ e))));
+  epochs = λ r is fresh done.
+      ran_epochs _ old new r status (subst IsInRange is range).some_delay done
+      (ran_line _ _ _ _ _ _ is (ran fresh (λ e. not_open (sym done ∙ e)) (λ e. not_memory (sym done ∙ e))));
+  front = λ r is fresh opened memory fault.
+      ran_front _ old new r status (subst IsInRange is range).some_delay memory fault (ran_line _ _ _ _ _ _ is (ran fresh opened memory));
+  complete = λ fresh opened.
+      ran_completes _ old new c status
+      (λ e. opened (subst (λ s. HasOpenCause (fault_of s) were are) e cause))
+      (λ unopened memory. ran fresh unopened memory);
+}
+
+-- the same line, under two names
+pub files_same : {I O E L C : Type 0} (told : Bool) (tells : Tells I O E) (c d : CommandLine) (were are : ℕ) (old new : Shelf I O E L C) (status : Status)
+    → c ≡ d → DoesFiles told tells c were are old new status → DoesFiles told tells d were are old new status
+files_same told tells c d were are old new status same does = subst (λ x. DoesFiles told tells x were are old new status) same does
+
+keeps_others : {I O E L C : Type 0} (old : Shelf I O E L C) (c : CommandLine) → KeepsOthers old old c
+keeps_others old c = record {
+  sources = λ n other. refl;
+  sinks = λ n other. refl;
+  entropies = λ place other. refl;
+  source = inl refl;
+  sink = inl refl;
+  first = inl refl;
+  undrawn = λ none. refl;
+  live = record { links = refl; opened = refl; clocks = refl; next = refl; report = refl };
+}
+
+untouched : {I O E L C : Type 0} (old : Shelf I O E L C) (c : CommandLine) → Untouched old old c
+untouched old c = record { source = inl refl; sink = inl refl; other_sources = λ n other. refl; other_sinks = λ n other. refl; entropies = λ place. refl }
+
+at_memory : {I O E L C : Type 0} (tells : Tells I O E) (old : Shelf I O E L C) (c : CommandLine) → LeavesAtMemory tells old old c
+at_memory tells old (Replay c) = inl (untouched old (Replay c))
+at_memory tells old (Show c) = inl (untouched old (Show c))
+at_memory tells old (Count c) = inl (untouched old (Count c))
+at_memory tells old (Pack c) = untouched old (Pack c)
+at_memory tells old (Split c) = inl (untouched old (Split c))
+at_memory tells old (Send c) = inl (untouched old (Send c))
+at_memory tells old (Recv c) = inl (untouched old (Recv c))
+at_memory tells old (Gate c) = inl (untouched old (Gate c))
+at_memory tells old (Drill c) = inl (untouched old (Drill c))
+
+-- memory is refused before a line is known
+pub files_nothing : {I O E L C : Type 0} (told : Bool) (tells : Tells I O E) (c : CommandLine) (faults : ℕ) (old : Shelf I O E L C)
+    → DoesFiles told tells c faults faults old old statuses.Memory
+files_nothing told tells c faults old = record {
+  others = λ fresh. keeps_others old c;
+  order = λ told same. refl;
+  ran = λ fresh unopened memory. absurd (memory refl);
+  closed = λ told unopened. absurd (cc (unopened));
+  memory = λ fresh memory. at_memory tells old c;
+  reached = λ r is fresh done. absurd (cc (done));
+  epochs = λ r is fresh done. absurd (cc (done));
+  front = λ r is fresh opened memory. absurd (memory refl);
+  complete = λ fresh opened source b here told input none. inr refl;
+}

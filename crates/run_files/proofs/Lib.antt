@@ -1,0 +1,4 @@
+pub mod ExactLemmas
+pub mod CompleteLemmas
+pub mod UntouchedLemmas
+pub mod DoesFilesLemmas

@@ -1,0 +1,9 @@
+pub mod Sessions
+pub mod Works
+pub mod Ran
+pub mod Frame
+pub mod Untouched
+pub mod Exact
+pub mod Complete
+pub mod DoesFiles
+pub mod Inside

@@ -1,0 +1,8 @@
+//! The commands over a source and a sink: a replay, a showing, a counting and a packing. A contract sees what both tell
+//! before and after.
+#![tactic(auto)]
+
+mod filing;
+mod working;
+
+pub use filing::file_line;

@@ -1,0 +1,3 @@
+pub mod GatingLemmas
+pub mod ReachedLemmas
+pub mod DoesGateLemmas

@@ -1,0 +1,4 @@
+pub mod KeptLemmas
+pub mod WordLemmas
+pub mod FailedLemmas
+pub mod BroughtLemmas

@@ -1,0 +1,5 @@
+pub mod Counting
+pub mod Sessions
+pub mod Frame
+pub mod Complete
+pub mod Brought

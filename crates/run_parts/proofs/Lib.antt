@@ -1,0 +1,4 @@
+pub mod PlaceLemmas
+pub mod RefusalLemmas
+pub mod HandedLemmas
+pub mod FrameLemmas

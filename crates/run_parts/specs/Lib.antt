@@ -1,0 +1,13 @@
+pub mod ExitCodes
+pub mod Text
+pub mod Causes
+pub mod Statuses
+pub mod Answers
+pub mod Objects
+pub mod Hosts
+pub mod Places
+pub mod Names
+pub mod Sessions
+pub mod Sealing
+pub mod Frame
+pub mod Complete

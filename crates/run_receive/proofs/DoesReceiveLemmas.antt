@@ -1,0 +1,78 @@
+-- What a receiving does, by what its parts leave.
+use Rattle.std.proofs.Common.{◌≡◌, ℕ, Bool, refl, subst}
+use mathlib.Core.Logic.{inl, inr}
+use Rattle.std.specs.Prelude.{IsTrue}
+use Rattle.outside_io.specs.Causes.{HasOpenCause}
+use Rattle.outside_host.specs.Shelf.{Shelf}
+use Rattle.rist_words.specs.CommandLine.{RecvCommand}
+use Rattle.run_parts.specs.Causes.{CanRefuse, fault_of}
+use Rattle.run_receive.specs.DoesReceive.{DoesReceive}
+use Rattle.run_receive.specs.Frame.{KeepsAroundSink, OpensLinksAfterSink, links_received}
+use Rattle.run_parts.specs.Objects.{Tells, TellsLive}
+use Rattle.run_receive.specs.Reached.{IsPlayedOut}
+use Rattle.run_receive.specs.Received.{Received, Unreceived}
+use Rattle.run_parts.specs.Sealing.{FailedAt}
+use Rattle.run_parts.specs.Hosts.{IsUnused}
+use Rattle.run_parts.specs.declared.status.Status.{Status}
+use Rattle.run_parts.specs.declared.status.Status.TheVariants as statuses
+use Rattle.run_receive.proofs.HeardLemmas.{received_completes, received_spent}
+use Rattle.run_parts.proofs.RefusalLemmas.{refuses}
+use Rattle.run_receive.proofs.ReachedLemmas.{received_reached}
+
+pub does_receive : {I O E L C : Type 0} (told : Bool) (tells : Tells I O E) (live : TellsLive L C) (c : RecvCommand) (were are : ℕ) (old new : Shelf I O E L C) (status : Status)
+    → HasOpenCause (fault_of status) were are
+    → (IsUnused told old → (CanRefuse status → ⊥) → Received tells live old new c status)
+    → (IsUnused told old → CanRefuse status → Unreceived old new c)
+    → (IsUnused told old → KeepsAroundSink old new c)
+    → (IsUnused told old → (CanRefuse status → ⊥) → new.opened_links ≡ links_received c)
+    → (IsTrue told → OpensLinksAfterSink old new c)
+    → (IsUnused told old → status ≡ statuses.EntropyFault → FailedAt tells old new)
+    → DoesReceive told tells live c were are old new status
+does_receive told tells live c were are old new status cause received unreceived around links after random = record {
+  received = received;
+  unreceived = unreceived;
+  reached = λ unused out. received_reached _ _ old new c status out (λ ran. received unused ran);
+  around = around;
+  links_opened = links;
+  links_after = after;
+  random = random;
+  spent = λ unused is. received_spent _ _ old new c status (λ ran. received unused ran) is;
+  complete = λ unused opened.
+      received_completes _ _ old new c status
+      (λ e. opened (subst (λ s. HasOpenCause (fault_of s) were are) e cause))
+      (λ failed. random unused failed) (λ ran. received unused ran);
+}
+
+-- the same line, under two names
+pub receive_same : {I O E L C : Type 0} (told : Bool) (tells : Tells I O E) (live : TellsLive L C) (c d : RecvCommand) (were are : ℕ) (old new : Shelf I O E L C) (status : Status)
+    → c ≡ d → DoesReceive told tells live c were are old new status → DoesReceive told tells live d were are old new status
+receive_same told tells live c d were are old new status same does = subst (λ x. DoesReceive told tells live x were are old new status) same does
+
+around_nothing : {I O E L C : Type 0} (old : Shelf I O E L C) (c : RecvCommand) → KeepsAroundSink old old c
+around_nothing old c = record {
+  sources = refl;
+  sinks = λ n other. refl;
+  sink = inl refl;
+  links = record { others = λ place least. inl refl; first = λ place. inl refl };
+  clocks = record { others = λ place least. inl refl; first = λ place. inl refl };
+  words = record { others = λ place other. refl; first = inl refl; undrawn = λ none. refl };
+}
+
+not_played : IsPlayedOut statuses.Memory → ⊥
+not_played (inl e) = cc
+not_played (inr e) = cc
+
+-- memory is refused before a receiving is known
+pub receives_nothing : {I O E L C : Type 0} (told : Bool) (tells : Tells I O E) (live : TellsLive L C) (c : RecvCommand) (faults : ℕ) (old : Shelf I O E L C)
+    → DoesReceive told tells live c faults faults old old statuses.Memory
+receives_nothing told tells live c faults old = record {
+  received = λ unused ran. absurd (ran refuses);
+  unreceived = λ unused refused. record { sink = inl refl; links = λ place. inl refl; clocks = λ place. inl refl; report = refl };
+  reached = λ unused out. absurd (not_played out);
+  around = λ unused. around_nothing old c;
+  links_opened = λ unused ran. absurd (ran refuses);
+  links_after = λ told same. refl;
+  random = λ unused failed. absurd (cc (failed));
+  spent = λ unused is. absurd (cc (is));
+  complete = λ unused opened none stays. inr (inr (inl refl));
+}

@@ -1,0 +1,4 @@
+pub mod ReceiveLemmas
+pub mod HeardLemmas
+pub mod ReachedLemmas
+pub mod DoesReceiveLemmas

@@ -1,0 +1,5 @@
+pub mod FrameLemmas
+pub mod SendLemmas
+pub mod PiecesLemmas
+pub mod WholeLemmas
+pub mod DoesSendLemmas

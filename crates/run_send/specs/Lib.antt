@@ -1,0 +1,7 @@
+pub mod Sessions
+pub mod Sent
+pub mod Pieces
+pub mod Frame
+pub mod Complete
+pub mod DoesSend
+pub mod Inside
