@@ -51,8 +51,8 @@ pub record TraceTells (U : Type 0) : Type 0 where
 abbrev pub IsKeyed : Given → Type 0
 IsKeyed given = given.tells_steps ≡ true → is_some given.shutter.sealer ≡ true
 
--- So on this desk. Where the worker ended since a trace was full, that is its own, or the desk's was; and where it
--- ended since pairs were wanting, the desk has a sealer.
+-- A worker at this place ended on this desk. Where it ended since a trace was full, that is its own, or the desk's was;
+-- and where it ended since pairs were wanting, the desk has a sealer.
 pub record ServesOn {L C U : Type 0} (given : Given) (moments : C → Option (ℕ → ℕ)) (tells : LinkTells L)
     (trace : TraceTells U) (limits : ServingLimits) (place : ℕ) (old new : Worker L C U) : Type 0 where
   pub made : ServesBy (Some given) moments tells trace.list limits place old new

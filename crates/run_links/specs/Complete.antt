@@ -1,4 +1,4 @@
--- That kept steps had no room, or differ.
+-- How a run over links ends that keeps its steps.
 use Rattle.std.specs.Prelude.{◌≡◌, ◌⊎◌}
 use Rattle.rist_compare.specs.declared.tear.Tear.{Tear}
 use Rattle.run_parts.specs.declared.status.Status.{Status}

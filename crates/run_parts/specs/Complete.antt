@@ -1,4 +1,4 @@
--- That nothing failed in a run.
+-- A run in which nothing failed, or one link didn't.
 use Rattle.std.specs.Prelude.{◌≡◌, ◌<◌, ℕ}
 use Rattle.outside_io.specs.Causes.{Rose}
 use Rattle.outside_host.specs.Shelf.{Shelf}
