@@ -6,7 +6,7 @@ ghost use Rattle.outside_net.specs.Real.{is_known, is_sending};
 ghost use Rattle.outside_net.specs.Sockets.{IsAt, IsOwn, IsFirstPeer, is_no_fault, is_fault, answer_by};
 
 use crate::{Got, Role};
-use libc::net::{SO_RCVBUF, SOL_SOCKET, setsockopt};
+use libc::net::{SO_RCVBUF, SOL_SOCKET, getsockopt, setsockopt};
 use link_channels::{Channel, MAX_DATAGRAM};
 use outside_io::Failed;
 use std::io::{self, ErrorKind};
@@ -14,7 +14,7 @@ use std::net::{Ipv4Addr, Net, SocketAddr, SocketAddrV4, UdpSocket};
 use std::os::fd::AsRawFd;
 
 /// How many octets a socket is asked to keep until they are read. The system may give less.
-const RECEIVE_BUFFER: i32 = 4_194_304;
+pub const RECEIVE_BUFFER: i32 = 4_194_304;
 
 /// Whom a channel's datagrams go to.
 #[derive(Clone, Copy)]
@@ -60,6 +60,25 @@ impl Port {
 
     pub fn descriptor(&self) -> i32 {
         self.socket.as_raw_fd()
+    }
+
+    /// How many octets the system keeps until they are read, with what it counts for itself; `None` where it doesn't say.
+    pub fn receive_buffer(&self) -> Option<u32> {
+        let mut value = [0; 16];
+        let mut len = 4;
+        let status = unsafe {
+            getsockopt(
+                self.descriptor(),
+                SOL_SOCKET,
+                SO_RCVBUF,
+                &mut value,
+                &mut len,
+            )
+        };
+        if status != 0 || len != 4 {
+            return None;
+        }
+        Some(option_value(&value))
     }
 
     /// Begins a read: the peer that is known now is the one from before it.
@@ -165,6 +184,12 @@ fn quick_socket<R: Net>(rt: &R, own: SocketAddr) -> io::Result<UdpSocket> {
     value[..4].copy_from_slice(&RECEIVE_BUFFER.to_ne_bytes());
     let _ = unsafe { setsockopt(socket.as_raw_fd(), SOL_SOCKET, SO_RCVBUF, &value, 4) };
     Ok(socket)
+}
+
+/// The number that the system put at the front of a socket option's value, in this machine's order of octets.
+fn option_value(value: &[u8; 16]) -> u32 {
+    let [a, b, c, d, ..] = *value;
+    u32::from_ne_bytes([a, b, c, d])
 }
 
 /// Copies a datagram of so many octets to the front of the caller's block.

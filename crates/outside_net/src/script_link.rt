@@ -122,6 +122,13 @@ impl ScriptLink {
         self.taken.is_empty()
     }
 
+    /// Whether the peer of a channel is known.
+    pub fn has_peer(&self, channel: Channel) -> bool
+        ensures value { result ≡ knows_in self.now.known channel }
+    {
+        self.known.has(channel)
+    }
+
     /// The channel and the octets of a datagram that was taken, by its place from 0.
     pub fn taken(&self, place: usize) -> Option<(Channel, &[u8])>
         ensures value { option_map (λ d. record { channel = d.0; octets = d.1.now }) result

@@ -88,6 +88,15 @@ impl UdpLink {
         }
     }
 
+    /// How many octets the system keeps of datagrams of its first channel until they are read, with what it counts for itself;
+    /// `None` where it doesn't say. The system may give less than the link asks for.
+    pub fn receive_buffer(&self) -> Option<u32> {
+        match (&self.media, &self.tunnel) {
+            (Some(port), _) | (None, Some(port)) => port.receive_buffer(),
+            (None, None) => None,
+        }
+    }
+
     /// Begins a read: the peers that are known now are those from before it.
     fn begin(&mut self)
         ensures before { (c : ChannelValue) → knew_in_link self.new c ≡ knows_in_link self.old c }

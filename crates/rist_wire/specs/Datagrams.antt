@@ -85,12 +85,13 @@ tunnel_octets session pair kind octets =
 
 -- ---- the whole
 
--- each on its own channel in the Simple Profile, and all in the tunnel in the Main Profile
+-- media and control each on a channel of its own in the Simple Profile, which sends no keepalives, and all in the tunnel
+-- in the Main Profile
 abbrev pub channel_on : Profile → Kind → Channel
 channel_on Main kind = OnTunnel
 channel_on Simple MediaKind = OnMedia
 channel_on Simple ControlKind = OnControl
-channel_on Simple KeepaliveKind = OnTunnel
+channel_on Simple KeepaliveKind = OnControl
 
 -- on which channel a datagram goes
 abbrev pub channel_of : Session → Kind → Channel

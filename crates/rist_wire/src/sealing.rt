@@ -212,8 +212,7 @@ fn put_simple(kind: Kind, message: &[u8], out: &mut [u8; MAX_DATAGRAM]) -> (Chan
 {
     let channel = match kind {
         Kind::Media => Channel::Media,
-        Kind::Control => Channel::Control,
-        Kind::Keepalive => Channel::Tunnel,
+        Kind::Control | Kind::Keepalive => Channel::Control,
     };
     (channel, put_at(out, 0, message))
 }

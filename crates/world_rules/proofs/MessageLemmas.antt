@@ -27,7 +27,7 @@ use Rattle.rist_wire.specs.Item.{item_of, message_of, message_on, item_in}
 use Rattle.rist_wire.specs.Writing.{IsPair, next_pair}
 use Rattle.rist_wire.specs.Packets.{media_value}
 use Rattle.rist_wire.specs.Sent.{IsMediaOut}
-use Rattle.rist_wire.specs.Datagrams.{channel_of, channel_on, datagram_of}
+use Rattle.rist_wire.specs.Datagrams.{channel_of, channel_on, datagram_of, datagram_on}
 use Rattle.rist_wire.proofs.BackLemmas.{item-back}
 use Rattle.rist_wire.proofs.MediaLemmas.{media-taken}
 use Rattle.request_rules.specs.Steps.{receiver_input}
@@ -130,12 +130,14 @@ control_brings session flows pair octets us legal reduced fits paired =
     (sym (item-back session pair ControlKind octets legal (λ main. fits) (λ main. paired) no (λ full. absurd (cc (reduced, full)))))
     (rtcp_brings session.width flows us octets (fault_of octets))
 
--- a keepalive that would go in the Simple Profile is none of its channels' datagrams
+-- a keepalive that would go in the Simple Profile would be read as control
 keepalive_on : (session : Session) (profile : Profile) (flows : List SentFlow) (pair : Option Pair) (octets : List ℕ) (us : ℕ) → session.profile ≡ profile → IsSession session → session.full ≡ false → IsPair pair
     → is_some pair ≡ is_some session.pass → BringsCopy session.width flows (event_read us (item_of session (channel_of session KeepaliveKind) (datagram_of session pair KeepaliveKind octets)))
 unfolding item_of message_of
 keepalive_on session Simple flows pair octets us is legal reduced fits paired =
-    subst (λ profile. BringsCopy session.width flows (event_read us (item_in session.tunnel (message_on profile (channel_on profile KeepaliveKind) session (datagram_of session pair KeepaliveKind octets))))) (sym is) tt
+    subst (λ profile. BringsCopy session.width flows (event_read us (item_in session.tunnel (message_on profile (channel_on profile KeepaliveKind) session (datagram_on profile session pair KeepaliveKind octets))))) (sym is)
+    (subst (λ profile. BringsCopy session.width flows (event_read us (item_in session.tunnel (message_on profile (channel_on profile ControlKind) session (datagram_on profile session pair ControlKind octets))))) is
+    (control_brings session flows pair octets us legal reduced fits paired))
 keepalive_on session Main flows pair octets us is legal reduced fits paired =
     subst (λ item. BringsCopy session.width flows (event_read us item))
     (sym (item-back session pair KeepaliveKind octets legal (λ main. fits) (λ main. paired) (λ e. is) (λ full. absurd (cc (reduced, full)))))
