@@ -6,7 +6,7 @@ ghost use Rattle.outside_io.specs.Causes.{HasCause};
 ghost use Rattle.outside_io.specs.Told.{Appends, AppendsPart};
 ghost use Rattle.capture_file.specs.Capture.{magic, channel_code, spelling};
 ghost use Rattle.capture_file.specs.Heads.{head_octets, record_of};
-ghost use Rattle.capture_file.specs.Writer.{WriterState, new_writer};
+ghost use Rattle.capture_file.specs.Writer.{WriterState, new_writer, onward_writer};
 
 use crate::Head;
 use crate::reader::MAGIC;
@@ -81,6 +81,13 @@ impl<K: Sink> Writer<K> {
         ensures value { result ≡ new_writer (K.contents sink) (K.faults sink) }
     {
         Writer { sink, begun: false }
+    }
+
+    /// A writer of further records, to a sink in which the name stands already.
+    pub fn onward(sink: K) -> Writer<K>
+        ensures value { result ≡ onward_writer (K.contents sink) (K.faults sink) }
+    {
+        Writer { sink, begun: true }
     }
 
     /// Gives the sink back.

@@ -1,0 +1,3 @@
+pub mod OneLemmas
+pub mod OwnLemmas
+pub mod RowLemmas

@@ -1,0 +1,44 @@
+-- What a contract sees of the passes of a desk of several flows.
+use Rattle.std.specs.Prelude.{◌≡◌, ◌≢◌, ℕ, List, reverse, Option, Some}
+use Rattle.reorder_buffer.specs.declared.phase.Phase.TheVariants.{Open}
+use Rattle.rist_desk.specs.declared.step.Step.{Step}
+use Rattle.rist_desk.specs.Legal.{phase_of}
+use Rattle.turn_lock.specs.declared.pass.Pass.{Pass}
+use Rattle.turn_lock.specs.Turns.{entries}
+use Rattle.turn_lock.specs.Passes.{AreAll, AreFresh, IsPassOf, entries_with, number_of, passes_of, turns_seen}
+use Rattle.turn_desk.specs.Own.{AreOf}
+use Rattle.rist_fan.specs.declared.fan.Fan.{Fan}
+use Rattle.rist_fan.specs.Seen.{FanStep, seen}
+use Rattle.fan_desk.specs.declared.desk.FanDesk.{FanDesk}
+
+-- at each place these rows are of this link
+abbrev pub AreRowsOf : ℕ → List FanStep → Type 0
+AreRowsOf link rows = (v : ℕ) → AreOf link (seen v rows)
+
+-- the steps that were made with a pass at a place, the oldest first
+abbrev pub own_list : {X : Type 0} → ℕ → Pass FanStep X → Option (List Step)
+own_list v pass = Some (reverse (seen v (entries_with pass)))
+
+-- by the turns that it has seen, a write of the sink at a place has failed
+abbrev pub HasSeenFault : {X : Type 0} → ℕ → Pass FanStep X → Type 0
+HasSeenFault v pass = phase_of (seen v (entries (turns_seen pass))) ≢ Open
+
+module _ {N K : Type 0} where
+  -- how many passes a desk has
+  abbrev pub passes_in : FanDesk N K → ℕ
+  passes_in desk = passes_of desk.lock
+
+  -- the pass is one of the desk's, by this number, which is that of its link: at each place the steps that were made
+  -- with it are of that link
+  pub record IsOf (desk : FanDesk N K) (link : ℕ) (pass : Pass FanStep (Fan K)) : Type 0 where
+    pub own : IsPassOf desk.lock pass
+    pub number : number_of pass ≡ link
+    pub rows : AreRowsOf link (entries_with pass)
+
+  -- all passes of the desk, in order, with none of which a turn was taken
+  abbrev pub AreFreshFor : FanDesk N K → List (Pass FanStep (Fan K)) → Type 0
+  AreFreshFor desk passes = AreFresh desk.lock passes
+
+  -- all passes of the desk, in order
+  abbrev pub AreAllOf : FanDesk N K → List (Pass FanStep (Fan K)) → Type 0
+  AreAllOf desk passes = AreAll desk.lock passes

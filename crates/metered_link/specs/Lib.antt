@@ -1,0 +1,3 @@
+pub mod Meters
+pub mod Lines
+pub mod Tellers

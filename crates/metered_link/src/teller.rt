@@ -1,0 +1,42 @@
+//! What a link tells to.
+ghost use Rattle.std.specs.Prelude.{◌≡◌};
+ghost use Rattle.metered_link.specs.Tellers.{PutsLine};
+
+use crate::Telling;
+use crate::line::link_line;
+use outside_io::Sink;
+use std::alloc::Global;
+
+/// Is told how a link does.
+pub trait Teller {
+    /// What the link at a place came to. Whether it was told.
+    fn tell(&mut self, place: u8, telling: &Telling) -> bool;
+}
+
+/// Puts lines of JSON to a sink, each by one call. A line that can't be made or put is left out.
+#[derive(Drop)]
+pub struct Lines<K> {
+    pub sink: K,
+    alloc: Global,
+}
+
+impl<K> Lines<K> {
+    /// Lines to this sink, in memory that is taken for each and given back.
+    pub fn over(alloc: Global, sink: K) -> Lines<K>
+        ensures sink { result.sink ≡ sink }
+    {
+        Lines { sink, alloc }
+    }
+}
+
+impl<K: Sink> Teller for Lines<K> {
+    fn tell(&mut self, place: u8, telling: &Telling) -> bool
+        // Where the sink tells, it gained the line, or less where it wasn't told.
+        ensures line { PutsLine (K.contents self.old.sink) (K.contents self.new.sink) place telling.now result }
+    {
+        match link_line(self.alloc, place, telling) {
+            Ok(line) => self.sink.put(&line).is_ok(),
+            Err(_) => false,
+        }
+    }
+}

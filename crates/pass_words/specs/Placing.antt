@@ -1,0 +1,33 @@
+-- The words with a passphrase in place of what names its file.
+use Rattle.std.specs.Prelude.{◌≡◌, ◌≤◌, ◌++◌, ◌∷◌, ℕ, Bool, true, false, List, length, string_bytes}
+use Rattle.std.specs.Prelude.{Option, Some, None, Result, Ok, Err}
+use Rattle.std.specs.declared.string.String.{String}
+use Rattle.std.specs.List.{insert, remove}
+use Rattle.pass_words.specs.declared.options.PassOption.{PassOption}
+use Rattle.pass_words.specs.declared.options.PassFault.{PassFault}
+use Rattle.pass_words.specs.Options.{Place, Word, pass_word_of}
+
+-- the option of a passphrase and the passphrase, as one word
+abbrev pub phrase_word_of : PassOption → Word → Word
+phrase_word_of option phrase = pass_word_of option ++ 61 ∷ phrase
+
+-- the words without the option at an index, and without its value where that is a word of its own
+abbrev pub without_file : {W : Type 0} → ℕ → Bool → List W → List W
+without_file at false words = remove words at
+without_file at true words = remove (remove words at) at
+
+-- the words with one word in place of those
+abbrev pub placed : {W : Type 0} → ℕ → Bool → W → List W → List W
+placed at is_apart word words = insert (without_file at is_apart words) at word
+
+-- a word is the option and some passphrase of 1 to 128 octets
+abbrev pub IsWithPhrase : {A : Type 0} → PassOption → String A → Type 0
+IsWithPhrase option word =
+    (phrase : Word) × (string_bytes word ≡ phrase_word_of option phrase) × (1 ≤ length phrase) × (length phrase ≤ 128)
+
+-- where a file is named, some such word stands in place of what names it
+abbrev pub IsPlaced : {A : Type 0} → PassOption → Result (Option Place) PassFault → List (String A) → List (String A) → Type 0
+IsPlaced option (Ok None) old new = Unit {0}
+IsPlaced {A} option (Ok (Some place)) old new =
+    (word : String A) × IsWithPhrase option word × (new ≡ placed place.at place.is_apart word old)
+IsPlaced option (Err fault) old new = ⊥

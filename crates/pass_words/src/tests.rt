@@ -1,0 +1,222 @@
+//! What words name, what a file's first line is, and a passphrase in the place of its file.
+use super::*;
+use outside_io::{Bytes, NoMemory, Source};
+use std::alloc::Global;
+use std::fmt::Write;
+use std::test::Fail;
+
+/// Words, and what names their file: its name and the index of the option; nothing; or why they name none.
+static NAMED: [(&str, Result<Option<(&str, usize)>, PassFault>); 14] = [
+    ("rist recv a 1.2.3.4:5", Ok(None)),
+    (
+        "rist recv a 1.2.3.4:5 --pass-file key",
+        Ok(Some(("key", 4))),
+    ),
+    (
+        "rist recv --pass-file=key a 1.2.3.4:5",
+        Ok(Some(("key", 2))),
+    ),
+    (
+        "rist recv --pass-file=a=b a 1.2.3.4:5",
+        Ok(Some(("a=b", 2))),
+    ),
+    ("rist split --pass-file - a b", Ok(Some(("-", 2)))),
+    ("rist recv --pass secret a", Ok(None)),
+    ("rist drill --pass-file key 1 2 3 4", Ok(None)),
+    ("rist recv -- --pass-file key", Ok(None)),
+    (
+        "rist recv --pass secret --pass-file key",
+        Err(PassFault::Twice(PassOption::Own)),
+    ),
+    (
+        "rist recv --pass-file a --pass=secret",
+        Err(PassFault::Twice(PassOption::Own)),
+    ),
+    (
+        "rist recv --pass-file a --pass-file=b",
+        Err(PassFault::Twice(PassOption::Own)),
+    ),
+    (
+        "rist recv --pass-file",
+        Err(PassFault::NoName(PassOption::Own)),
+    ),
+    (
+        "rist recv --pass-file --delay 5",
+        Err(PassFault::NoName(PassOption::Own)),
+    ),
+    (
+        "rist recv --pass-file=",
+        Err(PassFault::NoName(PassOption::Own)),
+    ),
+];
+
+/// Words, and whether a variable stands for a passphrase.
+static OPEN: [(&str, bool); 7] = [
+    ("rist recv a 1.2.3.4:5", true),
+    ("rist gate a --in-pass secret", true),
+    ("rist recv a --pass secret", false),
+    ("rist recv a --pass-file=key", false),
+    ("rist recv --help", false),
+    ("rist drill 1 2 3 4", false),
+    ("rist --help", false),
+];
+
+/// Contents of a file, and the passphrase in their first line, or why there is none.
+static LINES: [(&[u8], Result<&str, LineFault>); 7] = [
+    (b"secret\nmore\n", Ok("secret")),
+    (b"secret\r\nmore", Ok("secret")),
+    (b" two words ", Ok(" two words ")),
+    (b"\nsecret\n", Err(LineFault::Empty)),
+    (b"", Err(LineFault::Empty)),
+    (b"\r\n", Err(LineFault::Empty)),
+    (b"\xff\n", Err(LineFault::NotText)),
+];
+
+fn words(alloc: Global, line: &str) -> Result<Vec<String>, Fail> {
+    let mut words = Vec::new(alloc);
+    for word in line.split(' ') {
+        words.push(String::from_str(alloc, word)?)?;
+    }
+    Ok(words)
+}
+
+fn all_named(alloc: Global) -> Result<bool, Fail> {
+    for (line, named) in &NAMED {
+        let words = words(alloc, line)?;
+        let found = match pass_file(PassOption::Own, words.as_slice()) {
+            Ok(Some(file)) => Ok(Some((file.name, file.at))),
+            Ok(None) => Ok(None),
+            Err(fault) => Err(fault),
+        };
+        if found != *named {
+            return Ok(false);
+        }
+    }
+    Ok(true)
+}
+
+fn all_open(alloc: Global) -> Result<bool, Fail> {
+    for (line, is_open) in &OPEN {
+        let words = words(alloc, line)?;
+        if takes_variable(words.as_slice()) != *is_open {
+            return Ok(false);
+        }
+    }
+    Ok(true)
+}
+
+fn all_lines(alloc: Global) -> Result<bool, Fail> {
+    for (octets, phrase) in &LINES {
+        let mut source = Bytes::with(alloc, octets, &[])?;
+        let mut block = [0; 129];
+        if read_phrase(&mut source, &mut block) != *phrase {
+            return Ok(false);
+        }
+    }
+    Ok(true)
+}
+
+#[test]
+fn a_file_is_named_once_or_refused(rt: HostRuntime) -> Result<(), Fail> {
+    assert!(rt; all_named(rt.alloc())?);
+    let words = words(rt.alloc(), "rist gate a --pass x --in-pass-file key")?;
+    let file = pass_file(PassOption::Incoming, words.as_slice());
+    assert_eq!(rt;
+        file,
+        Ok(Some(PassFile {
+            name: "key",
+            at: 5,
+            is_apart: true
+        }))
+    );
+    Ok(())
+}
+
+#[test]
+fn a_variable_stands_for_a_passphrase_that_is_not_given(rt: HostRuntime) -> Result<(), Fail> {
+    assert!(rt; all_open(rt.alloc())?);
+    Ok(())
+}
+
+#[test]
+fn the_first_line_is_the_passphrase(rt: HostRuntime) -> Result<(), Fail> {
+    assert!(rt; all_lines(rt.alloc())?);
+    let mut block = [0; 129];
+    let mut long = Bytes::with(rt.alloc(), &[b'a'; 130], &[])?;
+    assert_eq!(rt; first_line(&mut long, &mut block), Err(LineFault::TooLong));
+    let mut failing = Bytes::with(rt.alloc(), b"secret\n", &[3])?;
+    assert_eq!(rt;
+        first_line(&mut failing, &mut block),
+        Err(LineFault::ReadFault)
+    );
+    let mut source = Bytes::with(rt.alloc(), b"secret\nmore", &[])?;
+    assert_eq!(rt; first_line(&mut source, &mut block), Ok(6));
+    assert_eq!(rt; source.read(&mut block), Ok(4));
+    assert!(rt; &block[..4] == b"more".as_slice());
+    Ok(())
+}
+
+/// The words of a line with a passphrase in place of its file.
+fn with_phrase(
+    alloc: Global,
+    option: PassOption,
+    line: &str,
+    phrase: &str,
+) -> Result<Vec<String>, Fail> {
+    let words = words(alloc, line)?;
+    let (at, is_apart) = match pass_file(option, words.as_slice()) {
+        Ok(Some(file)) => (file.at, file.is_apart),
+        _ => return Ok(words),
+    };
+    let word = phrase_word(alloc, option, phrase)?;
+    Ok(with_word(words, at, is_apart, word)?)
+}
+
+#[test]
+fn the_passphrase_stands_in_place_of_its_file(rt: HostRuntime) -> Result<(), Fail> {
+    let alloc = rt.alloc();
+    let placed = with_phrase(
+        alloc,
+        PassOption::Own,
+        "rist recv --pass-file key a",
+        "-secret",
+    )?;
+    assert!(rt; placed.as_slice() == words(alloc, "rist recv --pass=-secret a")?.as_slice());
+    let placed = with_phrase(
+        alloc,
+        PassOption::Incoming,
+        "rist gate a --in-pass-file=key",
+        "x",
+    )?;
+    assert!(rt; placed.as_slice() == words(alloc, "rist gate a --in-pass=x")?.as_slice());
+    Ok(())
+}
+
+#[test]
+fn the_passphrase_of_a_variable_stands_behind_the_command(rt: HostRuntime) -> Result<(), Fail> {
+    let alloc = rt.alloc();
+    let given = words(alloc, "rist recv a")?;
+    if !takes_variable(given.as_slice()) {
+        assert!(rt; false);
+        return Ok(());
+    }
+    let placed = with_variable(given, phrase_word(alloc, PassOption::Own, "secret")?)?;
+    assert!(rt; placed.as_slice() == words(alloc, "rist recv --pass=secret a")?.as_slice());
+    Ok(())
+}
+
+#[test]
+fn a_fault_says_what_is_wrong(rt: HostRuntime) -> Result<(), Fail> {
+    let mut text = String::new(rt.alloc());
+    write!(
+        text,
+        "{}; {}",
+        PassFault::Twice(PassOption::Own),
+        LineFault::TooLong
+    )?;
+    assert_eq!(rt;
+        text.as_str(),
+        "--pass, --pass-file: one of them, once; its first line is above 128 octets"
+    );
+    Ok(())
+}
