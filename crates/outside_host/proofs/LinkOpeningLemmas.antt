@@ -6,7 +6,12 @@ use Rattle.outside_host.specs.declared.host.Place.{Place}
 use Rattle.outside_host.specs.declared.host.Place.TheVariants.{Here, Out}
 use Rattle.outside_host.specs.Links.{AreOut, AreBack, AreAsTheyWere, IsAsItWas}
 use Rattle.std.specs.Prelude.{Result, Ok, Err, OnErr}
-use Rattle.outside_host.specs.Inside.Links.{ComeBack, IsNextOut, StayFirst}
+use Rattle.std.specs.Prelude.{Bool}
+use Rattle.link_channels.specs.declared.channel.Channel.{Channel}
+use Rattle.link_channels.specs.declared.profile.Profile.{Profile}
+use Rattle.outside_net.specs.declared.link_spec.Role.{Role}
+use Rattle.outside_host.specs.Shelf.{KnowsStated}
+use Rattle.outside_host.specs.Inside.Links.{ComeBack, GainKnowing, IsNextOut, StayFirst}
 use Rattle.outside_host.proofs.LinkGivingLemmas.{same_place}
 
 pub none_out : {L : Type 0} (old : ℕ → Place L) → AreOut old old []
@@ -90,3 +95,31 @@ from_some base old new had (Err e) out back = back base out
 pub as_many_out : {A B : Type 0} (f : A → B) (first now : List B) (xs : List A) (n links : ℕ) → now ≡ first ++ map f xs → length first ≡ n → links ≡ n + length xs → length now ≡ links
 as_many_out f first now xs n links is before count =
     omega (arith, ap length is, length-append first (map f xs), length-map xs f, before, count)
+
+-- ---- links that know the peers that their addresses state
+
+pub know_none : {L : Type 0} (knows : L → Channel → Bool) (role : Role) (profile : Profile) (had : List L) → GainKnowing knows role profile had had
+know_none knows role profile had = record {
+  first = λ i d less. refl;
+  gained = λ i d least less. absurd (omega (arith, least, less));
+}
+
+pub know_one : {L : Type 0} (knows : L → Channel → Bool) (role : Role) (profile : Profile) (had has : List L) (link : L) → has ≡ had ++ link ∷ [] → KnowsStated (knows link) role profile
+    → GainKnowing knows role profile had has
+know_one {L} knows role profile had has link is known =
+    subst (λ (ls : List L). GainKnowing knows role profile had ls) (sym is) (record {
+      first = λ i d less. get_or_append_left had (link ∷ []) d i less;
+      gained = λ i d least less.
+          subst (λ (x : L). KnowsStated (knows x) role profile) (sym (get_or_at had link [] d i (omega (arith, least, less, length-append had (link ∷ []))))) known;
+    })
+
+pub know_both : {L : Type 0} (knows : L → Channel → Bool) (role : Role) (profile : Profile) (a b c : List L) → length a ≤ length b → GainKnowing knows role profile a b → GainKnowing knows role profile b c
+    → GainKnowing knows role profile a c
+know_both {L} knows role profile a b c more one two = record {
+  first = λ i d less. two.first i d (omega (arith, less, more)) ∙ one.first i d less;
+  gained = λ i d least less. by_place i d least less (below i (length b));
+}
+  where
+    by_place : (i : ℕ) (d : L) → length a ≤ i → i < length c → (i < length b) ⊎ (length b ≤ i) → KnowsStated (knows (slice_index_or c i d)) role profile
+    by_place i d least less (inl there) = subst (λ (x : L). KnowsStated (knows x) role profile) (sym (two.first i d there)) (one.gained i d least there)
+    by_place i d least less (inr behind) = two.gained i d behind less

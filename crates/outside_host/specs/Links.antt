@@ -1,6 +1,9 @@
 -- Links that a host hands out one after another, and takes back.
 use Rattle.std.specs.Prelude.{◌≡◌, ◌⊎◌, ◌<◌, ◌≤◌, ℕ, List, [], Bool, IsTrue, length, slice_index_or}
-use Rattle.outside_host.specs.Shelf.{Shelf}
+use Rattle.link_channels.specs.declared.channel.Channel.{Channel}
+use Rattle.link_channels.specs.declared.profile.Profile.{Profile}
+use Rattle.outside_net.specs.declared.link_spec.Role.{Role}
+use Rattle.outside_host.specs.Shelf.{Shelf, KnowsStated}
 use Rattle.outside_host.specs.declared.host.Place.{Place}
 use Rattle.outside_host.specs.declared.host.Place.TheVariants.{Here, Out, Back}
 
@@ -23,6 +26,11 @@ pub record AreBack {L : Type 0} (old new : ℕ → Place L) (links : List L) : T
   pub now : (place : ℕ) (d : L) → place < length links → old place ≡ Out
       → new place ≡ Back (slice_index_or links place d)
   pub others : (place : ℕ) → length links ≤ place → new place ≡ old place
+
+-- each link behind the first ones knows the peers that its address states
+abbrev pub KnowStatedFrom : {L : Type 0} → (L → Channel → Bool) → Role → Profile → ℕ → List L → Type 0
+KnowStatedFrom {L} knows role profile from links =
+    (i : ℕ) (d : L) → from ≤ i → i < length links → KnowsStated (knows (slice_index_or links i d)) role profile
 
 -- an object stands as it stood, or it was handed out and came back as it was
 abbrev pub IsAsItWas : {X : Type 0} → Place X → Place X → Type 0

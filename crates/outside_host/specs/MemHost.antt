@@ -1,5 +1,9 @@
 -- What stands under the names and at the places of a host in memory, and its calls.
-use Rattle.std.specs.Prelude.{◌≡◌, ◌≢◌, ◌⊎◌, ◌<◌, [], length, None}
+use Rattle.std.specs.Prelude.{◌≡◌, ◌≢◌, ◌⊎◌, ◌<◌, ◌&&◌, [], length, None, Bool, true}
+use Rattle.link_channels.specs.declared.channel.Channel.{Channel}
+use Rattle.link_channels.specs.declared.channel.Channel.TheVariants.{Media, Control, Tunnel}
+use Rattle.link_channels.specs.declared.profile.Profile.{Profile}
+use Rattle.link_channels.specs.declared.profile.Profile.TheVariants.{Simple, Main}
 use Rattle.outside_io.specs.Calls.{Calls, FailsNext}
 use Rattle.outside_host.specs.Shelf.{Shelf, IsAway}
 use Rattle.outside_host.specs.declared.host.HostBad.{HostBad}
@@ -11,7 +15,10 @@ use Rattle.outside_host.specs.declared.host.Place.TheVariants.{Here}
 use Rattle.outside_io.specs.declared.mem_source.MemSource.{MemSource}
 use Rattle.outside_io.specs.declared.store.Store8.{Store8}
 use Rattle.outside_io.specs.declared.words.Words.{Words}
+use Rattle.outside_net.specs.declared.link_spec.Role.{Role}
+use Rattle.outside_net.specs.declared.link_spec.Role.TheVariants.{Receives, Sends, Forwards}
 use Rattle.outside_net.specs.declared.script_link.ScriptLink.{ScriptLink}
+use Rattle.outside_net.specs.Scripts.{knows_in}
 use Rattle.outside_net.specs.declared.script_clock.ScriptClock.{ScriptClock}
 use Rattle.outside_host.specs.declared.mem_host.MemHost.{MemHost}
 use Rattle.outside_host.specs.declared.mem_host.MemParts.{MemParts}
@@ -46,13 +53,29 @@ IsRefused bad calls IsMissing = (bad ≡ Failed) × (FailsNext calls ⊎ IsMissi
 abbrev pub HasNoNextEntropy : {I O E L C : Type 0} → Shelf I O E L C → Type 0
 HasNoNextEntropy shelf = (255 < shelf.next_entropy) ⊎ IsAway (shelf.entropies shelf.next_entropy)
 
--- no link that took nothing stands here to be handed out
-abbrev pub HoldsNoUnwritten : Place ScriptLink → Type 0
-HoldsNoUnwritten place = (link : ScriptLink) → place ≡ Here link → link.taken ≢ []
+-- the peers of all channels of a profile are known
+abbrev pub are_sent_known : (Channel → Bool) → Profile → Bool
+are_sent_known knows Simple = knows Media && knows Control
+are_sent_known knows Main = knows Tunnel
 
--- 256 links were handed out, or none that took nothing stands at the next place
-abbrev pub HasNoNextLink : {I O E C : Type 0} → Shelf I O E ScriptLink C → Type 0
-HasNoNextLink shelf = (255 < length shelf.opened_links) ⊎ HoldsNoUnwritten (shelf.links (length shelf.opened_links))
+-- the peers are known that an address states in this role and profile
+abbrev pub are_stated_known : (Channel → Bool) → Role → Profile → Bool
+are_stated_known knows Receives profile = true
+are_stated_known knows Sends profile = are_sent_known knows profile
+are_stated_known knows Forwards profile = are_sent_known knows profile
+
+-- a link may be handed out in this role: it took nothing yet, and knows the peers that an address states there
+abbrev pub IsFitFor : ScriptLink → Role → Profile → Type 0
+IsFitFor link role profile = (link.taken ≡ []) × (are_stated_known (knows_in link.known) role profile ≡ true)
+
+-- no such link stands here to be handed out
+abbrev pub HoldsNoneFor : Place ScriptLink → Role → Profile → Type 0
+HoldsNoneFor place role profile = (link : ScriptLink) → place ≡ Here link → IsFitFor link role profile → ⊥
+
+-- 256 links were handed out, or none that may be stands at the next place
+abbrev pub HasNoNextLink : {I O E C : Type 0} → Shelf I O E ScriptLink C → Role → Profile → Type 0
+HasNoNextLink shelf role profile =
+    (255 < length shelf.opened_links) ⊎ HoldsNoneFor (shelf.links (length shelf.opened_links)) role profile
 
 -- 256 clocks were handed out, or none stands at the next place
 abbrev pub HasNoNextClock : {I O E L C : Type 0} → Shelf I O E L C → Type 0

@@ -1,7 +1,11 @@
 -- The objects of a host, by the names or places that they are asked by.
 use Rattle.std.specs.Prelude.{◌≡◌, ◌≢◌, ℕ, List, [], ◌∷◌, ◌++◌, length, Bool, true, false, Option, None, IfSome, Result}
 use Rattle.std.specs.Prelude.{Ok, Err}
+use Rattle.link_channels.specs.declared.channel.Channel.{Channel}
+use Rattle.link_channels.specs.declared.profile.Profile.{Profile}
 use Rattle.outside_io.specs.Causes.{RoseWhere}
+use Rattle.outside_net.specs.declared.link_spec.Role.{Role}
+use Rattle.outside_net.specs.Real.{stated_in}
 use Rattle.outside_host.specs.declared.host.HostBad.{HostBad}
 use Rattle.outside_host.specs.declared.host.HostBad.TheVariants.{Failed, NoMemory}
 use Rattle.outside_host.specs.declared.host.Place.{Place}
@@ -123,6 +127,10 @@ nowhere = record {
 -- what a link took is nothing, where it tells
 abbrev pub IsUnwritten : {D : Type 0} → Option (List D) → Type 0
 IsUnwritten taken = IfSome taken (λ datagrams. datagrams ≡ [])
+
+-- a link of this role knows the peers that its address states
+abbrev pub KnowsStated : (Channel → Bool) → Role → Profile → Type 0
+KnowsStated knows role profile = (c : Channel) → stated_in role profile c ≡ true → knows c ≡ true
 
 -- the call of a host failed, and it was not for want of memory
 abbrev pub has_host_failed : {T : Type 0} → Result T HostBad → Bool

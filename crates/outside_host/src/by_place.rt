@@ -1,12 +1,14 @@
 //! Objects by place, from 0.
 ghost use Rattle.std.specs.Prelude.{◌≡◌, ◌<◌, [], length, IfSome, IfNone, IsTrue, false};
-ghost use Rattle.outside_host.specs.MemHost.{HoldsNoUnwritten};
+ghost use Rattle.outside_net.specs.Scripts.{knows_in};
+ghost use Rattle.outside_host.specs.MemHost.{HoldsNoneFor, IsFitFor, are_stated_known};
 ghost use Rattle.outside_host.specs.declared.host.Place.TheVariants.{Here, Back};
 ghost use Rattle.outside_host.specs.ByPlace.{object_at};
 ghost use Rattle.outside_host.specs.Shelf.{Stays, HandsOut, TakesBack, IsAway};
 
 use crate::Place;
-use outside_net::ScriptLink;
+use link_channels::{Channel, Profile};
+use outside_net::{Role, ScriptLink};
 use std::mem;
 
 // Hands out the object of this place, if it stands there.
@@ -48,16 +50,34 @@ pub(crate) fn returned_place<T>(places: &[Place<T>], at: usize) -> Option<&T>
     }
 }
 
-// Whether a link that took nothing stands at this place, to be handed out.
-pub(crate) fn is_unwritten(places: &[Place<ScriptLink>], at: usize) -> bool
-    ensures value { (link : _) → IsTrue result → object_at places.now at ≡ Here link → link.taken ≡ [] }
-    ensures none { result ≡ false → HoldsNoUnwritten (object_at places.now at) }
+// Whether a link knows the peers that its address states in this role and profile.
+fn knows_stated(link: &ScriptLink, role: Role, profile: Profile) -> bool
+    ensures value { result ≡ are_stated_known (knows_in link.now.known) role profile }
+{
+    match (role, profile) {
+        (Role::Receives, _) => true,
+        (Role::Sends | Role::Forwards, Profile::Simple) => {
+            link.has_peer(Channel::Media) && link.has_peer(Channel::Control)
+        }
+        (Role::Sends | Role::Forwards, Profile::Main) => link.has_peer(Channel::Tunnel),
+    }
+}
+
+// Whether a link stands at this place that may be handed out in this role and profile.
+pub(crate) fn holds_link_for(
+    places: &[Place<ScriptLink>],
+    at: usize,
+    role: Role,
+    profile: Profile,
+) -> bool
+    ensures value { (link : _) → IsTrue result → object_at places.now at ≡ Here link → IsFitFor link role profile }
+    ensures none { result ≡ false → HoldsNoneFor (object_at places.now at) role profile }
 {
     if at >= places.len() {
         return false;
     }
     match &places[at] {
-        Place::Here(link) => link.is_unwritten(),
+        Place::Here(link) => link.is_unwritten() && knows_stated(link, role, profile),
         _ => false,
     }
 }

@@ -5,7 +5,7 @@ ghost use Rattle.outside_io.specs.Told.{IsEmpty};
 ghost use Rattle.outside_host.specs.Counts.{named};
 ghost use Rattle.outside_host.specs.declared.counts.TheConstants.{MAX_COUNTS};
 ghost use Rattle.outside_host.specs.Shelf.{Shelf, Stays, TakesBack, HasHostCause};
-ghost use Rattle.outside_host.specs.Shelf.{HandsOutSource, HandsOutSink, HandsOutNext, HandsOutLink, HandsOutClock, KeepsLinks, IsUnwritten};
+ghost use Rattle.outside_host.specs.Shelf.{HandsOutSource, HandsOutSink, HandsOutNext, HandsOutLink, HandsOutClock, KeepsLinks, IsUnwritten, KnowsStated};
 ghost use Rattle.outside_host.specs.Shelf.{ChangesSources, ChangesSinks, ChangesEntropies, ChangesDrawing, ChangesLinks, ChangesOpening, ChangesClocks, ChangesTiming, ChangesReport};
 
 use crate::Count;
@@ -118,14 +118,27 @@ pub trait Host {
         ensures cause { HasHostCause (faults self.old) (faults self.new) result };
 
     /// Hands out the next link, opened so: the first one asked for stands at place 0. Where it tells, it took nothing yet.
-    /// One that tells hands out at most 256.
+    /// In a role that sends it knows its peers. One that tells hands out at most 256.
     fn link(&mut self, spec: &LinkSpec, role: Role, profile: Profile) -> Result<Self::Wire, HostBad>
         ensures ok { IsTrue tells → IfOk result (λ object. HandsOutLink (shelf self.old) (shelf self.new)
             (record { spec = spec.now; role = role; profile = profile }) object) }
         ensures fresh { IfOk result (λ object. IsUnwritten (Self.Wire.taken object)) }
+        ensures peers { IfOk result (λ object. KnowsStated (Self.Wire.knows object) role profile) }
         ensures within { IsTrue tells → OnOk result (length (shelf self.old).opened_links < 256) }
         ensures err { IsTrue tells → OnErr result (KeepsLinks (shelf self.old) (shelf self.new)) }
         ensures same { IsTrue tells → ChangesOpening (shelf self.old) (shelf self.new) }
+        ensures cause { HasHostCause (faults self.old) (faults self.new) result };
+
+    /// Says what is to be kept of a run beside its own output, before its links are handed out: what comes on these is
+    /// recorded under this name, where the host can. In memory nothing is.
+    fn record(&mut self, name: &str) -> Result<(), HostBad>
+        ensures same { IsTrue tells → shelf self.new ≡ shelf self.old }
+        ensures cause { HasHostCause (faults self.old) (faults self.new) result };
+
+    /// Says that the links which it hands out later are to tell how they do, each `every` milliseconds and where one comes up
+    /// or goes down: to a file of this name, or else to the error output, where the host can. In memory none tells.
+    fn statistics(&mut self, every: u64, name: Option<&str>) -> Result<(), HostBad>
+        ensures same { IsTrue tells → shelf self.new ≡ shelf self.old }
         ensures cause { HasHostCause (faults self.old) (faults self.new) result };
 
     /// Hands out the next clock: the first one asked for stands at place 0. One that tells hands out at most 256.

@@ -3,8 +3,8 @@ ghost use Rattle.std.specs.Prelude.{◌≡◌, ◌≤◌, ◌<◌, ◌++◌, ◌
 ghost use Rattle.link_channels.specs.declared.bounds.TheConstants.{MAX_LINKS};
 ghost use Rattle.outside_host.specs.Shelf.{ChangesLinks, ChangesOpening, HasHostCause};
 ghost use Rattle.outside_net.specs.declared.link_spec.Role.TheVariants.{Forwards, Receives};
-ghost use Rattle.outside_host.specs.Links.{AreAsTheyWere, AreBack, AreOut, HasOpenedNone};
-ghost use Rattle.outside_host.specs.Inside.Links.{ComeBack, GoOut, IsNextOut, StayFirst};
+ghost use Rattle.outside_host.specs.Links.{AreAsTheyWere, AreBack, AreOut, HasOpenedNone, KnowStatedFrom};
+ghost use Rattle.outside_host.specs.Inside.Links.{ComeBack, GainKnowing, GoOut, IsNextOut, StayFirst};
 
 use crate::{Host, HostBad};
 use link_channels::Profile;
@@ -28,6 +28,7 @@ fn open_next<H: Host>(
         (AreAsTheyWere (H.shelf host.old).links (H.shelf host.new).links
         × StayFirst (length links.old.items) (H.shelf host.old).links (H.shelf host.new).links) }
     ensures more { OnOk result (length links.new.items ≡ length links.old.items + 1) }
+    ensures knows { OnOk result (GainKnowing H.Wire.knows role profile links.old.items links.new.items) }
     ensures kept { OnErr result (links.new.items ≡ links.old.items) }
     ensures same { IsTrue H.tells → ChangesOpening (H.shelf host.old) (H.shelf host.new) }
     ensures cause { HasHostCause (H.faults host.old) (H.faults host.new) result }
@@ -58,6 +59,7 @@ fn open_all<H: Host>(
     ensures ok { IsTrue H.tells → length (H.shelf host.old).opened_links ≡ length links.items
         → IfOk result (λ all. GoOut (H.shelf host.old).links (H.shelf host.new).links links.items all.items) }
     ensures count { IfOk result (λ all. length all.items ≡ length links.items + length specs.now) }
+    ensures know { IfOk result (λ all. GainKnowing H.Wire.knows role profile links.items all.items) }
     ensures opened { IsTrue H.tells → length (H.shelf host.old).opened_links ≡ length links.items
         → OnOk result ((H.shelf host.new).opened_links ≡ (H.shelf host.old).opened_links
         ++ map (λ spec. record { spec = spec; role = role; profile = profile }) specs.now) }
@@ -90,6 +92,7 @@ pub fn open_links<H: Host>(
     ensures ok { HasOpenedNone H.tells (H.shelf host.old)
         → IfOk result (λ links. AreOut (H.shelf host.old).links (H.shelf host.new).links links.items) }
     ensures count { IfOk result (λ links. length links.items ≡ length specs.now) }
+    ensures know { IfOk result (λ links. KnowStatedFrom H.Wire.knows role profile 0 links.items) }
     ensures opened { HasOpenedNone H.tells (H.shelf host.old) → OnOk result ((H.shelf host.new).opened_links
         ≡ map (λ spec. record { spec = spec; role = role; profile = profile }) specs.now) }
     ensures err { HasOpenedNone H.tells (H.shelf host.old)
@@ -118,6 +121,7 @@ pub fn open_both<H: Host>(
     ensures ok { HasOpenedNone H.tells (H.shelf host.old)
         → IfOk result (λ links. AreOut (H.shelf host.old).links (H.shelf host.new).links links.items) }
     ensures count { IfOk result (λ links. length links.items ≡ length inputs.now + length outputs.now) }
+    ensures know { IfOk result (λ links. KnowStatedFrom H.Wire.knows Forwards onward (length inputs.now) links.items) }
     ensures opened { HasOpenedNone H.tells (H.shelf host.old) → OnOk result ((H.shelf host.new).opened_links
         ≡ map (λ spec. record { spec = spec; role = Receives; profile = incoming }) inputs.now
         ++ map (λ spec. record { spec = spec; role = Forwards; profile = onward }) outputs.now) }

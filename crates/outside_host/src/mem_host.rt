@@ -1,11 +1,12 @@
 //! A host in memory.
-ghost use Rattle.std.specs.Prelude.{◌≡◌, ◌<◌, ◌+◌, ◌⊎◌, [], length, take, slice_get, true, Some, None, IfSome, IfNone, IfOk, IfErr, IsTrue, OnOk, OnErr};
+ghost use Rattle.std.specs.Prelude.{◌≡◌, ◌<◌, ◌+◌, ◌⊎◌, [], length, take, slice_get, true, Some, None, IfSome, IfNone, IfOk, IfErr, IsOk, IsTrue, OnOk, OnErr};
 ghost use Rattle.outside_io.specs.Calls.{no_calls, FailsNext, CountsCall};
 ghost use Rattle.outside_io.specs.Told.{IsEmpty};
 ghost use Rattle.outside_host.specs.Counts.{named};
 ghost use Rattle.outside_host.specs.declared.counts.TheConstants.{MAX_COUNTS};
 ghost use Rattle.outside_host.specs.Shelf.{Stays, TakesBack, IsAway, HasHostCause};
-ghost use Rattle.outside_host.specs.Shelf.{HandsOutSource, HandsOutSink, HandsOutNext, HandsOutLink, HandsOutClock, KeepsLinks, IsUnwritten};
+ghost use Rattle.outside_host.specs.Shelf.{HandsOutSource, HandsOutSink, HandsOutNext, HandsOutLink, HandsOutClock, KeepsLinks, IsUnwritten, KnowsStated};
+ghost use Rattle.outside_net.specs.Scripts.{knows_in};
 ghost use Rattle.outside_host.specs.Shelf.{ChangesSources, ChangesSinks, ChangesEntropies, ChangesDrawing, ChangesLinks, ChangesOpening, ChangesClocks, ChangesTiming, ChangesReport};
 ghost use Rattle.outside_host.specs.declared.host.HostBad.TheVariants.{Failed};
 ghost use Rattle.outside_host.specs.ByPlace.{object_at};
@@ -13,7 +14,7 @@ ghost use Rattle.outside_host.specs.Slots.{place_of};
 ghost use Rattle.outside_host.specs.MemHost.{mem_shelf, mem_calls, IsRefused, HasNoEmptySink, HasNoNextEntropy, HasNoNextLink, HasNoNextClock, shelf_of};
 ghost use Rattle.outside_host.specs.declared.host.Place.TheVariants.{Back};
 
-use crate::by_place::{is_unwritten, put_place, returned_place, take_place};
+use crate::by_place::{holds_link_for, put_place, returned_place, take_place};
 use crate::openings::Openings;
 use crate::report::Report;
 use crate::slots::{is_fresh, put_back, returned, take_out};
@@ -41,7 +42,7 @@ pub struct MemParts {
 }
 
 /// A host that hands out objects in memory, and keeps those that come back. Of an absent name or place, of one that was
-/// handed out, of a sink that isn't empty and of a link that took a datagram the call fails.
+/// handed out, of a sink that isn't empty, and of a link that took a datagram or lacks a peer of its role the call fails.
 #[derive(Drop)]
 pub struct MemHost {
     sources: Vec<Slot<MemSource>>,
@@ -233,18 +234,23 @@ impl Host for MemHost {
         ensures ok { IsTrue true → IfOk result (λ object. HandsOutLink (mem_shelf self.old) (mem_shelf self.new)
             (record { spec = spec.now; role = role; profile = profile }) object) }
         ensures fresh { IfOk result (λ object. IsUnwritten (Some object.taken)) }
+        ensures peers { IfOk result (λ object. KnowsStated (knows_in object.known) role profile) }
         ensures within { IsTrue true → OnOk result (length (mem_shelf self.old).opened_links < 256) }
         ensures err { IsTrue true → OnErr result (KeepsLinks (mem_shelf self.old) (mem_shelf self.new)) }
         ensures same { IsTrue true → ChangesOpening (mem_shelf self.old) (mem_shelf self.new) }
         ensures cause { HasHostCause (mem_calls self.old).faults (mem_calls self.new).faults result }
-        // It fails exactly where the call is to fail or 256 were handed out, or no unused one stands at the place.
+        // It fails exactly where the call is to fail or 256 were handed out, or no unused one that knows the peers of its
+        // role stands at the place.
         ensures refused { IfErr result (λ bad.
-            IsRefused bad (mem_calls self.old) (HasNoNextLink (mem_shelf self.old))) }
+            IsRefused bad (mem_calls self.old) (HasNoNextLink (mem_shelf self.old) role profile)) }
         ensures complete { OnOk result (FailsNext (mem_calls self.old) → ⊥) }
         ensures calls { CountsCall (mem_calls self.old) (mem_calls self.new) result }
     {
         let place = self.opened.len();
-        if self.calls.next_fails() || place > 255 || !is_unwritten(&self.links, place) {
+        if self.calls.next_fails()
+            || place > 255
+            || !holds_link_for(&self.links, place, role, profile)
+        {
             self.calls.count_fault();
             return Err(HostBad::Failed);
         }
@@ -262,6 +268,26 @@ impl Host for MemHost {
                 Err(HostBad::Failed)
             }
         }
+    }
+
+    fn record(&mut self, _name: &str) -> Result<(), HostBad>
+        ensures same { IsTrue true → mem_shelf self.new ≡ mem_shelf self.old }
+        ensures cause { HasHostCause (mem_calls self.old).faults (mem_calls self.new).faults result }
+        // It changes nothing, and counts as no call.
+        ensures complete { IsOk result }
+        ensures calls { mem_calls self.new ≡ mem_calls self.old }
+    {
+        Ok(())
+    }
+
+    fn statistics(&mut self, _every: u64, _name: Option<&str>) -> Result<(), HostBad>
+        ensures same { IsTrue true → mem_shelf self.new ≡ mem_shelf self.old }
+        ensures cause { HasHostCause (mem_calls self.old).faults (mem_calls self.new).faults result }
+        // It changes nothing, and counts as no call.
+        ensures complete { IsOk result }
+        ensures calls { mem_calls self.new ≡ mem_calls self.old }
+    {
+        Ok(())
     }
 
     fn clock(&mut self) -> Result<ScriptClock, HostBad>

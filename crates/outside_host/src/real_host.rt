@@ -1,42 +1,43 @@
 //! The host of the system. What its objects give and take is not told: the trusted edge of the system.
-ghost use Rattle.std.specs.Prelude.{◌≡◌, false, None, IfOk, OnErr};
+ghost use Rattle.std.specs.Prelude.{◌≡◌, ℕ, Bool, false, Some, None, IfOk, OnErr};
 ghost use Rattle.outside_io.specs.Causes.{Rose};
 ghost use Rattle.outside_io.specs.Real.{silent, IsSourceNamed, IsSinkNamed, file_of};
 ghost use Rattle.outside_io.specs.Told.{IsEmpty};
 ghost use Rattle.link_channels.specs.declared.channel.Channel.{Channel as ChannelValue};
 ghost use Rattle.outside_net.specs.Real.{knows_in_link, stated_in, IsOpenedAt};
+ghost use Rattle.outside_net.specs.declared.link_spec.Role.TheVariants.{Sends as RoleSends};
+ghost use Rattle.end_sign.specs.Status.{answers_of};
+ghost use Rattle.end_sign.specs.Until.{link_behind, source_behind, sign_of};
 ghost use Rattle.outside_host.specs.RealHost.{untold, FailsAlone};
-ghost use Rattle.outside_host.specs.Shelf.{nowhere, HasHostCause, IsUnwritten};
+ghost use Rattle.outside_host.specs.Shelf.{nowhere, HasHostCause, IsUnwritten, KnowsStated};
 
 use crate::counts::ReportText;
+use crate::real_input::RealInput;
+use crate::record::RecordFile;
+use crate::room::{RoomText, is_small};
 use crate::trouble::{Reason, Thing, Trouble};
 use crate::{Count, Host, HostBad};
-use libc::net::{POLLIN, poll};
-use libc::types::pollfd;
-use link_channels::Profile;
-use outside_io::{
-    FileIdentity, RealEntropy, RealSink, RealSource, create_sink, is_named, open_source,
-};
+use end_sign::{ProcessSign, Until};
+use link_channels::{MAX_LINKS, Profile};
+use metered_link::{LineOutput, Lines, Metered};
+use outside_io::{FileIdentity, RealEntropy, RealSink, create_sink, is_named, open_source};
 use outside_net::{LinkSpec, ProcessClock, Role, UdpLink};
+use recorded_link::{Recorded, Recording};
 use std::alloc::Global;
-use std::fs::Files;
+use std::fs::{self, Files, OpenFile};
 use std::io::{Eprint, Input, Print, Printer};
 use std::marker::Model;
 use std::net::{Ipv4Addr, Net, SocketAddr, SocketAddrV4, UdpSocket};
 use std::random::RandomSource;
 use std::time::Clock;
 
-/// The descriptor of standard input.
-const STANDARD_INPUT: i32 = 0;
-
-/// What `poll` takes for no limit of time.
-const NO_LIMIT: i32 = -1;
-
 /// The system's files, its standard streams under the name `-`, links over UDP, the process clock and the system's random
-/// source. A file that is read as the source isn't opened as the sink: that would empty it. All clocks have one start.
-/// With memory it keeps the names of the source and the sink that it opened last, and what it couldn't open last.
+/// source. A file that is read as the source isn't opened as the sink: that would empty it. All clocks have one start. Where the
+/// system asks the program to end the source comes to its end, and so does each link but one that a sender sends on, which has
+/// still to answer requests. With memory the host keeps the names of the source and the sink that it opened last, and what it
+/// couldn't open last.
 #[derive(Drop)]
-pub struct RealHost<'a, R> {
+pub struct RealHost<'a, R: Files> {
     rt: &'a R,
     faults: u64,
     read: Option<FileIdentity>,
@@ -45,9 +46,26 @@ pub struct RealHost<'a, R> {
     source: Option<String>,
     sink: Option<String>,
     trouble: Option<Trouble>,
+    /// What the links that receive are recorded to.
+    record: Option<RecordFile<'a, R>>,
+    /// How many of them are.
+    recorded: u8,
+    /// How the links that are handed out tell what they count.
+    statistics: Option<Statistics<R::File>>,
+    /// How many links were handed out.
+    links: u8,
+    /// Whether it was said that the system keeps too few octets of datagrams.
+    has_told_room: bool,
 }
 
-impl<'a, R> Model for RealHost<'a, R> {
+/// From one line of a link to the next, in milliseconds, and the file that they are put to, unless that is the error output.
+#[derive(Drop)]
+struct Statistics<F> {
+    every: u64,
+    file: Option<F>,
+}
+
+impl<'a, R: Files> Model for RealHost<'a, R> {
     ghost use Rattle.outside_host.specs.RealHost.{RealHostState};
 
     ghost Value = { RealHostState };
@@ -55,7 +73,7 @@ impl<'a, R> Model for RealHost<'a, R> {
     ghost view = { λ host. record { faults = host.faults; read = host.read } };
 }
 
-impl<'a, R> RealHost<'a, R> {
+impl<'a, R: Files> RealHost<'a, R> {
     /// A host of which no call has failed.
     pub fn new(rt: &'a R) -> RealHost<'a, R>
         ensures value { result ≡ record { faults = 0; read = None } }
@@ -69,6 +87,11 @@ impl<'a, R> RealHost<'a, R> {
             source: None,
             sink: None,
             trouble: None,
+            record: None,
+            recorded: 0,
+            statistics: None,
+            links: 0,
+            has_told_room: false,
         }
     }
 
@@ -125,18 +148,122 @@ impl<'a, R> RealHost<'a, R> {
     }
 }
 
+impl<'a, R: Files + Eprint> RealHost<'a, R> {
+    /// Says on the error output, once, where the system keeps fewer octets of datagrams than a link asks for.
+    fn tell_room(&mut self, link: &UdpLink)
+        ensures same { self.new ≡ self.old }
+    {
+        if self.has_told_room {
+            return;
+        }
+        if let Some(octets) = link.receive_buffer() {
+            if is_small(octets) {
+                self.has_told_room = true;
+                // A line that can't be written changes no answer.
+                let _ = self.rt.eprintln(RoomText(octets));
+            }
+        }
+    }
+}
+
+/// Where the lines of links are put.
+type LineFile<R> = Lines<LineOutput<<R as Files>::File>>;
+
+/// What a link's datagrams are recorded to.
+type LinkRecording<'a, R> = Recording<RecordFile<'a, R>, ProcessClock<'a, R>>;
+
+impl<'a, R: Files + Eprint + Clock> RealHost<'a, R> {
+    /// The process clock, with the one start that all of them have.
+    fn started_clock(&mut self) -> Result<ProcessClock<'a, R>, HostBad>
+        ensures cause { HasHostCause self.old.faults self.new.faults result }
+        ensures only { FailsAlone result }
+        ensures stays { self.new.read ≡ self.old.read }
+    {
+        if let Some(clock) = &self.clock {
+            return Ok(clock.with_same_start());
+        }
+        match ProcessClock::start(self.rt) {
+            Ok(clock) => {
+                self.clock = Some(clock.with_same_start());
+                Ok(clock)
+            }
+            Err(_) => Err(self.refuse()),
+        }
+    }
+
+    /// The recording of the next link in a role, where what comes is recorded: the link's number is its place among those that
+    /// receive.
+    fn recording(&mut self, role: Role) -> Result<Option<LinkRecording<'a, R>>, HostBad>
+        ensures cause { HasHostCause self.old.faults self.new.faults result }
+        ensures only { FailsAlone result }
+        ensures stays { self.new.read ≡ self.old.read }
+    {
+        let place = self.recorded;
+        if role != Role::Receives || usize::from(place) >= MAX_LINKS {
+            return Ok(None);
+        }
+        let file = match &self.record {
+            Some(file) => file.again(),
+            None => return Ok(None),
+        };
+        match file {
+            Ok(file) => {
+                let clock = self.started_clock()?;
+                self.recorded = place + 1;
+                Ok(Some(Recording::onward(file, clock, place)))
+            }
+            Err(_) => Err(self.refuse()),
+        }
+    }
+}
+
+impl<'a, R: Files + Clock> RealHost<'a, R> {
+    /// One more link, which tells what it counts where that was asked for. It tells nothing where the system gives it no clock or
+    /// no way to the file.
+    fn metered<L>(&mut self, link: L) -> Metered<L, ProcessClock<'a, R>, LineFile<R>>
+        ensures link { result.link ≡ link }
+        ensures same { self.new ≡ self.old }
+    {
+        let place = self.links;
+        self.links = place.saturating_add(1);
+        let (Some(statistics), Some(alloc)) = (&self.statistics, self.alloc) else {
+            return Metered::silent(link);
+        };
+        let output = match &statistics.file {
+            None => LineOutput::error(),
+            Some(file) => match file.try_clone() {
+                Ok(file) => LineOutput::file(file),
+                Err(_) => return Metered::silent(link),
+            },
+        };
+        let clock = match &self.clock {
+            Some(clock) => clock.with_same_start(),
+            None => match ProcessClock::start(self.rt) {
+                Ok(clock) => clock,
+                Err(_) => return Metered::silent(link),
+            },
+        };
+        let every = statistics.every.saturating_mul(1000);
+        Metered::over(link, clock, Lines::over(alloc, output), place, every)
+    }
+}
+
 impl<'a, R: Files + Input + Print + Eprint + RandomSource + Net + Clock + Sync> Host
     for RealHost<'a, R>
 where
     R::File: Send,
 {
-    type Input = RealSource<R::File, R::Reader>;
+    type Input = RealInput<'a, R, R::File, R::Reader>;
 
     type Output = RealSink<R::File, Printer<'a, R>>;
 
     type Random = RealEntropy<'a, R>;
 
-    type Wire = UdpLink;
+    type Wire = Metered<
+        Recorded<Until<UdpLink, ProcessSign<'a, R>>, RecordFile<'a, R>, ProcessClock<'a, R>>,
+        ProcessClock<'a, R>,
+        Lines<LineOutput<R::File>>,
+    >;
 
     type Time = ProcessClock<'a, R>;
 
@@ -149,19 +276,16 @@ where
     fn source(&mut self, name: &str) -> Result<Self::Input, HostBad>
         ensures cause { HasHostCause self.old.faults self.new.faults result }
         ensures only { FailsAlone result }
-        ensures named { IfOk result (λ source. IsSourceNamed name.now source) }
+        ensures named { IfOk result (λ source. IsSourceNamed name.now (source_behind source.source)) }
         // What it reads is taken down. Standard input is no file that could be told from others.
-        ensures known { IfOk result (λ source. self.new.read ≡ file_of source) }
+        ensures known { IfOk result (λ source. self.new.read ≡ file_of (source_behind source.source)) }
         ensures stays { OnErr result (self.new.read ≡ self.old.read) }
     {
         match open_source(self.rt, name) {
             Ok(source) => {
-                if name == "-" {
-                    await_input();
-                }
                 self.read = source.file();
                 self.source = self.kept(name);
-                Ok(source)
+                Ok(RealInput::over(self.rt, name, source))
             }
             Err(error) => Err(self.refuse_name(name, Reason::System(error))),
         }
@@ -194,17 +318,70 @@ where
         ensures fresh { IfOk result (λ _. IsUnwritten untold) }
         ensures cause { HasHostCause self.old.faults self.new.faults result }
         ensures only { FailsAlone result }
+        ensures peers { IfOk result (λ link. KnowsStated (knows_in_link (link_behind link.link.link)) role profile) }
         // It is opened as asked: at this address, in this role and profile.
-        ensures peers { IfOk result (λ link. (c : ChannelValue) → knows_in_link link c ≡ stated_in role profile c) }
-        ensures at { IfOk result (IsOpenedAt role profile spec.now) }
+        ensures stated { IfOk result (λ link. (c : ChannelValue)
+            → knows_in_link (link_behind link.link.link) c ≡ stated_in role profile c) }
+        ensures at { IfOk result (λ link. IsOpenedAt role profile spec.now (link_behind link.link.link)) }
+        // No sign ends a link that a sender sends on.
+        ensures lasts { role ≡ RoleSends → IfOk result (λ link. sign_of link.link.link ≡ Some (λ k. false)) }
         ensures stays { self.new.read ≡ self.old.read }
     {
         match UdpLink::open(self.rt, spec, role, profile) {
-            Ok(link) => Ok(link),
+            Ok(link) => {
+                if role == Role::Receives {
+                    self.tell_room(&link);
+                }
+                let link = Until::over(link, sign_for(self.rt, role));
+                let recording = self.recording(role)?;
+                Ok(self.metered(Recorded { link, recording }))
+            }
             Err(_) => {
                 self.trouble = why_no_link(self.rt, spec, role, profile);
                 Err(self.refuse())
             }
+        }
+    }
+
+    fn record(&mut self, name: &str) -> Result<(), HostBad>
+        ensures cause { HasHostCause self.old.faults self.new.faults result }
+        ensures only { FailsAlone result }
+        ensures stays { self.new.read ≡ self.old.read }
+    {
+        if is_named(self.rt, name, self.read) {
+            return Err(self.refuse_name(name, Reason::IsSource));
+        }
+        match RecordFile::begin(self.rt, name) {
+            Ok(file) => {
+                self.record = Some(file);
+                self.recorded = 0;
+                Ok(())
+            }
+            Err(error) => Err(self.refuse_name(name, Reason::System(error))),
+        }
+    }
+
+    fn statistics(&mut self, every: u64, name: Option<&str>) -> Result<(), HostBad>
+        ensures cause { HasHostCause self.old.faults self.new.faults result }
+        ensures only { FailsAlone result }
+        ensures stays { self.new.read ≡ self.old.read }
+    {
+        let Some(name) = name else {
+            self.statistics = Some(Statistics { every, file: None });
+            return Ok(());
+        };
+        if is_named(self.rt, name, self.read) {
+            return Err(self.refuse_name(name, Reason::IsSource));
+        }
+        match fs::create(self.rt, name) {
+            Ok(file) => {
+                self.statistics = Some(Statistics {
+                    every,
+                    file: Some(file),
+                });
+                Ok(())
+            }
+            Err(error) => Err(self.refuse_name(name, Reason::System(error))),
         }
     }
 
@@ -213,16 +390,7 @@ where
         ensures only { FailsAlone result }
         ensures stays { self.new.read ≡ self.old.read }
     {
-        if let Some(clock) = &self.clock {
-            return Ok(clock.with_same_start());
-        }
-        match ProcessClock::start(self.rt) {
-            Ok(clock) => {
-                self.clock = Some(clock.with_same_start());
-                Ok(clock)
-            }
-            Err(_) => Err(self.refuse()),
-        }
+        self.started_clock()
     }
 
     fn back_source(&mut self, _name: &str, _object: Self::Input)
@@ -270,14 +438,13 @@ fn why_no_link<R: Net>(rt: &R, spec: &LinkSpec, role: Role, profile: Profile) ->
     None
 }
 
-/// Waits until standard input gives something or has ended. So the time of what is read from it begins with its first octets,
-/// however late these come.
-fn await_input() {
-    let mut input = [pollfd {
-        fd: STANDARD_INPUT,
-        events: POLLIN,
-        revents: 0,
-    }];
-    // Where it fails, the first read waits.
-    let _ = poll(&mut input, NO_LIMIT);
+/// What a link in this role ends by. A link that a sender sends on ends by no sign: it answers requests until the sender's time is
+/// over.
+fn sign_for<R>(rt: &R, role: Role) -> ProcessSign<'_, R>
+    ensures lasts { role ≡ RoleSends → answers_of result.looks ≡ Some (λ k. false) }
+{
+    match role {
+        Role::Receives | Role::Forwards => ProcessSign::new(rt),
+        Role::Sends => ProcessSign::never(rt),
+    }
 }

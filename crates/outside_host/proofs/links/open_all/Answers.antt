@@ -1,7 +1,7 @@
 -- Each link that was opened is out, or comes back as it was.
 use Rattle.std.proofs.Common.{rules, arith, ap, sym, ◌∙◌, ◌+◌, length, length-append, subst}
 use Rattle.outside_host.specs.Links.{AreBack}
-use Rattle.outside_host.proofs.LinkOpeningLemmas.{one_out, all_as_they_were, one_more_behind}
+use Rattle.outside_host.proofs.LinkOpeningLemmas.{one_out, all_as_they_were, one_more_behind, know_both}
 use Rattle.outside_host.proofs.links.open_all.Goals as goal
 
 pub returns-in-Err-clause-err : goal.returns-in-Err-clause-err
@@ -23,4 +23,5 @@ loop-spec-preserved g c = (
       ∙ one_more_behind _ _ _ _ _ _ (c.loop-spec.invariant.3 told as_many) c.loop-spec-test.true),
   search rules,
   search rules,
+  know_both _ _ _ _ _ _ (omega (arith, c.loop-spec.invariant.0)) c.loop-spec.invariant.6 c.in-Ok.ensures.knows,
 )

@@ -2,7 +2,7 @@
 use Rattle.std.proofs.Common.{◌≡◌, ◌+◌, ◌++◌, length, map, take}
 use Rattle.std.specs.Prelude.{IsTrue}
 use Rattle.outside_host.specs.Shelf.{ChangesOpening}
-use Rattle.outside_host.specs.Inside.Links.{GoOut}
+use Rattle.outside_host.specs.Inside.Links.{GainKnowing, GoOut}
 use Rattle.outside_host.proofs.links.open_all.Given as goal
 
 abbrev pub invariant-loop-spec : goal.invariant-loop-spec
@@ -16,3 +16,4 @@ invariant-loop-spec g l =
     → (g.H.Host.shelf l.host).opened_links ≡ (g.H.Host.shelf l.initial.host).opened_links ++ map (λ spec. record { spec = spec; role = l.role; profile = l.profile }) (take l.spec-index l.specs))
     × (IsTrue g.H.Host.tells → ChangesOpening (g.H.Host.shelf l.initial.host) (g.H.Host.shelf l.host))
     × (g.H.Host.faults l.host ≡ g.H.Host.faults l.initial.host)
+    × GainKnowing g.H.Wire.Link.knows l.role l.profile l.initial.links.items l.links.items

@@ -12,7 +12,13 @@ pub back_source-tells : goal.back_source-tells
 back_source-tells g x x' x'' x3 x4 c = record { state = λ told. nothing_told told; same = λ told. nothing_told told; cause = c.ensures.cause }
 
 pub link-tells : goal.link-tells
-link-tells g x x' x'' x3 x4 c = record { ok = λ told. nothing_told told; fresh = c.ensures.fresh; within = λ told. nothing_told told; err = λ told. nothing_told told; same = λ told. nothing_told told; cause = c.ensures.cause }
+link-tells g x x' x'' x3 x4 c = record { ok = λ told. nothing_told told; fresh = c.ensures.fresh; peers = c.ensures.peers; within = λ told. nothing_told told; err = λ told. nothing_told told; same = λ told. nothing_told told; cause = c.ensures.cause }
 
 pub clock-tells : goal.clock-tells
 clock-tells g x x' x'' x3 x4 c = record { ok = λ told. nothing_told told; next = λ told. nothing_told told; within = λ told. nothing_told told; err = λ told. nothing_told told; err_next = λ told. nothing_told told; same = λ told. nothing_told told; cause = c.ensures.cause }
+
+pub record-tells : goal.record-tells
+record-tells g x x' x'' x3 x4 c = record { same = λ told. nothing_told told; cause = c.ensures.cause }
+
+pub statistics-tells : goal.statistics-tells
+statistics-tells g x x' x'' x3 x4 c = record { same = λ told. nothing_told told; cause = c.ensures.cause }
