@@ -14,9 +14,9 @@ use Rattle.rist_help.specs.declared.checks.Test.TheVariants as tests
 use Rattle.rist_words.specs.CommandLine.{are_unset, firsts, pcap_of, key_bits, delays, spans, restarts, flows, gaps}
 use Rattle.rist_words.specs.CommandLine.{leads, stores, holds, lingers, turn_counts, reorders, retry_times}
 use Rattle.rist_words.specs.CommandLine.{retry_counts, own_ssrcs, idle_times, kept_counts, drill_numbers, drill_counts}
-use Rattle.rist_words.specs.CommandLine.{drill_links, drill_losses}
+use Rattle.rist_words.specs.CommandLine.{drill_links, drill_losses, stats_times, watching_of}
 use Rattle.rist_words.specs.Values.{flag_of, is_set, nack_of, name_of, number_at, number_of, phrase_of, profile_of}
-use Rattle.rist_words.specs.Values.{tunnel_of, ◌>>=◌}
+use Rattle.rist_words.specs.Values.{name_if, number_if, tunnel_of, ◌>>=◌}
 use Rattle.rist_words.specs.Links.{gate_links_of, inputs_of, link_texts, links_of, shares_of}
 use Rattle.rist_words.specs.Outs.{outs_of, ports}
 
@@ -25,8 +25,9 @@ use Rattle.rist_words.specs.Outs.{outs_of, ports}
 -- an option; that the session of a gateway's inputs has its profile; that the first sequence number, the two options of
 -- a pcap file and the kind of requests read; that there are one to sixteen links, and each is one; that some of a
 -- gateway's receive and not all, and each is one in the profile of its end; that each link that sends has a weight
--- where they share; that the outputs of a split read; and that the passphrase, the tunnel and the two options of a pcap
--- file read in the Main Profile, for a command that is always in it
+-- where they share; that the outputs of a split read; that the passphrase, the tunnel and the two options of a pcap file
+-- read in the Main Profile, for a command that is always in it; that a name and a number that may be left out read; and
+-- that a file for statistics is named only where these are told
 pub data Check : Type 0 where
   Name : Text → Check
   NumberAt : Text → Numbers → Check
@@ -48,6 +49,9 @@ pub data Check : Type 0 where
   MainPass : Text → Check
   MainTunnel : Text → Check
   MainPcap : Check
+  NameIf : Text → Check
+  NumberIf : Text → Numbers → Check
+  Watching : Check
 
 -- a test, without where its name lies in memory
 abbrev pub shown_test : Test → Check
@@ -71,11 +75,15 @@ shown_test tests.Outs = Outs
 shown_test (tests.MainPass option) = MainPass option.now
 shown_test (tests.MainTunnel option) = MainTunnel option.now
 shown_test tests.MainPcap = MainPcap
+shown_test (tests.NameIf option) = NameIf option.now
+shown_test (tests.NumberIf option numbers) = NumberIf option.now numbers
+shown_test tests.Watching = Watching
 
 -- the numbers of a test are multiples of one above 0, and their default is none above the greatest
 abbrev pub is_sound : Test → Bool
 is_sound (tests.NumberAt id numbers) = nat_lt 0 numbers.multiple_of
 is_sound (tests.Number id numbers) = nat_lt 0 numbers.multiple_of && not (nat_lt numbers.most numbers.default)
+is_sound (tests.NumberIf id numbers) = nat_lt 0 numbers.multiple_of
 is_sound test = true
 
 -- a profile that was read, and the Simple Profile where none was
@@ -130,6 +138,9 @@ does_fail rows Outs = is_none (outs_of (first_of (codes "outs") rows))
 does_fail rows (MainPass option) = is_none (phrase_of Main (first_of option rows))
 does_fail rows (MainTunnel option) = is_none (tunnel_of Main (first_of option rows))
 does_fail rows MainPcap = is_none (pcap_of Main rows)
+does_fail rows (NameIf option) = is_none (name_if (first_of option rows))
+does_fail rows (NumberIf option numbers) = is_none (number_if numbers (first_of option rows))
+does_fail rows Watching = is_none (watching_of rows)
 
 -- the first of these tests that the values fail
 abbrev pub first_failing : List Row → List Check → Option Check
@@ -171,6 +182,14 @@ receiver_checks =
 abbrev pub store_checks : List Check
 store_checks = Number (codes "store") stores ∷ Number (codes "hold") holds ∷ []
 
+-- those of what is told of a run
+abbrev pub stats_checks : List Check
+stats_checks = NumberIf (codes "stats") stats_times ∷ NameIf (codes "stats-file") ∷ Watching ∷ []
+
+-- those of what is kept and told of a run that receives
+abbrev pub watching_checks : List Check
+watching_checks = NameIf (codes "record") ∷ stats_checks
+
 -- those of a session that is always in the Main Profile
 abbrev pub tunnel_checks : List Check
 tunnel_checks = MainPass session_names.pass ∷ Number session_names.bits key_bits ∷ MainTunnel session_names.tunnel ∷ []
@@ -191,11 +210,12 @@ checks_of command =
     then Name (codes "source") ∷ session_checks ++ (Links ∷ []) ++ stream_checks
     ++ (Number (codes "gap") gaps ∷ Number (codes "lead") leads ∷ [])
     ++ store_checks ++ (SendShare ∷ Number (codes "linger") lingers ∷ Number (codes "turns") turn_counts ∷ [])
+    ++ stats_checks
     else (if bytes_eq command (codes "recv") then Name (codes "out") ∷ session_checks ++ (Links ∷ []) ++ buffer_checks
-    ++ receiver_checks
+    ++ receiver_checks ++ watching_checks
     else (if bytes_eq command (codes "gate") then session_checks ++ incoming_checks ++ (Inputs ∷ GateLinks ∷ [])
     ++ buffer_checks ++ receiver_checks ++ stream_checks
-    ++ store_checks ++ (GateShare ∷ [])
+    ++ store_checks ++ (GateShare ∷ []) ++ watching_checks
     else NumberAt (codes "number") drill_numbers ∷ NumberAt (codes "count") drill_counts
     ∷ NumberAt (codes "links") drill_links
     ∷ NumberAt (codes "loss") drill_losses ∷ [])))))))

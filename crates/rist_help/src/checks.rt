@@ -22,6 +22,7 @@ use rist_words::session::{BITS, FLOW, INCOMING, PORT, are_unset, firsts};
 use rist_words::values::{
     Numbers, flag, given, is_set, nack, name, number, number_at, phrase, profile, tunnel,
 };
+use rist_words::watching::{STATS, name_if, number_if, watching};
 use std::alloc::Global;
 
 /// A test of the values of a command.
@@ -67,6 +68,12 @@ pub enum Test {
     MainTunnel(&'static str),
     /// `--pcap` and `--udp` are given both or neither, in a command that is always in the Main Profile.
     MainPcap,
+    /// The name of an option isn't empty, where it is given.
+    NameIf(&'static str),
+    /// The number of an option is one that it takes, where it is given.
+    NumberIf(&'static str, Numbers),
+    /// A file for statistics is named only where these are told.
+    Watching,
 }
 
 static REPLAY_TESTS: [Test; 12] = [
@@ -137,7 +144,7 @@ static SPLIT_TESTS: [Test; 9] = [
     Test::MainPcap,
 ];
 
-static SEND_TESTS: [Test; 19] = [
+static SEND_TESTS: [Test; 22] = [
     Test::Name("source"),
     Test::Profile("profile"),
     Test::Number("port", PORT),
@@ -157,9 +164,12 @@ static SEND_TESTS: [Test; 19] = [
     Test::SendShare,
     Test::Number("linger", LINGER),
     Test::Number("turns", TURNS),
+    Test::NumberIf("stats", STATS),
+    Test::NameIf("stats-file"),
+    Test::Watching,
 ];
 
-static RECV_TESTS: [Test; 19] = [
+static RECV_TESTS: [Test; 23] = [
     Test::Name("out"),
     Test::Profile("profile"),
     Test::Number("port", PORT),
@@ -179,9 +189,13 @@ static RECV_TESTS: [Test; 19] = [
     Test::Number("turns", TURNS),
     Test::Number("idle", IDLE),
     Test::Number("keep", KEEP),
+    Test::NameIf("record"),
+    Test::NumberIf("stats", STATS),
+    Test::NameIf("stats-file"),
+    Test::Watching,
 ];
 
-static GATE_TESTS: [Test; 33] = [
+static GATE_TESTS: [Test; 37] = [
     Test::Profile("profile"),
     Test::Number("port", PORT),
     Test::Pass("profile", "pass"),
@@ -215,6 +229,10 @@ static GATE_TESTS: [Test; 33] = [
     Test::Number("store", STORE),
     Test::Number("hold", HOLD),
     Test::GateShare,
+    Test::NameIf("record"),
+    Test::NumberIf("stats", STATS),
+    Test::NameIf("stats-file"),
+    Test::Watching,
 ];
 
 static DRILL_TESTS: [Test; 4] = [
@@ -294,6 +312,9 @@ fn does_fail(alloc: Global, values: &ArgMatches<'_>, test: Test) -> Result<bool,
         Test::MainPass(option) => Ok(phrase(values, option, Profile::Main).is_none()),
         Test::MainTunnel(option) => Ok(tunnel(values, option, Profile::Main).is_none()),
         Test::MainPcap => Ok(pcap(values, Profile::Main).is_none()),
+        Test::NameIf(option) => Ok(name_if(values, option).is_none()),
+        Test::NumberIf(option, numbers) => Ok(number_if(values, option, numbers).is_none()),
+        Test::Watching => Ok(watching(values).is_none()),
     }
 }
 

@@ -126,6 +126,11 @@ fn push_fault(
         Test::MainPass(option) => push_pass(text, option),
         Test::MainTunnel(option) => push_tunnel(text, values, option),
         Test::MainPcap => push_pcap(text, values, Profile::Main),
+        Test::NameIf(option) => push_option(text, option, None, "a name isn't empty"),
+        Test::NumberIf(option, numbers) => {
+            push_number(text, option, given(values, option), numbers)
+        }
+        Test::Watching => push_option(text, "stats-file", None, "only with --stats"),
     }
 }
 

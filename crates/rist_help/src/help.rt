@@ -127,6 +127,8 @@ const PORT_ROW: &str = "  --port PORT
 
 const PASS_ROW: &str = "  --pass PASSPHRASE
       encrypt by a passphrase of 1 to 128 octets (main profile)
+  --pass-file NAME
+      the passphrase is the first line of this file; without both options it is the variable RIST_PASS
 ";
 
 const BITS_ROW: &str = "  --bits BITS
@@ -241,6 +243,16 @@ const KEEP_ROW: &str = "  --keep STEPS
       steps kept to be compared at the end, 0 to 65536, where 0 is none (default 0)
 ";
 
+const RECORD_ROW: &str = "  --record NAME
+      what comes on the links, as a capture
+";
+
+const STATS_ROW: &str = "  --stats MS
+      a line of JSON on standard error each MS milliseconds, 100 to 3600000, and where a link comes up or goes down
+  --stats-file NAME
+      these lines to a file
+";
+
 const IN_ROW: &str = "  --in LINKS
       how many of the links receive, at least one and not all (default 1)
 ";
@@ -255,6 +267,8 @@ const IN_PORT_ROW: &str = "  --in-port PORT
 
 const IN_PASS_ROW: &str = "  --in-pass PASSPHRASE
       as --pass, of the links that receive (--in-profile main)
+  --in-pass-file NAME
+      as --pass-file, of the links that receive; no variable stands for it
 ";
 
 const IN_BITS_ROW: &str = "  --in-bits BITS
@@ -342,7 +356,7 @@ static SPLIT_PIECES: [&str; 10] = [
     TUNNEL_ROW,
 ];
 
-static SEND_PIECES: [&str; 19] = [
+static SEND_PIECES: [&str; 20] = [
     SEND,
     FLOW_ROW,
     FIRST_ROW,
@@ -357,6 +371,7 @@ static SEND_PIECES: [&str; 19] = [
     SHARE_ROW,
     LINGER_ROW,
     TURNS_ROW,
+    STATS_ROW,
     PROFILE_ROW,
     PORT_ROW,
     PASS_ROW,
@@ -364,7 +379,7 @@ static SEND_PIECES: [&str; 19] = [
     TUNNEL_ROW,
 ];
 
-static RECV_PIECES: [&str; 19] = [
+static RECV_PIECES: [&str; 21] = [
     RECV,
     DELAY_ROW,
     SPAN_ROW,
@@ -378,6 +393,8 @@ static RECV_PIECES: [&str; 19] = [
     TURNS_ROW,
     IDLE_ROW,
     KEEP_ROW,
+    RECORD_ROW,
+    STATS_ROW,
     FULL_ROW,
     PROFILE_ROW,
     PORT_ROW,
@@ -386,7 +403,7 @@ static RECV_PIECES: [&str; 19] = [
     TUNNEL_ROW,
 ];
 
-static GATE_PIECES: [&str; 34] = [
+static GATE_PIECES: [&str; 36] = [
     GATE,
     IN_ROW,
     IN_PROFILE_ROW,
@@ -407,6 +424,8 @@ static GATE_PIECES: [&str; 34] = [
     TURNS_ROW,
     IDLE_ROW,
     KEEP_ROW,
+    RECORD_ROW,
+    STATS_ROW,
     FLOW_ROW,
     FIRST_ROW,
     NULLS_ROW,

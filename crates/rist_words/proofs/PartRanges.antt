@@ -15,12 +15,12 @@ use Rattle.link_channels.specs.declared.profile.Profile.{Profile}
 use Rattle.link_channels.specs.declared.profile.Profile.TheVariants.{Simple, Main}
 use Rattle.rist_words.specs.declared.values.Numbers.{Numbers}
 use Rattle.rist_words.specs.Commands.{SessionNames, incoming_names, session_names}
-use Rattle.rist_words.specs.Values.{is_numeral, is_among, nack_of, number_at, number_in, number_of, ◌>>=◌, profile_of, phrase_of, is_set, flag_of, tunnel_of}
-use Rattle.rist_words.specs.CommandLine.{Session, Stream, Receiver, Serving, key_bits, delays, spans, restarts, flows, firsts, gaps, leads, stores, holds, lingers, turn_counts}
-use Rattle.rist_words.specs.CommandLine.{reorders, retry_times, retry_counts, own_ssrcs, idle_times, kept_counts, are_unset, incoming_of, session_named, session_of, tunnel_session_of, pcap_with, stream_of, receiver_of, serving_of}
+use Rattle.rist_words.specs.Values.{is_numeral, is_among, nack_of, number_at, number_in, number_of, ◌>>=◌, profile_of, phrase_of, is_set, flag_of, tunnel_of, name_if, number_if}
+use Rattle.rist_words.specs.CommandLine.{Session, Stream, Receiver, Serving, Watching, key_bits, delays, spans, restarts, flows, firsts, gaps, leads, stores, holds, lingers, turn_counts}
+use Rattle.rist_words.specs.CommandLine.{reorders, retry_times, retry_counts, own_ssrcs, idle_times, kept_counts, stats_times, are_unset, incoming_of, session_named, session_of, tunnel_session_of, pcap_with, stream_of, receiver_of, serving_of, watching_of, watching_with}
 use Rattle.rist_words.specs.Links.{colon, each_link, gate_links_of, input_counts, inputs_of, link_of, link_ports, link_texts, link_weights, links_of, shares_of, split_at, weights_in}
 use Rattle.rist_words.specs.Outs.{ports}
-use Rattle.rist_words.specs.Ranges.{IsInSession, IsUdpPort, IsInStream, IsInReceiver, IsInServing, IsWeight}
+use Rattle.rist_words.specs.Ranges.{IsInSession, IsUdpPort, IsInStream, IsInReceiver, IsInServing, IsInWatching, IsWeight}
 
 -- a value that was read, and the rest of the reading
 pub record Reads {A B : Type 0} (x : Option A) (f : A → Option B) (b : B) : Type 0 where
@@ -363,3 +363,29 @@ gate_links_range incoming onward given count links e =
       some_output = omega (arith, rest, back, i.1);
       all = omega (arith, first, rest, front, back, i.1, r.1);
     })
+
+-- a number that may be left out
+number_if_range : (numbers : Numbers) (o : Option Text) (r : Option ℕ) → number_if numbers o ≡ Some r → IfSome r (λ n. IsAmong numbers n)
+number_if_range numbers None r e = subst (λ q. IfSome q (λ n. IsAmong numbers n)) (same_some None r e) tt
+number_if_range numbers (Some text) r e = by_number (number_in numbers text) refl e
+  where
+    by_number : (o : Option ℕ) → number_in numbers text ≡ o → option_map Some o ≡ Some r → IfSome r (λ n. IsAmong numbers n)
+    by_number None is p = cc
+    by_number (Some n) is p = subst (λ q. IfSome q (λ n. IsAmong numbers n)) (same_some (Some n) r p) (text_range numbers text n is)
+
+watching_is : (capture : Option Text) (stats : Option ℕ) (file : Option Text) (w : Watching) → watching_with capture stats file ≡ Some w → stats ≡ w.stats
+watching_is capture None None w e = cc
+watching_is capture None (Some file) w e = cc
+watching_is capture (Some n) None w e = cc
+watching_is capture (Some n) (Some file) w e = cc
+
+stats_range : (r : Option ℕ) (w : Watching) → r ≡ w.stats → IfSome r (λ n. IsAmong stats_times n) → IsInWatching w
+stats_range None w e i = record { some_stats = subst (λ q. IfSome q (λ n. stats_times.least ≤ n)) e tt; stats = subst (λ q. IfSome q (λ n. n ≤ stats_times.most)) e tt }
+stats_range (Some n) w e i = record { some_stats = subst (λ q. IfSome q (λ n. stats_times.least ≤ n)) e i.least; stats = subst (λ q. IfSome q (λ n. n ≤ stats_times.most)) e i.most }
+
+pub watching_range : (rows : List Row) (w : Watching) → watching_of rows ≡ Some w → IsInWatching w
+watching_range rows w e =
+    let capture = reads (name_if (first_of (codes "record") rows)) _ w e in
+    let stats = reads (number_if stats_times (first_of (codes "stats") rows)) _ w capture.rest in
+    let file = reads (name_if (first_of (codes "stats-file") rows)) _ w stats.rest in
+    stats_range stats.value w (watching_is capture.value stats.value file.value w file.rest) (number_if_range stats_times (first_of (codes "stats") rows) stats.value stats.is)

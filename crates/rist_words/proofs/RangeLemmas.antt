@@ -7,13 +7,13 @@ use Rattle.clap.specs.Words.{Kinds, Row, Text, all_of, first_of}
 use Rattle.rist_words.specs.Commands.{faults_of, command_in}
 use Rattle.rist_words.specs.Values.{is_set, number_at, number_of, name_of}
 use Rattle.rist_words.specs.CommandLine.{CommandLine, Replay, Show, Count, Pack, Split, Send, Recv, Gate, Drill, ReplayCommand, ShowCommand, CountCommand, PackCommand, SplitCommand, SendCommand, RecvCommand, GateCommand, DrillCommand}
-use Rattle.rist_words.specs.CommandLine.{delays, spans, restarts, gaps, leads, stores, holds, lingers, turn_counts, incoming_of, session_of, tunnel_session_of, pcap_of, stream_of, receiver_of, serving_of}
+use Rattle.rist_words.specs.CommandLine.{delays, spans, restarts, gaps, leads, stores, holds, lingers, turn_counts, incoming_of, session_of, tunnel_session_of, pcap_of, stream_of, receiver_of, serving_of, watching_of}
 use Rattle.rist_words.specs.CommandLine.{drill_numbers, drill_counts, drill_links, drill_losses}
 use Rattle.rist_words.specs.CommandLine.{replay_of, show_of, count_of, pack_of, split_of, send_of, recv_of, gate_of, drill_of, command_line, taken_line, line_of}
 use Rattle.rist_words.specs.Links.{gate_links_of, links_of, shares_of}
 use Rattle.rist_words.specs.Outs.{outs_of}
 use Rattle.rist_words.specs.Ranges.{IsInReplay, IsInShow, IsInCount, IsInPack, IsInSplit, IsInSend, IsInRecv, IsInGate, IsInDrill, IsInRange}
-use Rattle.rist_words.proofs.PartRanges.{reads, same_some, number_range, position_range, session_range, incoming_range, tunnel_session_range, udp_range, option_range, stream_range, links_range, share_range, receiver_range, serving_range, gate_links_range}
+use Rattle.rist_words.proofs.PartRanges.{reads, same_some, number_range, position_range, session_range, incoming_range, tunnel_session_range, udp_range, option_range, stream_range, links_range, share_range, receiver_range, serving_range, watching_range, gate_links_range}
 use Rattle.rist_words.proofs.OutLemmas.{split_outs_range}
 use Rattle.rist_words.proofs.PartRanges.{default_gap, default_lead, default_store, default_hold, default_linger, default_turns}
 
@@ -132,6 +132,7 @@ send_range rows c e =
     let share = reads (shares_of (length links.value) (first_of (codes "share") rows)) _ c hold.rest in
     let linger = reads (number_of lingers (first_of (codes "linger") rows)) _ c share.rest in
     let turns = reads (number_of turn_counts (first_of (codes "turns") rows)) _ c linger.rest in
+    let watching = reads (watching_of rows) _ c turns.rest in
     let l = links_range session.value.profile (all_of (codes "link") rows) links.value links.is in
     let g = number_range gaps (first_of (codes "gap") rows) gap.value default_gap gap.is in
     let d = number_range leads (first_of (codes "lead") rows) lead.value default_lead lead.is in
@@ -139,7 +140,7 @@ send_range rows c e =
     let h = number_range holds (first_of (codes "hold") rows) hold.value default_hold hold.is in
     let r = number_range lingers (first_of (codes "linger") rows) linger.value default_linger linger.is in
     let t = number_range turn_counts (first_of (codes "turns") rows) turns.value default_turns turns.is in
-    subst IsInSend (same_some _ _ turns.rest) (record {
+    subst IsInSend (same_some _ _ watching.rest) (record {
       session = session_range rows session.value session.is;
       stream = stream_range session.value.profile rows stream.value stream.is;
       some_link = l.0;
@@ -155,6 +156,7 @@ send_range rows c e =
       linger = r.most;
       some_turn = t.least;
       turns = t.most;
+      watching = watching_range rows watching.value watching.is;
     })
 
 recv_range : (rows : List Row) (c : RecvCommand) → recv_of rows ≡ Some c → IsInRecv c
@@ -164,13 +166,15 @@ recv_range rows c e =
     let links = reads (links_of session.value.profile (all_of (codes "link") rows)) _ c session.rest in
     let receiver = reads (receiver_of rows) _ c links.rest in
     let serving = reads (serving_of rows) _ c receiver.rest in
+    let watching = reads (watching_of rows) _ c serving.rest in
     let l = links_range session.value.profile (all_of (codes "link") rows) links.value links.is in
-    subst IsInRecv (same_some _ _ serving.rest) (record {
+    subst IsInRecv (same_some _ _ watching.rest) (record {
       session = session_range rows session.value session.is;
       some_link = l.0;
       links = l.1;
       receiver = receiver_range rows receiver.value receiver.is;
       serving = serving_range rows serving.value serving.is;
+      watching = watching_range rows watching.value watching.is;
     })
 
 gate_range : (rows : List Row) (c : GateCommand) → gate_of rows ≡ Some c → IsInGate c
@@ -184,11 +188,12 @@ gate_range rows c e =
     let store = reads (number_of stores (first_of (codes "store") rows)) _ c stream.rest in
     let hold = reads (number_of holds (first_of (codes "hold") rows)) _ c store.rest in
     let share = reads (shares_of (length links.value.1) (first_of (codes "share") rows)) _ c hold.rest in
+    let watching = reads (watching_of rows) _ c share.rest in
     let l = gate_links_range incoming.value.profile session.value.profile (all_of (codes "link") rows) (first_of (codes "in") rows) links.value links.is in
     let own = session_range rows session.value session.is in
     let s = number_range stores (first_of (codes "store") rows) store.value default_store store.is in
     let h = number_range holds (first_of (codes "hold") rows) hold.value default_hold hold.is in
-    subst IsInGate (same_some _ _ share.rest) (record {
+    subst IsInGate (same_some _ _ watching.rest) (record {
       incoming = incoming_range session.value rows incoming.value own incoming.is;
       session = own;
       stream = stream_range session.value.profile rows stream.value stream.is;
@@ -202,6 +207,7 @@ gate_range rows c e =
       some_hold = h.least;
       hold = h.most;
       share = share_range (length links.value.1) (first_of (codes "share") rows) share.value share.is;
+      watching = watching_range rows watching.value watching.is;
     })
 
 drill_range : (rows : List Row) (c : DrillCommand) → drill_of rows ≡ Some c → IsInDrill c

@@ -5,7 +5,7 @@ use Rattle.gre_tunnel.specs.declared.tunnel.Tunnel.TheVariants.{Librist, Own}
 use Rattle.link_channels.specs.declared.profile.Profile.TheVariants.{Main, Simple}
 use Rattle.rist_words.specs.Commands.{command_in, faults_of}
 use Rattle.request_rules.specs.declared.policy.NackKind.TheVariants.{Mask, Range}
-use Rattle.rist_words.specs.CommandLine.{Count, Drill, Gate, Pack, Receiver, Recv, Replay, Send, Serving, Session, Show, Split, Stream, line_of}
+use Rattle.rist_words.specs.CommandLine.{Count, Drill, Gate, Pack, Receiver, Recv, Replay, Send, Serving, Session, Show, Split, Stream, Watching, line_of}
 
 -- a session without options
 abbrev plain : Session
@@ -153,6 +153,10 @@ split_with_a_profile : line_of (codes "rist" ∷ codes "split" ∷ codes "a" ∷
 unfolding clap_on_literals faults_of command_in
 split_with_a_profile = refl
 
+-- a run of which nothing is kept or told
+abbrev unwatched : Watching
+unwatched = record { capture = None; stats = None; stats_file = None }
+
 shared : line_of (codes "rist" ∷ codes "send" ∷ codes "-" ∷ codes "127.0.0.1:5000" ∷ codes "--share=3:1" ∷ codes "010.0.0.255:5002" ∷ [])
     ≡ Some (Send (record {
       source = codes "-";
@@ -166,6 +170,7 @@ shared : line_of (codes "rist" ∷ codes "send" ∷ codes "-" ∷ codes "127.0.0
       share = Some (3 ∷ 1 ∷ []);
       linger = 1000;
       turns = 1099511627776;
+      watching = unwatched;
     }))
 unfolding clap_on_literals faults_of command_in
 shared = refl
@@ -183,6 +188,7 @@ led : line_of (codes "rist" ∷ codes "send" ∷ codes "--echo" ∷ codes "a" �
       share = None;
       linger = 1000;
       turns = 1099511627776;
+      watching = unwatched;
     }))
 unfolding clap_on_literals faults_of command_in
 led = refl
@@ -210,9 +216,30 @@ received : line_of (codes "rist" ∷ codes "recv" ∷ codes "--nack=mask" ∷ co
       session = plain;
       receiver = record plain_receiver { nack = Mask };
       serving = record plain_serving { idle = 5 };
+      watching = unwatched;
     }))
 unfolding clap_on_literals faults_of command_in
 received = refl
+
+watched : line_of (codes "rist" ∷ codes "recv" ∷ codes "-" ∷ codes "127.0.0.1:5000" ∷ codes "--record=a" ∷ codes "--stats" ∷ codes "100" ∷ codes "--stats-file" ∷ codes "b" ∷ [])
+    ≡ Some (Recv (record {
+      out = codes "-";
+      links = record { address = 127 ∷ 0 ∷ 0 ∷ 1 ∷ []; port = 5000 } ∷ [];
+      session = plain;
+      receiver = plain_receiver;
+      serving = plain_serving;
+      watching = record { capture = Some (codes "a"); stats = Some 100; stats_file = Some (codes "b") };
+    }))
+unfolding clap_on_literals faults_of command_in
+watched = refl
+
+file_without_statistics : line_of (codes "rist" ∷ codes "recv" ∷ codes "-" ∷ codes "127.0.0.1:5000" ∷ codes "--stats-file=b" ∷ []) ≡ None
+unfolding clap_on_literals faults_of command_in
+file_without_statistics = refl
+
+recorded_sending : line_of (codes "rist" ∷ codes "send" ∷ codes "-" ∷ codes "127.0.0.1:5000" ∷ codes "--record=a" ∷ []) ≡ None
+unfolding clap_on_literals faults_of command_in
+recorded_sending = refl
 
 gateway : line_of (codes "rist" ∷ codes "gate" ∷ codes "127.0.0.1:5000" ∷ codes "127.0.0.1:5002" ∷ codes "--share=3" ∷ [])
     ≡ Some (Gate (record {
@@ -226,6 +253,7 @@ gateway : line_of (codes "rist" ∷ codes "gate" ∷ codes "127.0.0.1:5000" ∷ 
       store = 4096;
       hold = 20;
       share = Some (3 ∷ []);
+      watching = unwatched;
     }))
 unfolding clap_on_literals faults_of command_in
 gateway = refl
@@ -243,6 +271,7 @@ into_a_tunnel : line_of (codes "rist" ∷ codes "gate" ∷ codes "127.0.0.1:5000
       store = 4096;
       hold = 20;
       share = None;
+      watching = unwatched;
     }))
 unfolding clap_on_literals faults_of command_in
 into_a_tunnel = refl
@@ -260,6 +289,7 @@ out_of_a_tunnel : line_of (codes "rist" ∷ codes "gate" ∷ codes "127.0.0.1:50
       store = 4096;
       hold = 20;
       share = None;
+      watching = unwatched;
     }))
 unfolding clap_on_literals faults_of command_in
 out_of_a_tunnel = refl

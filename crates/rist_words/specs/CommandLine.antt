@@ -11,7 +11,8 @@ use Rattle.rist_words.specs.declared.values.Numbers.{Numbers}
 use Rattle.rist_words.specs.Commands.{SessionNames, faults_of, command_in, incoming_names, session_names}
 use Rattle.outside_net.specs.declared.link_spec.LinkSpec.{LinkSpec}
 use Rattle.request_rules.specs.declared.policy.NackKind.{NackKind}
-use Rattle.rist_words.specs.Values.{echo_of, flag_of, is_set, nack_of, name_of, number_at, number_in, number_of}
+use Rattle.rist_words.specs.Values.{echo_of, flag_of, is_set, nack_of, name_if, name_of, number_at, number_if}
+use Rattle.rist_words.specs.Values.{number_in, number_of}
 use Rattle.rist_words.specs.Values.{phrase_of, profile_of, tunnel_of, ◌>>=◌}
 use Rattle.rist_words.specs.Links.{gate_links_of, link_ports, links_of, shares_of}
 use Rattle.rist_words.specs.Outs.{outs_of}
@@ -87,6 +88,14 @@ pub record SplitCommand : Type 0 where
   pub drift : Bool
   pub pcap : Option ℕ
 
+-- what is kept and told of a run beside its own output: the name of a capture of what comes on its links, if there is to
+-- be one; after how many milliseconds statistics are told, if they are; and the name of a file for these, if they go to
+-- one
+pub record Watching : Type 0 where
+  pub capture : Option Text
+  pub stats : Option ℕ
+  pub stats_file : Option Text
+
 -- a stream sent on links: the time between two datagrams in microseconds; the time before the first one, how many
 -- packets are stored, and for how many milliseconds none is sent again; the links' weights, where they share the
 -- stream; for how many milliseconds requests are answered after the source's end; how many turns are made at most
@@ -102,6 +111,7 @@ pub record SendCommand : Type 0 where
   pub share : Option (List ℕ)
   pub linger : ℕ
   pub turns : ℕ
+  pub watching : Watching
 
 -- what a receiver is set to: the playout delay in milliseconds, the buffer's capacity in packets and the restart time
 -- in milliseconds, 0 for never; whether deadlines follow a clock that drifts; for how many milliseconds a packet may be
@@ -132,6 +142,7 @@ pub record RecvCommand : Type 0 where
   pub session : Session
   pub receiver : Receiver
   pub serving : Serving
+  pub watching : Watching
 
 -- a stream received on some links and sent on others: the session of the links that are received on, and that of the
 -- others; what the receiver is set to and its run; and as of a sending the stream, the store, the hold time and the
@@ -147,6 +158,7 @@ pub record GateCommand : Type 0 where
   pub store : ℕ
   pub hold : ℕ
   pub share : Option (List ℕ)
+  pub watching : Watching
 
 -- a simulated run of a sender and a receiver: the number from which the network's words are drawn, how many payloads
 -- are sent, on how many links, and in how many of a thousand cases a datagram is lost
@@ -215,6 +227,10 @@ lingers = record { default = 1000; least = 0; most = 60000; multiple_of = 1 }
 -- `--turns`
 abbrev pub turn_counts : Numbers
 turn_counts = record { default = 1099511627776; least = 1; most = 1099511627776; multiple_of = 1 }
+
+-- `--stats`, in milliseconds: an hour at most
+abbrev pub stats_times : Numbers
+stats_times = record { default = 1000; least = 100; most = 3600000; multiple_of = 1 }
 
 -- `--reorder`, in milliseconds
 abbrev pub reorders : Numbers
@@ -424,6 +440,20 @@ replay_at c v = record {
   pcap = c.pcap;
 }
 
+-- a file for statistics is named only where these are told
+abbrev pub watching_with : Option Text → Option ℕ → Option Text → Option Watching
+watching_with capture None (Some file) = None
+watching_with capture stats stats_file =
+    Some (record { capture = capture; stats = stats; stats_file = stats_file })
+
+-- what a command's values keep and tell of a run. A sending has no option for a capture
+abbrev pub watching_of : List Row → Option Watching
+watching_of rows = do
+  capture ← name_if (first_of (codes "record") rows)
+  stats ← number_if stats_times (first_of (codes "stats") rows)
+  stats_file ← name_if (first_of (codes "stats-file") rows)
+  watching_with capture stats stats_file
+
 -- the values of a sending
 abbrev pub send_of : List Row → Option SendCommand
 send_of rows = do
@@ -438,6 +468,7 @@ send_of rows = do
   share ← shares_of (length links) (first_of (codes "share") rows)
   linger ← number_of lingers (first_of (codes "linger") rows)
   turns ← number_of turn_counts (first_of (codes "turns") rows)
+  watching ← watching_of rows
   Some (record {
     source = source;
     links = links;
@@ -450,6 +481,7 @@ send_of rows = do
     share = share;
     linger = linger;
     turns = turns;
+    watching = watching;
   })
 
 -- what a command's values set a receiver to
@@ -491,7 +523,15 @@ recv_of rows = do
   links ← links_of session.profile (all_of (codes "link") rows)
   receiver ← receiver_of rows
   serving ← serving_of rows
-  Some (record { out = out; links = links; session = session; receiver = receiver; serving = serving })
+  watching ← watching_of rows
+  Some (record {
+    out = out;
+    links = links;
+    session = session;
+    receiver = receiver;
+    serving = serving;
+    watching = watching;
+  })
 
 -- the values of a gateway
 abbrev pub gate_of : List Row → Option GateCommand
@@ -505,6 +545,7 @@ gate_of rows = do
   store ← number_of stores (first_of (codes "store") rows)
   hold ← number_of holds (first_of (codes "hold") rows)
   share ← shares_of (length links.1) (first_of (codes "share") rows)
+  watching ← watching_of rows
   Some (record {
     inputs = links.0;
     outputs = links.1;
@@ -516,6 +557,7 @@ gate_of rows = do
     store = store;
     hold = hold;
     share = share;
+    watching = watching;
   })
 
 -- the values of a simulated run

@@ -98,7 +98,7 @@ split_app =
 abbrev pub send_app : App
 send_app = with_rules Positions (with_arguments (session_app (codes "send"))
     (codes "flow" ∷ codes "first" ∷ codes "gap" ∷ codes "lead" ∷ codes "store" ∷ codes "hold" ∷ codes "share"
-    ∷ codes "linger" ∷ codes "turns" ∷ [])
+    ∷ codes "linger" ∷ codes "turns" ∷ codes "stats" ∷ codes "stats-file" ∷ [])
     (codes "nulls" ∷ codes "wide" ∷ codes "full" ∷ codes "echo" ∷ []) (codes "source" ∷ [])) (codes "link" ∷ [])
 
 -- the options of a receiver and of its run
@@ -106,7 +106,7 @@ abbrev pub receiver_options : List Text
 receiver_options =
     codes "delay" ∷ codes "span" ∷ codes "restart" ∷ codes "reorder" ∷ codes "least" ∷ codes "tries" ∷ codes "nack"
     ∷ codes "own" ∷ codes "turns"
-    ∷ codes "idle" ∷ codes "keep" ∷ []
+    ∷ codes "idle" ∷ codes "keep" ∷ codes "record" ∷ codes "stats" ∷ codes "stats-file" ∷ []
 
 -- a receiving: its options, its flags and its positions, of which the last takes one link or more
 abbrev pub recv_app : App

@@ -7,11 +7,12 @@ use Rattle.gre_tunnel.specs.declared.tunnel.Tunnel.TheVariants.{Own}
 use Rattle.link_channels.specs.declared.profile.Profile.{Profile}
 use Rattle.link_channels.specs.declared.profile.Profile.TheVariants.{Simple, Main}
 use Rattle.rist_words.specs.CommandLine.{CommandLine, Replay, Show, Count, Pack, Split, Send, Recv, Gate, Drill}
-use Rattle.rist_words.specs.CommandLine.{Session, Stream, Receiver, Serving, ReplayCommand, ShowCommand, CountCommand}
+use Rattle.rist_words.specs.CommandLine.{Session, Stream, Receiver, Serving, Watching, ReplayCommand, ShowCommand}
+use Rattle.rist_words.specs.CommandLine.{CountCommand}
 use Rattle.rist_words.specs.CommandLine.{PackCommand, SplitCommand, SendCommand, RecvCommand, GateCommand, DrillCommand}
 use Rattle.rist_words.specs.CommandLine.{delays, spans, restarts, gaps, leads, stores, holds, lingers, turn_counts}
-use Rattle.rist_words.specs.CommandLine.{reorders, retry_times, retry_counts, idle_times, kept_counts, drill_counts}
-use Rattle.rist_words.specs.CommandLine.{drill_links, drill_losses}
+use Rattle.rist_words.specs.CommandLine.{reorders, retry_times, retry_counts, idle_times, kept_counts, stats_times}
+use Rattle.rist_words.specs.CommandLine.{drill_counts, drill_links, drill_losses}
 use Rattle.rist_words.specs.Links.{link_weights}
 use Rattle.rist_words.specs.Outs.{ports}
 
@@ -101,6 +102,11 @@ pub record IsWeight (weight : ℕ) : Type 0 where
   pub some : link_weights.least ≤ weight
   pub most : weight ≤ link_weights.most
 
+-- a number of milliseconds that the option of statistics takes, where they are told
+pub record IsInWatching (w : Watching) : Type 0 where
+  pub some_stats : IfSome w.stats (λ n. stats_times.least ≤ n)
+  pub stats : IfSome w.stats (λ n. n ≤ stats_times.most)
+
 -- one to sixteen links, a weight for each where they share, and numbers that their options take
 pub record IsInSend (c : SendCommand) : Type 0 where
   pub session : IsInSession c.session
@@ -118,6 +124,7 @@ pub record IsInSend (c : SendCommand) : Type 0 where
   pub linger : c.linger ≤ lingers.most
   pub some_turn : turn_counts.least ≤ c.turns
   pub turns : c.turns ≤ turn_counts.most
+  pub watching : IsInWatching c.watching
 
 -- numbers that a receiver's options take
 pub record IsInReceiver (r : Receiver) : Type 0 where
@@ -146,6 +153,7 @@ pub record IsInRecv (c : RecvCommand) : Type 0 where
   pub links : length c.links ≤ MAX_LINKS
   pub receiver : IsInReceiver c.receiver
   pub serving : IsInServing c.serving
+  pub watching : IsInWatching c.watching
 
 -- a link or more that receives and one or more that sends, sixteen in all at most, and a session for each; a weight for
 -- each that sends where they share; and what the receiver, its run and the sender are set to
@@ -163,6 +171,7 @@ pub record IsInGate (c : GateCommand) : Type 0 where
   pub some_hold : holds.least ≤ c.hold
   pub hold : c.hold ≤ holds.most
   pub share : IfSome c.share (λ weights. (length weights ≡ length c.outputs) × All IsWeight weights)
+  pub watching : IsInWatching c.watching
 
 -- a number of 64 bits, and numbers that the other positions take
 pub record IsInDrill (c : DrillCommand) : Type 0 where

@@ -12,13 +12,15 @@ use Rattle.rist_words.specs.declared.lines.SendLine.{SendLine}
 use Rattle.rist_words.specs.declared.lines.StreamWords.{StreamWords}
 use Rattle.rist_words.specs.declared.lines.ReceiverWords.{ReceiverWords}
 use Rattle.rist_words.specs.declared.lines.ServingWords.{ServingWords}
+use Rattle.rist_words.specs.declared.lines.WatchingWords.{WatchingWords}
 use Rattle.rist_words.specs.declared.lines.RecvLine.{RecvLine}
 use Rattle.rist_words.specs.declared.lines.GateLine.{GateLine}
 use Rattle.rist_words.specs.declared.lines.DrillLine.{DrillLine}
 use Rattle.rist_words.specs.declared.session.SessionOptions.{SessionOptions}
 use Rattle.rist_words.specs.Commands.{SessionNames}
 use Rattle.rist_words.specs.CommandLine.{CommandLine, Replay, Show, Count, Pack, Split, Send, Recv, Gate, Drill}
-use Rattle.rist_words.specs.CommandLine.{Session, Stream, Receiver, Serving, ReplayCommand, ShowCommand, CountCommand}
+use Rattle.rist_words.specs.CommandLine.{Session, Stream, Receiver, Serving, Watching, ReplayCommand, ShowCommand}
+use Rattle.rist_words.specs.CommandLine.{CountCommand}
 use Rattle.rist_words.specs.CommandLine.{PackCommand, SplitCommand, SendCommand, RecvCommand, GateCommand, DrillCommand}
 
 -- the names of a session's options
@@ -106,6 +108,15 @@ shown_split l = record {
   pcap = l.pcap;
 }
 
+-- what is kept and told of a line's run
+abbrev pub shown_watching : WatchingWords → Watching
+shown_watching w =
+    record {
+      capture = option_map (λ name. name.now) w.capture;
+      stats = w.stats;
+      stats_file = option_map (λ name. name.now) w.stats_file;
+    }
+
 -- the sending that a line says
 abbrev pub shown_send : SendLine → SendCommand
 shown_send l = record {
@@ -120,6 +131,7 @@ shown_send l = record {
   share = option_map (λ weights. weights.items) l.share;
   linger = l.linger;
   turns = l.turns;
+  watching = shown_watching l.watching;
 }
 
 -- what a line sets its receiver to
@@ -150,6 +162,7 @@ shown_recv l =
       session = shown_session l.session;
       receiver = shown_receiver l.receiver;
       serving = shown_serving l.serving;
+      watching = shown_watching l.watching;
     }
 
 -- the gateway that a line says
@@ -165,6 +178,7 @@ shown_gate l = record {
   store = l.store;
   hold = l.hold;
   share = option_map (λ weights. weights.items) l.share;
+  watching = shown_watching l.watching;
 }
 
 -- the simulated run that a line says

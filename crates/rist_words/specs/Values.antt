@@ -1,5 +1,5 @@
 -- How the values of a command line read (this profile).
-use Rattle.std.specs.Prelude.{ℕ, ◌%◌, ◌==◌, ◌&&◌, Bool, true, false, not, nat_lt, length, Option, Some, None}
+use Rattle.std.specs.Prelude.{ℕ, ◌%◌, ◌==◌, ◌&&◌, Bool, true, false, not, nat_lt, length, Option, Some, None, option_map}
 use Rattle.std.specs.Prelude.{if◌then◌else◌, codes}
 use Rattle.std.specs.Char.{is_ascii_digit}
 use Rattle.std.specs.List.{list_all}
@@ -87,3 +87,13 @@ is_set (Some text) = bytes_eq text (codes "true")
 abbrev pub flag_of : Profile → Option Text → Option Bool
 flag_of Main value = Some (is_set value)
 flag_of Simple value = if is_set value then None else Some false
+
+-- a name that may be left out, and isn't empty where it is given
+abbrev pub name_if : Option Text → Option (Option Text)
+name_if None = Some None
+name_if (Some text) = option_map Some (name_of (Some text))
+
+-- a number that may be left out, and is one that the option takes where it is given
+abbrev pub number_if : Numbers → Option Text → Option (Option ℕ)
+number_if numbers None = Some None
+number_if numbers (Some text) = option_map Some (number_in numbers text)

@@ -41,8 +41,18 @@ static SEND: [&str; 1] = ["source"];
 /// The last position of each command over links.
 static LINKS: [&str; 1] = ["link"];
 
-static SEND_OPTIONS: [&str; 9] = [
-    "flow", "first", "gap", "lead", "store", "hold", "share", "linger", "turns",
+static SEND_OPTIONS: [&str; 11] = [
+    "flow",
+    "first",
+    "gap",
+    "lead",
+    "store",
+    "hold",
+    "share",
+    "linger",
+    "turns",
+    "stats",
+    "stats-file",
 ];
 
 /// The flags of a sending.
@@ -57,8 +67,21 @@ static RECV: [&str; 1] = ["out"];
 static RECV_FLAGS: [&str; 2] = ["full", "drift"];
 
 /// The options of each command that receives.
-static RECEIVER_OPTIONS: [&str; 11] = [
-    "delay", "span", "restart", "reorder", "least", "tries", "nack", "own", "turns", "idle", "keep",
+static RECEIVER_OPTIONS: [&str; 14] = [
+    "delay",
+    "span",
+    "restart",
+    "reorder",
+    "least",
+    "tries",
+    "nack",
+    "own",
+    "turns",
+    "idle",
+    "keep",
+    "record",
+    "stats",
+    "stats-file",
 ];
 
 /// The flags of a gateway, the last that of the links that it receives on.

@@ -15,9 +15,10 @@ pub mod reading;
 pub mod receiving;
 pub mod session;
 pub mod values;
+pub mod watching;
 
 pub use lines::{
     CountLine, DrillLine, GateLine, Line, PackLine, ReceiverWords, RecvLine, Refused, ReplayLine,
-    SendLine, ServingWords, SessionWords, ShowLine, SplitLine, StreamWords,
+    SendLine, ServingWords, SessionWords, ShowLine, SplitLine, StreamWords, WatchingWords,
 };
 pub use reading::line;

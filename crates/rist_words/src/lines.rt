@@ -150,6 +150,17 @@ pub struct SplitLine<'a> {
     pub pcap: Option<u16>,
 }
 
+/// What is kept and told of a run beside its own output.
+#[derive(Clone, Copy, Debug, PartialEq, Eq)]
+pub struct WatchingWords<'a> {
+    /// The name of a capture of what comes on its links.
+    pub capture: Option<&'a str>,
+    /// After how many milliseconds statistics are told, 100 to 3,600,000.
+    pub stats: Option<u64>,
+    /// The name of a file for these.
+    pub stats_file: Option<&'a str>,
+}
+
 /// Send a stream on links.
 #[derive(Debug, PartialEq, Eq, Drop)]
 pub struct SendLine<'a> {
@@ -176,6 +187,8 @@ pub struct SendLine<'a> {
     pub linger: u64,
     /// How many turns are made at most, 1 to 2^40.
     pub turns: u64,
+    /// What is told of its run. It keeps no capture.
+    pub watching: WatchingWords<'a>,
 }
 
 /// What a receiver is set to.
@@ -226,6 +239,8 @@ pub struct RecvLine<'a> {
     pub receiver: ReceiverWords,
     /// When it ends.
     pub serving: ServingWords,
+    /// What is kept and told of its run.
+    pub watching: WatchingWords<'a>,
 }
 
 /// Receive a stream on some links, and send it on others.
@@ -252,6 +267,8 @@ pub struct GateLine<'a> {
     /// The weights by which the outputs share the stream, 1 to 100 each and one for each output. Without them each
     /// datagram goes on all of them.
     pub share: Option<Vec<u8>>,
+    /// What is kept and told of its run.
+    pub watching: WatchingWords<'a>,
 }
 
 /// Simulate a sender and a receiver with a network between them, and write a summary.

@@ -16,6 +16,7 @@ use crate::pcap::pcap;
 use crate::receiving::{DELAY, RESTART, SPAN, TURNS, receiver, serving};
 use crate::session::{incoming, session, stream, tunnel_session};
 use crate::values::{Numbers, is_set, name, number};
+use crate::watching::watching;
 use clap::ArgMatches;
 use link_channels::Profile;
 use std::alloc::Global;
@@ -211,6 +212,7 @@ fn send_line<'a>(alloc: Global, values: &ArgMatches<'a>) -> Result<SendLine<'a>,
         share,
         linger: number(values, "linger", LINGER).ok_or(Refused::Usage)?,
         turns: number(values, "turns", TURNS).ok_or(Refused::Usage)?,
+        watching: watching(values).ok_or(Refused::Usage)?,
     })
 }
 
@@ -227,6 +229,7 @@ fn recv_line<'a>(alloc: Global, values: &ArgMatches<'a>) -> Result<RecvLine<'a>,
         session,
         receiver: receiver(values).ok_or(Refused::Usage)?,
         serving: serving(values).ok_or(Refused::Usage)?,
+        watching: watching(values).ok_or(Refused::Usage)?,
     })
 }
 
@@ -243,6 +246,7 @@ fn gate_line<'a>(alloc: Global, values: &ArgMatches<'a>) -> Result<GateLine<'a>,
     let store = number(values, "store", STORE).ok_or(Refused::Usage)?;
     let hold = number(values, "hold", HOLD).ok_or(Refused::Usage)?;
     let share = share(alloc, values, outputs.len())?;
+    let watching = watching(values).ok_or(Refused::Usage)?;
     Ok(GateLine {
         inputs,
         outputs,
@@ -254,5 +258,6 @@ fn gate_line<'a>(alloc: Global, values: &ArgMatches<'a>) -> Result<GateLine<'a>,
         store,
         hold,
         share,
+        watching,
     })
 }
