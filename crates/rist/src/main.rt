@@ -8,8 +8,10 @@ ghost use Rattle.std.specs.declared.io.ErrorKind.TheVariants.{OutOfMemory};
 ghost use Rattle.outside_io.specs.Causes.{Rose};
 ghost use Rattle.run_parts.specs.ExitCodes.{exit_code_of};
 ghost use Rattle.rist_top.specs.Lines.{AsksNothing, IsNoLine};
+ghost use Rattle.rist.specs.NoWords.{pass_status};
 
 use outside_host::RealHost;
+use pass_words::{NoPass, with_passphrases};
 use rist_top::{Status, complaint, run};
 use std::alloc::Global;
 use std::env::{self, Args};
@@ -18,12 +20,62 @@ use std::process::ExitCode;
 use std::sync::Wait;
 use std::thread::Threads;
 
-/// The words of the command line, or the status where they can't be had.
-fn words_of(rt: &HostRuntime) -> Result<Vec<String>, Status> {
-    match env::args(rt) {
+/// Why there are no words to go by.
+#[derive(Drop)]
+enum NoWords {
+    /// The system gives none.
+    Given(Status),
+    /// A passphrase that a file or the variable stands for can't be had.
+    Pass(NoPass),
+}
+
+/// The words of the command line, each passphrase of a file and that of the variable in its place.
+fn words_of(rt: &HostRuntime) -> Result<Vec<String>, NoWords> {
+    let given = match env::args(rt) {
         Ok(args) => all_of(rt.alloc(), args),
         Err(error) => Err(refusal(error.kind())),
+    };
+    match given {
+        Ok(words) => match with_passphrases(rt, rt.alloc(), words) {
+            Ok(words) => Ok(words),
+            Err(refused) => Err(NoWords::Pass(refused)),
+        },
+        Err(status) => Err(NoWords::Given(status)),
     }
+}
+
+/// How the program ends where a passphrase can't be had: a file with none in its first line is one that can't be opened.
+fn status_of(refused: &NoPass) -> Status
+    ensures { result ≡ pass_status refused.now }
+{
+    match refused {
+        NoPass::Memory => Status::Memory,
+        NoPass::Words(_) => Status::Usage,
+        NoPass::Closed(..) => Status::OpenFault,
+        NoPass::Line(..) => Status::OpenFault,
+        NoPass::Variable => Status::Usage,
+    }
+}
+
+/// Says on the error output why there are no words, and gives the exit status.
+fn ended_before(rt: &HostRuntime, refused: &NoWords, host: &RealHost<'_, HostRuntime>) -> ExitCode {
+    match refused {
+        NoWords::Given(Status::Usage) => ended(rt, Status::Usage, &[], host),
+        NoWords::Given(_) => ended(rt, Status::Memory, &[], host),
+        NoWords::Pass(refused) => ended_without(rt, refused),
+    }
+}
+
+/// Says on the error output why a passphrase can't be had, and gives the exit status.
+fn ended_without(rt: &HostRuntime, refused: &NoPass) -> ExitCode
+    ensures exit { exit_status result ≡ exit_code_of (pass_status refused.now) }
+{
+    let status = status_of(refused);
+    // A text that can't be written changes no status.
+    let _ = eprintln!(rt; "rist: {status}");
+    let _ = eprintln!(rt; "rist: {refused}");
+    let code = status.exit_code();
+    ExitCode::from(code)
 }
 
 /// Why the system gives no words: memory is refused, or one of them isn't UTF-8, and that is no line.
@@ -136,6 +188,6 @@ fn main(rt: HostRuntime) -> ExitCode {
     let mut host = RealHost::with_memory(&rt, rt.alloc());
     match words_of(&rt) {
         Ok(words) => exit_for(&rt, &rt, words.as_slice(), &mut host),
-        Err(status) => ended(&rt, status, &[], &host),
+        Err(refused) => ended_before(&rt, &refused, &host),
     }
 }

@@ -7,7 +7,9 @@ use Rattle.receiver_rules.specs.History.{released_bytes}
 use Rattle.rist_wire.specs.declared.session.Session.{Session}
 use Rattle.rist_ends.specs.declared.settings.Settings.{Settings}
 use Rattle.rist_ends.specs.Settings.{IsInRange}
-use Rattle.rist_replay.specs.Steps.{history_of}
+use Rattle.rist_ends.specs.Receiver.{ReceiverState, IsReceiverAfter}
+use Rattle.reorder_buffer.specs.declared.phase.Phase.TheVariants.{Open}
+use Rattle.rist_replay.specs.Steps.{history_of, receiver_history}
 
 -- the octets that these records have released
 abbrev pub released_so_far : Session → Limits → List Record → List ℕ
@@ -21,3 +23,9 @@ replayed session limits rs = released_bytes limits (end_step ∷ history_of sess
 pub record AreSettings (settings : Settings) : Type 0 where
   pub in_range : IsInRange settings
   pub muted : settings.muted ≡ true
+
+-- the receiver stands after these records, and goes on
+pub record HasReplayed (session : Session) (receiver : ReceiverState) (rs : List Record) : Type 0 where
+  pub state : IsReceiverAfter receiver (receiver_history session rs)
+  pub running : receiver.buffer.phase ≡ Open
+  pub muted : receiver.reporter.is_muted ≡ true

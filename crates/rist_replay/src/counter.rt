@@ -14,7 +14,7 @@ pub struct Counter {
 
 impl Visitor for Counter {
     ghost use Rattle.std.specs.Prelude.{[], false};
-    ghost use Rattle.rist_replay.specs.Inside.Visiting.{HasReplayed};
+    ghost use Rattle.rist_replay.specs.Replay.{HasReplayed};
     ghost use Rattle.rist_replay.specs.Counted.{counted};
 
     ghost so_far = { λ c rs. [] };

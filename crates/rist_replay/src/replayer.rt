@@ -27,9 +27,9 @@ pub struct Replayer {
 }
 
 impl Replayer {
-    ghost use Rattle.rist_replay.specs.Inside.Visiting.{HasReplayed};
+    ghost use Rattle.rist_replay.specs.Replay.{HasReplayed};
 
-    /// One in a session, with these settings, that was told nothing.
+    /// One in a session, with these settings, that was told nothing. All memory of a replay or a counting is taken here.
     pub fn with(alloc: Global, session: &Session, settings: &Settings) -> Result<Replayer, NoMemory>
         requires session { IsSession session.now }
         requires settings { AreSettings settings.now }
@@ -68,8 +68,7 @@ impl Visitor for Replayer {
     ghost use Rattle.outside_io.specs.Told.{Writes, WritesPart};
     ghost use Rattle.capture_walk.specs.Causes.{visit_fault};
     ghost use Rattle.capture_walk.specs.declared.visitor.VisitBad.TheVariants.{Memory};
-    ghost use Rattle.rist_replay.specs.Replay.{released_so_far, replayed};
-    ghost use Rattle.rist_replay.specs.Inside.Visiting.{HasReplayed};
+    ghost use Rattle.rist_replay.specs.Replay.{released_so_far, replayed, HasReplayed};
 
     ghost so_far = { λ r. released_so_far r.opener r.receiver.buffer.limits };
 

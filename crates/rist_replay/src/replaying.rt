@@ -4,44 +4,32 @@ ghost use Rattle.outside_io.specs.Causes.{HasReadCause, HasWriteCause, fault_by}
 ghost use Rattle.capture_walk.specs.Causes.{walk_fault};
 ghost use Rattle.capture_walk.specs.Leaves.{Leaves, passage};
 ghost use Rattle.capture_walk.specs.declared.walk_bad.WalkBad.TheVariants.{ReadFault, WriteFault, Memory};
-ghost use Rattle.rist_wire.specs.Session.{IsSession};
-ghost use Rattle.rist_ends.specs.Settings.{limits_of};
-ghost use Rattle.rist_replay.specs.Replay.{released_so_far, replayed, AreSettings};
+ghost use Rattle.rist_replay.specs.Replay.{released_so_far, replayed, HasReplayed};
 
 use crate::replayer::Replayer;
 use capture_walk::{Records, WalkBad, walk};
 use outside_io::Sink;
-use rist_ends::Settings;
-use rist_wire::Session;
-use std::alloc::Global;
 
-/// Steps each record of a file in a session, and then an end, on a receiver with these settings.
+/// Steps each record of a file, and then an end, on a receiver that was told nothing, in its session. No memory is taken.
 pub fn replay<R: Records, K: Sink>(
-    alloc: Global,
-    session: &Session,
-    settings: &Settings,
+    mut replayer: Replayer,
     reader: &mut R,
     sink: &mut K,
 ) -> Result<(), WalkBad>
-    requires session { IsSession session.now }
-    requires settings { AreSettings settings.now }
+    requires fresh { HasReplayed replayer.opener replayer.receiver [] }
     requires start { R.has_read reader.old (R.remaining reader.old) [] }
     requires running { R.spent reader.old ≡ false }
-    ensures work { Leaves (R.form reader.old) (released_so_far session.now (limits_of settings.now))
-        (replayed session.now (limits_of settings.now)) 0
+    ensures work { Leaves (R.form reader.old) (released_so_far replayer.opener replayer.receiver.buffer.limits)
+        (replayed replayer.opener replayer.receiver.buffer.limits) 0
         (passage (R.remaining reader.old) (R.remaining reader.new) (K.contents sink.old) (K.contents sink.new))
         result }
     // Where a write fails before the capture has come to an end, no read has failed.
     ensures stopped { IsErrOf result WriteFault
         → (R.faults reader.new ≡ R.faults reader.old) ⊎ (R.spent reader.new ≡ true) }
-    // Memory is wanted before the first record alone: nothing was read or written then.
-    ensures memory { IsErrOf result Memory → (reader.new ≡ reader.old) × (sink.new ≡ sink.old) }
+    ensures memory { IsErrOf result Memory → ⊥ }
     ensures ahead { IsErrOf result ReadFault → R.ahead reader.new ≡ [] }
     ensures read { HasReadCause (fault_by walk_fault result) (R.faults reader.old) (R.faults reader.new) }
     ensures write { HasWriteCause (fault_by walk_fault result) (K.faults sink.old) (K.faults sink.new) }
 {
-    match Replayer::with(alloc, session, settings) {
-        Ok(mut replayer) => walk(reader, &mut replayer, sink),
-        Err(_) => Err(WalkBad::Memory),
-    }
+    walk(reader, &mut replayer, sink)
 }

@@ -12,10 +12,12 @@ use Rattle.run_parts.specs.declared.status.Status.{Status}
 use Rattle.run_parts.specs.declared.status.Status.TheVariants as statuses
 use Rattle.run_parts.specs.Causes.{fault_of}
 use Rattle.run_files.specs.DoesFiles.{DoesFiles}
+use Rattle.run_files.specs.Ends.{IsFilesEnd}
 use Rattle.run_files.specs.Frame.{KeepsOthers, OpensSourceFirst}
 use Rattle.run_parts.specs.Hosts.{IsFresh}
-use Rattle.run_files.specs.Untouched.{LeavesAtMemory, Untouched}
+use Rattle.run_files.specs.Untouched.{IsShowing, Untouched}
 use Rattle.run_files.proofs.ExactLemmas.{ran_reached, ran_epochs, ran_front}
+use Rattle.run_files.proofs.CutOffLemmas.{ran_part}
 use Rattle.run_files.proofs.CompleteLemmas.{ran_completes}
 use Rattle.run_files.proofs.UntouchedLemmas.{line_at_memory}
 
@@ -25,24 +27,32 @@ ran_line tells old new c k status is ran = subst (λ x. Ran tells old new x stat
 not_open : statuses.Done ≡ statuses.OpenFault → ⊥
 not_open e = cc
 
+fault_opened : statuses.WriteFault ≡ statuses.OpenFault → ⊥
+fault_opened e = cc
+
+fault_memory : statuses.WriteFault ≡ statuses.Memory → ⊥
+fault_memory e = cc
+
 not_memory : statuses.Done ≡ statuses.Memory → ⊥
 not_memory e = cc
 
 pub does_files : {I O E L C : Type 0} (told : Bool) (tells : Tells I O E) (c : CommandLine) (were are : ℕ) (old new : Shelf I O E L C) (status : Status)
     → IsInRange c
+    → IsFilesEnd c status
     → HasOpenCause (fault_of status) were are
     → (IsFresh told old → KeepsOthers old new c)
     → (IsTrue told → OpensSourceFirst old new c)
     → (IsFresh told old → status ≢ statuses.OpenFault → status ≢ statuses.Memory → Ran tells old new c status)
     → (IsTrue told → status ≡ statuses.OpenFault → Untouched old new c)
-    → (IsFresh told old → status ≡ statuses.Memory → Untouched old new c ⊎ Ran tells old new c status)
+    → (IsFresh told old → status ≡ statuses.Memory → Untouched old new c ⊎ (IsShowing c × Ran tells old new c status))
     → DoesFiles told tells c were are old new status
-does_files told tells c were are old new status range cause others order ran closed memory = record {
+does_files told tells c were are old new status range ends cause others order ran closed memory = record {
+  ends = ends;
   others = others;
   order = order;
   ran = ran;
   closed = closed;
-  memory = λ fresh refused. line_at_memory _ old new _ c status (memory fresh refused) refl refused;
+  memory = λ fresh refused. line_at_memory _ old new c status (memory fresh refused) refused;
   reached = λ r is fresh done.
       ran_reached _ old new r status (subst IsInRange is range).some_delay done
       (ran_line _ _ _ _ _ _ is (ran fresh (λ e. not_open (sym done ∙ e)) (λ e. not_memory (sym done ∙ e))));
@@ -51,6 +61,9 @@ does_files told tells c were are old new status range cause others order ran clo
       (ran_line _ _ _ _ _ _ is (ran fresh (λ e. not_open (sym done ∙ e)) (λ e. not_memory (sym done ∙ e))));
   front = λ r is fresh opened memory fault.
       ran_front _ old new r status (subst IsInRange is range).some_delay memory fault (ran_line _ _ _ _ _ _ is (ran fresh opened memory));
+  cut = λ r is fresh fault.
+      ran_part _ old new r status (subst IsInRange is range).some_delay fault
+      (ran_line _ _ _ _ _ _ is (ran fresh (λ e. fault_opened (sym fault ∙ e)) (λ e. fault_memory (sym fault ∙ e))));
   complete = λ fresh opened.
       ran_completes _ old new c status
       (λ e. opened (subst (λ s. HasOpenCause (fault_of s) were are) e cause))
@@ -77,28 +90,30 @@ keeps_others old c = record {
 untouched : {I O E L C : Type 0} (old : Shelf I O E L C) (c : CommandLine) → Untouched old old c
 untouched old c = record { source = inl refl; sink = inl refl; other_sources = λ n other. refl; other_sinks = λ n other. refl; entropies = λ place. refl }
 
-at_memory : {I O E L C : Type 0} (tells : Tells I O E) (old : Shelf I O E L C) (c : CommandLine) → LeavesAtMemory tells old old c
-at_memory tells old (Replay c) = inl (untouched old (Replay c))
-at_memory tells old (Show c) = inl (untouched old (Show c))
-at_memory tells old (Count c) = inl (untouched old (Count c))
-at_memory tells old (Pack c) = untouched old (Pack c)
-at_memory tells old (Split c) = inl (untouched old (Split c))
-at_memory tells old (Send c) = inl (untouched old (Send c))
-at_memory tells old (Recv c) = inl (untouched old (Recv c))
-at_memory tells old (Gate c) = inl (untouched old (Gate c))
-at_memory tells old (Drill c) = inl (untouched old (Drill c))
+ends_memory : (c : CommandLine) → IsFilesEnd c statuses.Memory
+ends_memory (Replay c) = tt
+ends_memory (Show c) = tt
+ends_memory (Count c) = tt
+ends_memory (Pack c) = tt
+ends_memory (Split c) = tt
+ends_memory (Send c) = tt
+ends_memory (Recv c) = tt
+ends_memory (Gate c) = tt
+ends_memory (Drill c) = tt
 
 -- memory is refused before a line is known
 pub files_nothing : {I O E L C : Type 0} (told : Bool) (tells : Tells I O E) (c : CommandLine) (faults : ℕ) (old : Shelf I O E L C)
     → DoesFiles told tells c faults faults old old statuses.Memory
 files_nothing told tells c faults old = record {
+  ends = ends_memory c;
   others = λ fresh. keeps_others old c;
   order = λ told same. refl;
   ran = λ fresh unopened memory. absurd (memory refl);
   closed = λ told unopened. absurd (cc (unopened));
-  memory = λ fresh memory. at_memory tells old c;
+  memory = λ fresh memory. inl (untouched old c);
   reached = λ r is fresh done. absurd (cc (done));
   epochs = λ r is fresh done. absurd (cc (done));
   front = λ r is fresh opened memory. absurd (memory refl);
+  cut = λ r is fresh fault. absurd (cc (fault));
   complete = λ fresh opened source b here told input none. inr refl;
 }

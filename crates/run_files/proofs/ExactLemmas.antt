@@ -49,12 +49,12 @@ done_walk form so_far whole p (Err walks.ReadFault) e left = cc
 done_walk form so_far whole p (Err walks.WriteFault) e left = cc
 done_walk form so_far whole p (Err walks.Memory) e left = cc
 
-released : (c : ReplayCommand) (rs : List Record) (p : SentStream) (run : List Delivery) → 1 ≤ c.delay → IsCaptureOf (session_read c.session) p run rs → HasSteadyTimestamps p → c.drift ≡ false → AreDeliveriesOf (replay_limits c) p run
+pub released : (c : ReplayCommand) (rs : List Record) (p : SentStream) (run : List Delivery) → 1 ≤ c.delay → IsCaptureOf (session_read c.session) p run rs → HasSteadyTimestamps p → c.drift ≡ false → AreDeliveriesOf (replay_limits c) p run
     → replayed (session_read c.session) (replay_limits c) rs ≡ concat (reached_payloads (replay_limits c) p run)
 released c rs p run some is steady stays honest =
     ap (λ h. concat (released_payloads (replay_limits c) (end_step ∷ h))) is ∙ ap concat (sent.release_set (replay_limits c) p run steady (omega arith) stays honest)
 
-released_epochs : (c : ReplayCommand) (rs : List Record) (streams : SentStreams) (run : List Transfer) → 1 ≤ c.delay → IsCaptureOfAll (session_read c.session) streams run rs → ((epoch : ℕ) → HasSteadyTimestamps (streams epoch)) → AreTransfersOf (replay_limits c) streams run
+pub released_epochs : (c : ReplayCommand) (rs : List Record) (streams : SentStreams) (run : List Transfer) → 1 ≤ c.delay → IsCaptureOfAll (session_read c.session) streams run rs → ((epoch : ℕ) → HasSteadyTimestamps (streams epoch)) → AreTransfersOf (replay_limits c) streams run
     → replayed (session_read c.session) (replay_limits c) rs ≡ concat (payloads_of_epochs streams (sent_epochs (replay_limits c) streams run))
 released_epochs c rs streams run some is steady are =
     ap (λ h. concat (released_payloads (replay_limits c) (end_step ∷ h))) is ∙ ap concat (by_epochs.release_set (replay_limits c) streams run steady (omega arith) are)

@@ -1,9 +1,11 @@
 pub mod Sessions
 pub mod Works
+pub mod Ends
 pub mod Ran
 pub mod Frame
 pub mod Untouched
 pub mod Exact
+pub mod CutOff
 pub mod Complete
 pub mod DoesFiles
 pub mod Inside

@@ -1,7 +1,7 @@
 -- What is left where a line's work is not begun, or wants memory.
 use Rattle.std.specs.Prelude.{◌≡◌, ◌≢◌, ◌⊎◌, ℕ, List}
 use Rattle.outside_host.specs.Shelf.{Shelf, Stays}
-use Rattle.rist_words.specs.CommandLine.{CommandLine, Pack}
+use Rattle.rist_words.specs.CommandLine.{CommandLine, Replay, Show, Count, Pack, Split, Send, Recv, Gate, Drill}
 use Rattle.run_parts.specs.Objects.{Tells}
 use Rattle.run_parts.specs.Places.{IsAsItWas}
 use Rattle.run_files.specs.Ran.{Ran}
@@ -16,9 +16,20 @@ pub record Untouched {I O E L C : Type 0} (old new : Shelf I O E L C) (c : Comma
   pub other_sinks : (name : List ℕ) → name ≢ sink_name c → new.sinks name ≡ old.sinks name
   pub entropies : Stays old.entropies new.entropies
 
--- Where memory is refused a packing has touched nothing. A walk over a capture has touched nothing, or its sink has
--- gained exactly what is written of some records at the front.
+-- a showing, which takes memory for each line that it writes; the other commands take theirs before they begin
+abbrev pub IsShowing : CommandLine → Type 0
+IsShowing (Replay c) = ⊥
+IsShowing (Show c) = Unit {0}
+IsShowing (Count c) = ⊥
+IsShowing (Pack c) = ⊥
+IsShowing (Split c) = ⊥
+IsShowing (Send c) = ⊥
+IsShowing (Recv c) = ⊥
+IsShowing (Gate c) = ⊥
+IsShowing (Drill c) = ⊥
+
+-- Where memory is refused a command has touched nothing. A showing has touched nothing, or its sink has gained exactly
+-- what is written of some records at the front.
 abbrev pub LeavesAtMemory : {I O E L C : Type 0} → Tells I O E → Shelf I O E L C → Shelf I O E L C → CommandLine
     → Type 0
-LeavesAtMemory tells old new (Pack c) = Untouched old new (Pack c)
-LeavesAtMemory tells old new c = Untouched old new c ⊎ Ran tells old new c statuses.Memory
+LeavesAtMemory tells old new c = Untouched old new c ⊎ (IsShowing c × Ran tells old new c statuses.Memory)

@@ -6,10 +6,11 @@ ghost use Rattle.rist_words.specs.Ranges.{IsInRange};
 ghost use Rattle.run_parts.specs.Causes.{fault_of};
 ghost use Rattle.run_parts.specs.Hosts.{IsFresh};
 ghost use Rattle.run_files.specs.Works.{IsOverFiles};
+ghost use Rattle.run_files.specs.Ends.{IsFilesEnd};
 ghost use Rattle.run_files.specs.Ran.{Ran};
 ghost use Rattle.run_parts.specs.Names.{source_name, sink_name};
 ghost use Rattle.run_files.specs.Frame.{KeepsOthers, OpensSourceFirst};
-ghost use Rattle.run_files.specs.Untouched.{Untouched};
+ghost use Rattle.run_files.specs.Untouched.{IsShowing, Untouched};
 ghost use Rattle.run_files.specs.DoesFiles.{DoesFiles};
 
 use crate::working::{Worked, work};
@@ -35,6 +36,7 @@ fn work_over_files<H: Host>(alloc: Global, host: &mut H, line: &Line<'_>) -> Sta
     requires range { IsInRange (shown line.now) }
     requires files { IsOverFiles (shown line.now) }
     ensures line { result ≢ Status.Usage }
+    ensures ends { IsFilesEnd (shown line.now) result }
     ensures opened { HasOpenCause (fault_of result) (H.faults host.old) (H.faults host.new) }
     ensures others { IsFresh H.tells (H.shelf host.old)
         → KeepsOthers (H.shelf host.old) (H.shelf host.new) (shown line.now) }
@@ -45,7 +47,8 @@ fn work_over_files<H: Host>(alloc: Global, host: &mut H, line: &Line<'_>) -> Sta
         → Untouched (H.shelf host.old) (H.shelf host.new) (shown line.now) }
     ensures memory { IsFresh H.tells (H.shelf host.old) → result ≡ Status.Memory
         → Untouched (H.shelf host.old) (H.shelf host.new) (shown line.now)
-        ⊎ Ran ⟦<H as Telling>⟧.objects (H.shelf host.old) (H.shelf host.new) (shown line.now) result }
+        ⊎ (IsShowing (shown line.now)
+        × Ran ⟦<H as Telling>⟧.objects (H.shelf host.old) (H.shelf host.new) (shown line.now) result) }
 {
     let source = match host.source(source_name(line)) {
         Ok(source) => source,

@@ -2,15 +2,19 @@
 ghost use Rattle.std.specs.Prelude.{◌≡◌, ◌≢◌, ◌⊎◌, [], false, IsTrue};
 ghost use Rattle.outside_io.specs.Causes.{HasReadCause, HasWriteCause, HasOpenCause};
 ghost use Rattle.capture_walk.specs.Leaves.{passage as passed};
+ghost use Rattle.rist_replay.specs.Counted.{counted};
+ghost use Rattle.rist_replay.specs.Replay.{HasReplayed, released_so_far, replayed};
 ghost use Rattle.rist_words.specs.Shown.{shown, shown_replay, shown_show, shown_count, shown_pack};
 ghost use Rattle.rist_words.specs.Ranges.{IsInRange, IsInReplay, IsInShow, IsInCount, IsInPack};
 ghost use Rattle.run_parts.specs.Causes.{fault_of};
 ghost use Rattle.run_parts.specs.Frame.{draws_words};
 ghost use Rattle.run_parts.specs.Hosts.{IsFresh};
-ghost use Rattle.run_files.specs.Works.{IsOverFiles, Works, Replays, ReplaysAs, Shows, ShowsAs, Counts, CountsAs};
-ghost use Rattle.run_files.specs.Works.{PacksAs, pack_status};
+ghost use Rattle.run_files.specs.Works.{IsOverFiles, Works, Walks, Replays, Shows, ShowsAs, Counts, PacksAs};
+ghost use Rattle.run_files.specs.Works.{form_of, pack_status};
+ghost use Rattle.run_files.specs.Ends.{IsFilesEnd, IsPackEnd, IsWalkEnd};
 ghost use Rattle.run_parts.specs.Objects.{passage};
 ghost use Rattle.run_parts.specs.Sealing.{IsFreshFor, KeepsObjects, DrawnFirst, FailedAt};
+ghost use Rattle.run_files.specs.Untouched.{IsShowing};
 ghost use Rattle.run_files.specs.Inside.Answers.{IsOwn, IsUnbegun};
 
 use capture_file::{Reader, Writer};
@@ -20,7 +24,7 @@ use outside_io::{Sink, Source};
 use psk_seal::Sealer;
 use rist_ends::Settings;
 use rist_pack::{PackBad, PackSettings, pack};
-use rist_replay::{count, replay};
+use rist_replay::{Replayer, count, replay};
 use rist_show::show;
 use rist_words::{CountLine, Line, PackLine, ReplayLine, ShowLine};
 use run_parts::{Status, Telling, sealer_for, session_of};
@@ -36,8 +40,7 @@ pub struct Worked<S, K> {
     pub status: Status,
 }
 
-/// Replays a capture, or the datagrams in a pcap file.
-#[tactic(auto, using(capture_walk::proofs::GoingLemmas::new_has_read))]
+/// Replays a capture, or the datagrams in a pcap file. Its memory is taken before anything is read.
 pub fn replay_line<S: Source, K: Sink>(
     alloc: Global,
     line: &ReplayLine<'_>,
@@ -46,41 +49,76 @@ pub fn replay_line<S: Source, K: Sink>(
 ) -> Worked<S, K>
     requires range { IsInReplay (shown_replay line.now) }
     ensures line { IsOwn result.status }
-    ensures work { Replays (shown_replay line.now)
+    ensures ends { IsWalkEnd result.status }
+    ensures work { result.status ≢ Status.Memory → Replays (shown_replay line.now)
         (passed (S.remaining source) (S.remaining result.source) (K.contents sink) (K.contents result.sink))
         result.status }
+    ensures memory { result.status ≡ Status.Memory → (result.source ≡ source) × (result.sink ≡ sink) }
+    ensures read { HasReadCause (fault_of result.status) (S.faults source) (S.faults result.source) }
+    ensures write { HasWriteCause (fault_of result.status) (K.faults sink) (K.faults result.sink) }
+{
+    let session = session_of(&line.session, false, false);
+    let settings = Settings::muted(line.delay, line.span, line.restart, line.drift);
+    let Ok(replayer) = Replayer::with(alloc, &session, &settings) else {
+        return Worked {
+            source,
+            sink,
+            status: Status::Memory,
+        };
+    };
+    replay_source(line, replayer, source, sink)
+}
+
+/// Replays a source, in the form that the line says.
+#[tactic(auto, using(capture_walk::proofs::GoingLemmas::new_has_read))]
+fn replay_source<S: Source, K: Sink>(
+    line: &ReplayLine<'_>,
+    replayer: Replayer,
+    source: S,
+    sink: K,
+) -> Worked<S, K>
+    requires range { IsInReplay (shown_replay line.now) }
+    requires fresh { HasReplayed replayer.opener replayer.receiver [] }
+    ensures line { IsOwn result.status }
+    ensures ends { IsWalkEnd result.status }
+    ensures work { Walks (form_of (shown_replay line.now).session (shown_replay line.now).pcap)
+        (released_so_far replayer.opener replayer.receiver.buffer.limits)
+        (replayed replayer.opener replayer.receiver.buffer.limits)
+        (passed (S.remaining source) (S.remaining result.source) (K.contents sink) (K.contents result.sink))
+        result.status }
+    ensures memory { result.status ≢ Status.Memory }
     ensures read { HasReadCause (fault_of result.status) (S.faults source) (S.faults result.source) }
     ensures write { HasWriteCause (fault_of result.status) (K.faults sink) (K.faults result.sink) }
 {
     match line.pcap {
-        None => replay_records(alloc, line, Reader::over(source), sink),
+        None => replay_records(replayer, Reader::over(source), sink),
         Some(port) => {
             let reader = PortReader::over(source, line.session.profile, port);
-            replay_records(alloc, line, reader, sink)
+            replay_records(replayer, reader, sink)
         }
     }
 }
 
 /// Replays the records that a reader gives.
 fn replay_records<R: Records, K: Sink>(
-    alloc: Global,
-    line: &ReplayLine<'_>,
+    replayer: Replayer,
     mut reader: R,
     mut sink: K,
 ) -> Worked<R::Input, K>
-    requires range { IsInReplay (shown_replay line.now) }
+    requires fresh { HasReplayed replayer.opener replayer.receiver [] }
     requires start { R.has_read reader (R.remaining reader) [] }
     requires running { R.spent reader ≡ false }
     ensures line { IsOwn result.status }
-    ensures work { ReplaysAs (R.form reader) (shown_replay line.now)
+    ensures ends { IsWalkEnd result.status }
+    ensures work { Walks (R.form reader) (released_so_far replayer.opener replayer.receiver.buffer.limits)
+        (replayed replayer.opener replayer.receiver.buffer.limits)
         (passed (R.remaining reader) (R.Input.remaining result.source) (K.contents sink) (K.contents result.sink))
         result.status }
+    ensures memory { result.status ≢ Status.Memory }
     ensures read { HasReadCause (fault_of result.status) (R.faults reader) (R.Input.faults result.source) }
     ensures write { HasWriteCause (fault_of result.status) (K.faults sink) (K.faults result.sink) }
 {
-    let session = session_of(&line.session, false, false);
-    let settings = Settings::muted(line.delay, line.span, line.restart, line.drift);
-    let end = replay(alloc, &session, &settings, &mut reader, &mut sink);
+    let end = replay(replayer, &mut reader, &mut sink);
     Worked {
         source: reader.back(),
         sink,
@@ -98,6 +136,7 @@ pub fn show_line<S: Source, K: Sink>(
 ) -> Worked<S, K>
     requires range { IsInShow (shown_show line.now) }
     ensures line { IsOwn result.status }
+    ensures ends { IsWalkEnd result.status }
     ensures work { Shows (shown_show line.now)
         (passed (S.remaining source) (S.remaining result.source) (K.contents sink) (K.contents result.sink))
         result.status }
@@ -124,6 +163,7 @@ fn show_records<R: Records, K: Sink>(
     requires start { R.has_read reader (R.remaining reader) [] }
     requires running { R.spent reader ≡ false }
     ensures line { IsOwn result.status }
+    ensures ends { IsWalkEnd result.status }
     ensures work { ShowsAs (R.form reader) (shown_show line.now)
         (passed (R.remaining reader) (R.Input.remaining result.source) (K.contents sink) (K.contents result.sink))
         result.status }
@@ -139,8 +179,8 @@ fn show_records<R: Records, K: Sink>(
     }
 }
 
-/// Counts what a receiver would make of the records of a capture, or of the datagrams in a pcap file.
-#[tactic(auto, using(capture_walk::proofs::GoingLemmas::new_has_read))]
+/// Counts what a receiver would make of the records of a capture, or of the datagrams in a pcap file. Its memory is taken
+/// before anything is read.
 pub fn count_line<S: Source, K: Sink>(
     alloc: Global,
     line: &CountLine<'_>,
@@ -149,41 +189,74 @@ pub fn count_line<S: Source, K: Sink>(
 ) -> Worked<S, K>
     requires range { IsInCount (shown_count line.now) }
     ensures line { IsOwn result.status }
-    ensures work { Counts (shown_count line.now)
+    ensures ends { IsWalkEnd result.status }
+    ensures work { result.status ≢ Status.Memory → Counts (shown_count line.now)
         (passed (S.remaining source) (S.remaining result.source) (K.contents sink) (K.contents result.sink))
         result.status }
+    ensures memory { result.status ≡ Status.Memory → (result.source ≡ source) × (result.sink ≡ sink) }
+    ensures read { HasReadCause (fault_of result.status) (S.faults source) (S.faults result.source) }
+    ensures write { HasWriteCause (fault_of result.status) (K.faults sink) (K.faults result.sink) }
+{
+    let session = session_of(&line.session, false, false);
+    let settings = Settings::muted(line.delay, line.span, line.restart, line.drift);
+    let Ok(counter) = Replayer::with(alloc, &session, &settings) else {
+        return Worked {
+            source,
+            sink,
+            status: Status::Memory,
+        };
+    };
+    count_source(line, counter, source, sink)
+}
+
+/// Counts what a receiver would make of a source, in the form that the line says.
+#[tactic(auto, using(capture_walk::proofs::GoingLemmas::new_has_read))]
+fn count_source<S: Source, K: Sink>(
+    line: &CountLine<'_>,
+    counter: Replayer,
+    source: S,
+    sink: K,
+) -> Worked<S, K>
+    requires range { IsInCount (shown_count line.now) }
+    requires fresh { HasReplayed counter.opener counter.receiver [] }
+    ensures line { IsOwn result.status }
+    ensures ends { IsWalkEnd result.status }
+    ensures work { Walks (form_of (shown_count line.now).session (shown_count line.now).pcap)
+        (λ rs. []) (counted counter.opener counter.receiver.buffer.limits)
+        (passed (S.remaining source) (S.remaining result.source) (K.contents sink) (K.contents result.sink))
+        result.status }
+    ensures memory { result.status ≢ Status.Memory }
     ensures read { HasReadCause (fault_of result.status) (S.faults source) (S.faults result.source) }
     ensures write { HasWriteCause (fault_of result.status) (K.faults sink) (K.faults result.sink) }
 {
     match line.pcap {
-        None => count_records(alloc, line, Reader::over(source), sink),
+        None => count_records(counter, Reader::over(source), sink),
         Some(port) => {
             let reader = PortReader::over(source, line.session.profile, port);
-            count_records(alloc, line, reader, sink)
+            count_records(counter, reader, sink)
         }
     }
 }
 
 /// Counts what a receiver would make of the records that a reader gives.
 fn count_records<R: Records, K: Sink>(
-    alloc: Global,
-    line: &CountLine<'_>,
+    counter: Replayer,
     mut reader: R,
     mut sink: K,
 ) -> Worked<R::Input, K>
-    requires range { IsInCount (shown_count line.now) }
+    requires fresh { HasReplayed counter.opener counter.receiver [] }
     requires start { R.has_read reader (R.remaining reader) [] }
     requires running { R.spent reader ≡ false }
     ensures line { IsOwn result.status }
-    ensures work { CountsAs (R.form reader) (shown_count line.now)
+    ensures ends { IsWalkEnd result.status }
+    ensures work { Walks (R.form reader) (λ rs. []) (counted counter.opener counter.receiver.buffer.limits)
         (passed (R.remaining reader) (R.Input.remaining result.source) (K.contents sink) (K.contents result.sink))
         result.status }
+    ensures memory { result.status ≢ Status.Memory }
     ensures read { HasReadCause (fault_of result.status) (R.faults reader) (R.Input.faults result.source) }
     ensures write { HasWriteCause (fault_of result.status) (K.faults sink) (K.faults result.sink) }
 {
-    let session = session_of(&line.session, false, false);
-    let receiver = Settings::muted(line.delay, line.span, line.restart, line.drift);
-    let end = count(alloc, &session, &receiver, &mut reader, &mut sink);
+    let end = count(counter, &mut reader, &mut sink);
     Worked {
         source: reader.back(),
         sink,
@@ -213,6 +286,7 @@ pub fn pack_line<S: Source, K: Sink>(
     requires range { IsInPack (shown_pack line.now) }
     requires fresh { IsFreshFor (shown_pack line.now).session sealer }
     ensures line { IsOwn result.status }
+    ensures ends { IsPackEnd (shown_pack line.now) result.status }
     ensures work { PacksAs (shown_pack line.now) sealer
         (passed (S.remaining source) (S.remaining result.source) (K.contents sink) (K.contents result.sink))
         result.status }
@@ -245,6 +319,7 @@ pub fn work<H: Host>(
     requires range { IsInRange (shown line.now) }
     requires files { IsOverFiles (shown line.now) }
     ensures line { result.status ≢ Status.Usage }
+    ensures ends { IsFilesEnd (shown line.now) result.status }
     ensures work { IsFresh H.tells (H.shelf host.old)
         → result.status ≢ Status.OpenFault → result.status ≢ Status.Memory
         → Works
@@ -257,10 +332,10 @@ pub fn work<H: Host>(
         → IsUnbegun source result.source sink result.sink (H.shelf host.old) (H.shelf host.new) }
     ensures memory { IsFresh H.tells (H.shelf host.old) → result.status ≡ Status.Memory
         → IsUnbegun source result.source sink result.sink (H.shelf host.old) (H.shelf host.new)
-        ⊎ Works
+        ⊎ (IsShowing (shown line.now) × Works
         (DrawnFirst ⟦<H as Telling>⟧.objects (H.shelf host.old).entropies (H.shelf host.new).entropies)
         (shown line.now)
-        (passage ⟦<H as Telling>⟧.objects source result.source sink result.sink) result.status }
+        (passage ⟦<H as Telling>⟧.objects source result.source sink result.sink) result.status) }
     ensures others { IsTrue H.tells
         → KeepsObjects (H.shelf host.old) (H.shelf host.new) (draws_words (shown line.now)) }
     ensures opened { HasOpenCause (fault_of result.status) (H.faults host.old) (H.faults host.new) }

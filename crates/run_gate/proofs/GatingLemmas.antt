@@ -9,7 +9,8 @@ use Rattle.outside_io.specs.Causes.{Rose}
 use Rattle.outside_host.specs.Shelf.{Shelf, ChangesLinks, ChangesOpening}
 use Rattle.outside_host.specs.declared.host.Place.{Place}
 use Rattle.outside_host.specs.declared.host.Place.TheVariants.{Here, Back}
-use Rattle.outside_host.specs.Links.{AreAsTheyWere}
+use Rattle.outside_net.specs.declared.link_spec.Role.TheVariants.{Forwards}
+use Rattle.outside_host.specs.Links.{AreAsTheyWere, KnowStatedFrom}
 use Rattle.psk_seal.specs.Sealer.{SealerState}
 use Rattle.rist_wire.specs.declared.session.Session.{Session}
 use Rattle.outside_net.specs.Links.{LinkTells}
@@ -55,6 +56,8 @@ use Rattle.run_links.proofs.KeptLemmas.{no_limit}
 use Rattle.run_parts.proofs.HandedLemmas.{places_between}
 use Rattle.run_links.proofs.WordLemmas.{words_between}
 use Rattle.run_parts.proofs.RefusalLemmas.{is_refused}
+use Rattle.run_parts.proofs.PeerLemmas.{stated_known}
+use Rattle.run_gate.proofs.TakenLemmas.{took_behind}
 
 -- what is made for a receiving end and a sender with these settings
 abbrev pub made_setup : ReceiveSetup → SenderSettings → Session → Option SealerState → GateSetup
@@ -114,8 +117,8 @@ pass_between tells live old mid later new c were are status e f s = record {
 -- what was done on links that were handed out and came back
 pub gated_by : {I O E L C : Type 0} (tells : Tells I O E) (live : TellsLive L C) (old mid later new : Shelf I O E L C) (c : GateCommand) (were are : List L) (status : Status)
     → length were ≡ length c.inputs + length c.outputs → FromTheFirst old.links new.links were are → ChangesOpening old mid → ChangesLinks later new
-    → PassesByClocks tells live mid later c status were are → Gated tells live old new c status
-gated_by tells live old mid later new c were are status count links e f s =
+    → KnowStatedFrom live.line.knows Forwards c.session.profile (length c.inputs) were → PassesByClocks tells live mid later c status were are → Gated tells live old new c status
+gated_by tells live old mid later new c were are status count links e f know s =
     let clocks = pass_between tells live old mid later new c were are status e f s in
     record {
       links_were = were;
@@ -136,6 +139,15 @@ gated_by tells live old mid later new c were are status count links e f s =
       ending = clocks.did.gates.ending;
       answer = clocks.did.gates.answer;
       run = clocks.did.gates.run;
+      taken = λ link d among.
+          let n = length c.inputs in
+          let inside : n + link < length were = omega (arith, among, count) in
+          let sent : link < length (drop n were) = omega (arith, inside, length-drop n were) in
+          let known = stated_known (live.line.knows (slice_index_or were (n + link) d)) Forwards c.session.profile refl (know (n + link) d (omega arith) inside) in
+          record {
+            known = known;
+            taken = took_behind live.moments live.line (setup_gated c clocks.did.receiving clocks.did.sending) n link d were are _ _ _ _ clocks.did.gates.run.sends sent known;
+          };
     }
 
 -- all around links that were opened and came back
@@ -205,7 +217,7 @@ down_by endings.Done put (Some bads.Spent) ends = absurd (cc (ends))
 down_by endings.Done put (Some bads.LinksDown) ends = inr (inr refl)
 
 -- the receiving end's trace was full, or its lists are torn, where the gateway's are
-full_by : (ended : Ending) (put looked : Option SendBad) → EndsGate ended put looked gates.TraceFull → ended ≡ endings.TraceFull
+pub full_by : (ended : Ending) (put looked : Option SendBad) → EndsGate ended put looked gates.TraceFull → ended ≡ endings.TraceFull
 full_by endings.WriteFault None looked ends = absurd ends
 full_by endings.WriteFault (Some bads.Spent) looked ends = absurd (cc (ends))
 full_by endings.WriteFault (Some bads.LinksDown) looked ends = absurd (cc (ends))
@@ -226,7 +238,7 @@ full_by endings.Done put (Some bads.LinksDown) ends = absurd (cc (ends))
 same_tear : (a b : Tear) → gates.Torn a ≡ gates.Torn b → endings.Torn b ≡ endings.Torn a
 same_tear a b e = cc (e)
 
-torn_by : (tear : Tear) (ended : Ending) (put looked : Option SendBad) → EndsGate ended put looked (gates.Torn tear) → ended ≡ endings.Torn tear
+pub torn_by : (tear : Tear) (ended : Ending) (put looked : Option SendBad) → EndsGate ended put looked (gates.Torn tear) → ended ≡ endings.Torn tear
 torn_by tear endings.WriteFault None looked ends = absurd ends
 torn_by tear endings.WriteFault (Some bads.Spent) looked ends = absurd (cc (ends))
 torn_by tear endings.WriteFault (Some bads.LinksDown) looked ends = absurd (cc (ends))

@@ -5,6 +5,7 @@ use Rattle.outside_host.specs.Shelf.{Shelf}
 use Rattle.rist_words.specs.CommandLine.{GateCommand}
 use Rattle.run_parts.specs.Causes.{CanRefuse}
 use Rattle.run_gate.specs.Complete.{CompletesGating}
+use Rattle.run_gate.specs.Ends.{IsGateEnd}
 use Rattle.run_gate.specs.Frame.{KeepsAroundGate, links_gated}
 use Rattle.run_gate.specs.Gated.{Gated, Ungated}
 use Rattle.run_gate.specs.Reached.{GatesReached}
@@ -17,6 +18,8 @@ use Rattle.run_parts.specs.declared.status.Status.TheVariants as statuses
 -- what a gateway did to an unused host that tells, whose count of failed calls stood so before and after
 pub record DoesGate {I O E L C : Type 0} (told : Bool) (tells : Tells I O E) (live : TellsLive L C) (c : GateCommand)
     (faults_were faults_are : ℕ) (old new : Shelf I O E L C) (status : Status) : Type 0 where
+  -- a status that is none of a gateway's never comes
+  pub ends : IsGateEnd c status
   -- what comes on its first links goes on over the others, links and clocks come back, and the receiver's counts reach
   -- the host; or no link was read or written
   pub gated : IsUnused told old → (CanRefuse status → ⊥) → Gated tells live old new c status

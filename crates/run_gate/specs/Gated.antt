@@ -1,5 +1,7 @@
 -- What a gateway leaves.
-use Rattle.std.specs.Prelude.{◌≡◌, ◌+◌, List, length, Option, Some}
+use Rattle.std.specs.Prelude.{◌≡◌, ◌<◌, ◌+◌, ◌-◌, ◌^◌, ◌++◌, ℕ, List, length, slice_index_or, Option, Some}
+use Rattle.std.specs.Option.{option_map}
+use Rattle.outside_net.specs.Links.{LinkTells}
 use Rattle.outside_host.specs.Shelf.{Shelf}
 use Rattle.outside_host.specs.Links.{AreAsTheyWere}
 use Rattle.psk_seal.specs.Sealer.{SealerState}
@@ -8,12 +10,15 @@ use Rattle.desk_run.specs.Run.{timed_links}
 use Rattle.rist_gateway.specs.declared.ending.GateEnding.{GateEnding}
 use Rattle.rist_gateway.specs.declared.ending.GateEnding.TheVariants as gates
 use Rattle.rist_gateway.specs.Run.{Forwards}
+use Rattle.rist_sender.specs.History.{Event, tried_as, tried_on}
+use Rattle.rist_sender.specs.Links.{datagrams_given}
+use Rattle.rist_sender.specs.Served.{KnowsPeers}
 use Rattle.rist_words.specs.CommandLine.{GateCommand}
 use Rattle.run_links.specs.Counting.{named_counts}
 use Rattle.run_parts.specs.Objects.{Tells, TellsLive}
 use Rattle.run_parts.specs.Places.{FromTheFirst}
 use Rattle.run_gate.specs.Sealing.{AreDrawn}
-use Rattle.run_gate.specs.Sessions.{setup_gated}
+use Rattle.run_gate.specs.Sessions.{session_gated, setup_gated}
 use Rattle.run_links.specs.Sessions.{limits_served}
 use Rattle.run_parts.specs.Sealing.{IsFreshFor}
 use Rattle.run_parts.specs.declared.status.Status.{Status}
@@ -26,6 +31,15 @@ gate_status gates.TraceFull = statuses.TraceFull
 gate_status (gates.Torn tear) = statuses.Torn tear
 gate_status gates.LinksDown = statuses.LinksDown
 gate_status gates.Done = statuses.Done
+
+-- a link that is sent on knew its peers, and where none of its calls failed it took all that was written on it
+pub record TookAll {L : Type 0} (line : LinkTells L) (c : GateCommand) (history : List Event) (link : ℕ) (was is : L)
+    : Type 0 where
+  pub known : KnowsPeers (session_gated c) (line.knows was)
+  pub taken : line.faults was < 2 ^ 64 - 1 → line.faults is ≡ line.faults was
+      → line.taken is
+      ≡ option_map (λ held. held ++ datagrams_given (tried_on (tried_as c.stream.flow (session_gated c)) link history))
+      (line.taken was)
 
 -- a gateway of a line ran
 pub record Gated {I O E L C : Type 0} (tells : Tells I O E) (live : TellsLive L C) (old new : Shelf I O E L C)
@@ -56,6 +70,11 @@ pub record Gated {I O E L C : Type 0} (tells : Tells I O E) (live : TellsLive L 
   -- what was received went on over the links that are sent on, payload by payload
   pub run : Forwards live.moments live.line (setup_gated c receiving sending) (limits_served c.serving)
       (length c.inputs) (timed_links links_were clocks_were) (timed_links links_are clocks_are) counts ending
+  -- A link that is sent on knew its peers at first. So where none of its calls failed (its count of faults has 64 bits)
+  -- it took, in order, all that the sender's work says was written on it.
+  pub taken : (link : ℕ) (d : L) → link < length c.outputs
+      → TookAll live.line c run.sends.onward.moved.to.work.history link
+      (slice_index_or links_were (length c.inputs + link) d) (slice_index_or links_are (length c.inputs + link) d)
 
 -- a gateway didn't begin: its links and its clocks stand as they stood, or came back as they were
 pub record Ungated {I O E L C : Type 0} (old new : Shelf I O E L C) : Type 0 where

@@ -1,6 +1,7 @@
 pub mod Sessions
 pub mod Sealing
 pub mod Gated
+pub mod Ends
 pub mod Frame
 pub mod Complete
 pub mod Reached

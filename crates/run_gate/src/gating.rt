@@ -14,6 +14,7 @@ ghost use Rattle.run_parts.specs.Hosts.{IsUnused};
 ghost use Rattle.run_parts.specs.Objects.{live_of};
 ghost use Rattle.run_gate.specs.Gated.{Gated, Ungated, gate_status};
 ghost use Rattle.run_gate.specs.DoesGate.{DoesGate};
+ghost use Rattle.run_gate.specs.Ends.{IsGateEnd};
 ghost use Rattle.run_gate.specs.Frame.{KeepsAroundGate, links_gated};
 ghost use Rattle.run_parts.specs.Frame.{KeepsLinksBut, gate_draws, KeepsButTiming};
 ghost use Rattle.run_links.specs.Frame.{KeepsWords};
@@ -30,7 +31,7 @@ use rist_gateway::{GateEnding, GateMemory, gate_on};
 use rist_sender::Settings;
 use rist_words::GateLine;
 use run_links::{report, settings_of};
-use run_parts::{Status, Telling, session_of};
+use run_parts::{Status, Telling, session_of, watch};
 use std::alloc::Global;
 use std::sync::Wait;
 use std::thread::Threads;
@@ -195,6 +196,7 @@ fn gate_with<L: Link + Drop + Send, C: Clock + Drop + Send, R: Threads + Wait + 
         clocks.old.items clocks.new.items ended.1 ended.0) }
     ensures memory { OnErr result ((links.new.items ≡ links.old.items) × (clocks.new.items ≡ clocks.old.items)) }
     ensures line { IfOk result (λ ended. ended.0 ≢ Status.Usage) }
+    ensures ends { IfOk result (λ ended. IsGateEnd (shown_gate line.now) ended.0) }
     ensures ran { IfOk result (λ ended. CanRefuse ended.0 → ⊥) }
     ensures links { length links.new.items ≡ length links.old.items }
     ensures clocks { length clocks.new.items ≡ length clocks.old.items }
@@ -243,6 +245,7 @@ fn gate_sealed<R: Threads + Wait + Sync, H: Host>(
     ensures refused { CanRefuse result → (result ≡ Status.Memory) × (links.new.items ≡ links.old.items)
         × (clocks.new.items ≡ clocks.old.items) × (host.new ≡ host.old) }
     ensures line { result ≢ Status.Usage }
+    ensures ends { IsGateEnd (shown_gate line.now) result }
     ensures same { IsTrue H.tells → ChangesReport (H.shelf host.old) (H.shelf host.new) }
     ensures opened { H.faults host.new ≡ H.faults host.old }
     ensures links { length links.new.items ≡ length links.old.items }
@@ -283,6 +286,7 @@ fn gate_by_clocks<R: Threads + Wait + Sync, H: Host>(
     ensures words { IsTrue H.tells → (H.shelf host.old).next_entropy ≡ 0
         → KeepsWords (H.shelf host.old) (H.shelf host.new) (gate_draws (shown_gate line.now)) }
     ensures line { result ≢ Status.Usage }
+    ensures ends { IsGateEnd (shown_gate line.now) result }
     ensures opened { HasOpenCause (fault_of result) (H.faults host.old) (H.faults host.new) }
     ensures links { length links.new.items ≡ length links.old.items }
 {
@@ -318,6 +322,7 @@ fn gate_on_links<R: Threads + Wait + Sync, H: Host>(
     ensures random { IsUnused H.tells (H.shelf host.old) → result ≡ Status.EntropyFault
         → FailedAt ⟦<H as Telling>⟧.objects (H.shelf host.old) (H.shelf host.new) }
     ensures line { result ≢ Status.Usage }
+    ensures ends { IsGateEnd (shown_gate line.now) result }
     ensures opened { HasOpenCause (fault_of result) (H.faults host.old) (H.faults host.new) }
 {
     let mut links = match open_both(
@@ -336,6 +341,22 @@ fn gate_on_links<R: Threads + Wait + Sync, H: Host>(
     status
 }
 
+/// Does the line of a gateway, once the host knows what is kept of the run.
+fn gate_unwatched<R: Threads + Wait + Sync, H: Host>(
+    rt: &R,
+    alloc: Global,
+    host: &mut H,
+    line: &GateLine<'_>,
+) -> Status
+    requires range { IsInGate (shown_gate line.now) }
+    ensures does { DoesGate H.tells ⟦<H as Telling>⟧.objects ⟦<H as Telling>⟧.live (shown_gate line.now)
+        (H.faults host.old) (H.faults host.new) (H.shelf host.old) (H.shelf host.new) result }
+    ensures line { result ≢ Status.Usage }
+    ensures opened { HasOpenCause (fault_of result) (H.faults host.old) (H.faults host.new) }
+{
+    gate_on_links(rt, alloc, host, line)
+}
+
 /// Does the line of a gateway.
 pub fn gate_line<R: Threads + Wait + Sync, H: Host>(
     rt: &R,
@@ -349,5 +370,8 @@ pub fn gate_line<R: Threads + Wait + Sync, H: Host>(
     ensures line { result ≢ Status.Usage }
     ensures opened { HasOpenCause (fault_of result) (H.faults host.old) (H.faults host.new) }
 {
-    gate_on_links(rt, alloc, host, line)
+    match watch(host, &line.watching) {
+        Ok(()) => gate_unwatched(rt, alloc, host, line),
+        Err(bad) => Status::from(bad),
+    }
 }

@@ -77,6 +77,9 @@ pub fn sealers_for<H: Host>(
     ensures receiving { IfOk result (λ sealers. IsFreshFor (shown_session incoming.now) sealers.receiving) }
     ensures sending { IfOk result (λ sealers. IsFreshFor (shown_session session.now) sealers.sending) }
     ensures err { OnErrIs result CanRefuse }
+    // Without a passphrase nothing is drawn, so nothing is refused.
+    ensures keyed { OnErrIs result (λ _. (is_some (shown_session incoming.now).pass
+        || is_some (shown_session session.now).pass) ≡ true) }
     ensures drawn { IsFresh H.tells (H.shelf host.old) → IfOk result (λ sealers. AreDrawn ⟦<H as Telling>⟧.objects
         (H.shelf host.old).entropies (H.shelf host.new).entropies sealers.receiving sealers.sending) }
     ensures others { IsTrue H.tells → KeepsObjects (H.shelf host.old) (H.shelf host.new)

@@ -6,8 +6,10 @@ mod sealing;
 mod sessions;
 mod status;
 mod telling;
+mod watching;
 
 pub use sealing::sealer_for;
 pub use sessions::session_of;
 pub use status::Status;
 pub use telling::Telling;
+pub use watching::watch;

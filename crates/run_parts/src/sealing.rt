@@ -1,5 +1,5 @@
 //! The sealer of a line.
-ghost use Rattle.std.specs.Prelude.{IsTrue, IfOk, IfSome, IsErrOf, Option, is_some};
+ghost use Rattle.std.specs.Prelude.{◌≡◌, IsTrue, IfOk, IfSome, IsErrOf, Option, is_some, true};
 ghost use Rattle.outside_io.specs.Causes.{HasOpenCause};
 ghost use Rattle.outside_host.specs.Shelf.{Stays};
 ghost use Rattle.rist_words.specs.Shown.{shown_session};
@@ -22,6 +22,8 @@ pub fn sealer_for<H: Host>(
 ) -> Result<Option<Sealer>, Status>
     ensures ok { IfOk result (λ sealer. IsFreshFor (shown_session session.now) sealer) }
     ensures err { OnErrIs result CanRefuse }
+    // Without a passphrase nothing is drawn, so nothing is refused.
+    ensures keyed { OnErrIs result (λ _. is_some (shown_session session.now).pass ≡ true) }
     ensures drawn { IsFresh H.tells (H.shelf host.old)
         → IfOk result (λ sealer. IfSome sealer
         (DrawnFirst ⟦<H as Telling>⟧.objects (H.shelf host.old).entropies (H.shelf host.new).entropies)) }

@@ -1,3 +1,5 @@
+pub mod CutOffLemmas
+pub mod EndsLemmas
 pub mod ReceiveLemmas
 pub mod HeardLemmas
 pub mod ReachedLemmas

@@ -1,7 +1,9 @@
 pub mod Sessions
 pub mod Received
+pub mod Ends
 pub mod Frame
 pub mod Complete
 pub mod Reached
+pub mod CutOff
 pub mod DoesReceive
 pub mod Inside

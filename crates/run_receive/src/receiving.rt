@@ -12,6 +12,7 @@ ghost use Rattle.run_parts.specs.Hosts.{IsUnused};
 ghost use Rattle.run_parts.specs.Objects.{live_of};
 ghost use Rattle.run_receive.specs.Received.{Received, Unreceived, receive_status};
 ghost use Rattle.run_receive.specs.DoesReceive.{DoesReceive};
+ghost use Rattle.run_receive.specs.Ends.{IsReceiveEnd};
 ghost use Rattle.run_receive.specs.Frame.{KeepsAroundSink, OpensLinksAfterSink, links_received};
 ghost use Rattle.run_parts.specs.Frame.{KeepsLinksBut, KeepsButTiming, KeepsFiles};
 ghost use Rattle.run_links.specs.Frame.{KeepsWords};
@@ -27,7 +28,7 @@ use rist_ends::Counts;
 use rist_recv::{receive_in_turns, receive_on};
 use rist_words::RecvLine;
 use run_links::{report, settings_of};
-use run_parts::{Status, Telling, sealer_for, session_of};
+use run_parts::{Status, Telling, sealer_for, session_of, watch};
 use std::alloc::Global;
 use std::sync::Wait;
 use std::thread::Threads;
@@ -80,6 +81,7 @@ fn receive_kept<
     ensures memory { OnErr result.end
         ((links.new ≡ links.old) × (clocks.new ≡ clocks.old) × (result.sink ≡ sink)) }
     ensures line { IfOk result.end (λ ended. ended.0 ≢ Status.Usage) }
+    ensures ends { IfOk result.end (λ ended. IsReceiveEnd (shown_recv line.now) ended.0) }
     ensures ran { IfOk result.end (λ ended. CanRefuse ended.0 → ⊥) }
     ensures links { length links.new.items ≡ length links.old.items }
     ensures clocks { length clocks.new.items ≡ length clocks.old.items }
@@ -144,6 +146,7 @@ fn receive_turning<
     ensures memory { OnErr result.end
         ((links.new ≡ links.old) × (clocks.new ≡ clocks.old) × (result.sink ≡ sink)) }
     ensures line { IfOk result.end (λ ended. ended.0 ≢ Status.Usage) }
+    ensures ends { IfOk result.end (λ ended. IsReceiveEnd (shown_recv line.now) ended.0) }
     ensures ran { IfOk result.end (λ ended. CanRefuse ended.0 → ⊥) }
     ensures links { length links.new.items ≡ length links.old.items }
     ensures clocks { length clocks.new.items ≡ length clocks.old.items }
@@ -208,6 +211,7 @@ fn receive_any<
     ensures memory { OnErr result.end
         ((links.new ≡ links.old) × (clocks.new ≡ clocks.old) × (result.sink ≡ sink)) }
     ensures line { IfOk result.end (λ ended. ended.0 ≢ Status.Usage) }
+    ensures ends { IfOk result.end (λ ended. IsReceiveEnd (shown_recv line.now) ended.0) }
     ensures ran { IfOk result.end (λ ended. CanRefuse ended.0 → ⊥) }
     ensures links { length links.new.items ≡ length links.old.items }
     ensures clocks { length clocks.new.items ≡ length clocks.old.items }
@@ -241,6 +245,7 @@ fn receive_sealed<R: Threads + Wait + Sync, H: Host>(
     ensures refused { CanRefuse result.1 → (result.1 ≡ Status.Memory) × (links.new ≡ links.old)
         × (clocks.new ≡ clocks.old) × (result.0 ≡ sink) × (host.new ≡ host.old) }
     ensures line { result.1 ≢ Status.Usage }
+    ensures ends { IsReceiveEnd (shown_recv line.now) result.1 }
     ensures same { IsTrue H.tells → ChangesReport (H.shelf host.old) (H.shelf host.new) }
     ensures opened { H.faults host.new ≡ H.faults host.old }
     ensures links { length links.new.items ≡ length links.old.items }
@@ -284,6 +289,7 @@ fn receive_by_clocks<R: Threads + Wait + Sync, H: Host>(
     ensures words { IsTrue H.tells → (H.shelf host.old).next_entropy ≡ 0
         → KeepsWords (H.shelf host.old) (H.shelf host.new) (is_some (shown_recv line.now).session.pass) }
     ensures line { result.1 ≢ Status.Usage }
+    ensures ends { IsReceiveEnd (shown_recv line.now) result.1 }
     ensures opened { HasOpenCause (fault_of result.1) (H.faults host.old) (H.faults host.new) }
     ensures links { length links.new.items ≡ length links.old.items }
 {
@@ -330,6 +336,7 @@ fn receive_on_links<R: Threads + Wait + Sync, H: Host>(
     ensures random { IsUnused H.tells (H.shelf host.old) → result.1 ≡ Status.EntropyFault
         → FailedAt ⟦<H as Telling>⟧.objects (H.shelf host.old) (H.shelf host.new) }
     ensures line { result.1 ≢ Status.Usage }
+    ensures ends { IsReceiveEnd (shown_recv line.now) result.1 }
     ensures opened { HasOpenCause (fault_of result.1) (H.faults host.old) (H.faults host.new) }
 {
     let mut links = match open_links(
@@ -369,6 +376,7 @@ fn receive_into_sink<R: Threads + Wait + Sync, H: Host>(
     ensures random { IsUnused H.tells (H.shelf host.old) → result ≡ Status.EntropyFault
         → FailedAt ⟦<H as Telling>⟧.objects (H.shelf host.old) (H.shelf host.new) }
     ensures line { result ≢ Status.Usage }
+    ensures ends { IsReceiveEnd (shown_recv line.now) result }
     ensures opened { HasOpenCause (fault_of result) (H.faults host.old) (H.faults host.new) }
 {
     let sink = match host.sink(line.out) {
@@ -378,6 +386,22 @@ fn receive_into_sink<R: Threads + Wait + Sync, H: Host>(
     let (sink, status) = receive_on_links(rt, alloc, host, line, sink);
     host.back_sink(line.out, sink);
     status
+}
+
+/// Does the line of a receiving, once the host knows what is kept of the run.
+fn receive_unwatched<R: Threads + Wait + Sync, H: Host>(
+    rt: &R,
+    alloc: Global,
+    host: &mut H,
+    line: &RecvLine<'_>,
+) -> Status
+    requires range { IsInRecv (shown_recv line.now) }
+    ensures does { DoesReceive H.tells ⟦<H as Telling>⟧.objects ⟦<H as Telling>⟧.live (shown_recv line.now)
+        (H.faults host.old) (H.faults host.new) (H.shelf host.old) (H.shelf host.new) result }
+    ensures line { result ≢ Status.Usage }
+    ensures opened { HasOpenCause (fault_of result) (H.faults host.old) (H.faults host.new) }
+{
+    receive_into_sink(rt, alloc, host, line)
 }
 
 /// Does the line of a receiving.
@@ -393,5 +417,8 @@ pub fn receive_line<R: Threads + Wait + Sync, H: Host>(
     ensures line { result ≢ Status.Usage }
     ensures opened { HasOpenCause (fault_of result) (H.faults host.old) (H.faults host.new) }
 {
-    receive_into_sink(rt, alloc, host, line)
+    match watch(host, &line.watching) {
+        Ok(()) => receive_unwatched(rt, alloc, host, line),
+        Err(bad) => Status::from(bad),
+    }
 }

@@ -5,9 +5,10 @@ use Rattle.rist_send.specs.Given.{Gives}
 use Rattle.rist_send.specs.Served.{Outside}
 use Rattle.rist_words.specs.CommandLine.{SendCommand}
 use Rattle.rist_send.proofs.PacketLemmas.{sent_as_packets}
+use Rattle.rist_sender.proofs.PeerLemmas.{took_all}
 use Rattle.run_parts.specs.Objects.{Tells, TellsLive}
 use Rattle.run_send.specs.Sent.{Sent}
-use Rattle.run_send.specs.Sessions.{setup_sent}
+use Rattle.run_send.specs.Sessions.{session_sent, setup_sent}
 use Rattle.run_send.specs.Pieces.{SentInPieces}
 use Rattle.run_parts.specs.declared.status.Status.{Status}
 
@@ -26,6 +27,8 @@ in_pieces tells live old new c status s =
       gave_links = s.links.gave;
       history = s.to.work.history;
       given = s.given;
+      taken = λ link d among few same.
+          took_all live.line c.stream.flow (session_sent c) s.to.work.history s.links_were s.links_are link d s.given among few same (s.known link d among);
       sent = s.to.sent;
       packets = sent_as_packets (setup_sent c) s.end _ s.to s.sends tt;
       pieces = λ octets told. (s.end, s.answer, subst (λ left. Gives s.end octets left s.to.sent) (ap (λ (o : Outside). o.octets) s.left) (s.sends.gives octets told));

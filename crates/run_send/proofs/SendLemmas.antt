@@ -1,12 +1,13 @@
 -- What a sending leaves, part by part.
 use Rattle.std.proofs.Common.{◌≡◌, ◌*◌, ◌<◌, ◌∷◌, ◌++◌, take, drop, ℕ, List, [], length, map, Option, IfSome, refl, sym}
-use Rattle.std.proofs.Common.{ap, ◌∙◌, subst, slice_index_or}
+use Rattle.std.proofs.Common.{ap, ◌∙◌, subst, slice_index_or, arith}
 use mathlib.Core.Logic.{inl, inr}
 use Rattle.std.specs.Prelude.{Result, Ok, Err, Bool}
 use Rattle.outside_io.specs.Causes.{HasReadCause}
 use Rattle.outside_host.specs.Shelf.{Shelf, ChangesSources}
 use Rattle.outside_host.specs.declared.host.Place.TheVariants.{Here, Back}
-use Rattle.outside_host.specs.Links.{AreOut, AreBack}
+use Rattle.outside_net.specs.declared.link_spec.Role.TheVariants.{Sends}
+use Rattle.outside_host.specs.Links.{AreOut, AreBack, KnowStatedFrom}
 use Rattle.psk_seal.specs.Sealer.{SealerState}
 use Rattle.outside_net.specs.Links.{Answer, LinkTells}
 use Rattle.rist_sender.specs.Sender.{SenderState}
@@ -22,13 +23,14 @@ use Rattle.run_parts.specs.Objects.{Tells, TellsLive}
 use Rattle.run_parts.specs.Sealing.{DrawnFirst}
 use Rattle.run_parts.specs.Sessions.{bonding_with}
 use Rattle.run_send.specs.Sessions.{session_sent, setup_sent}
-use Rattle.run_send.specs.Inside.Sending.{SendsAs, SendsByClock, SendsOnLinks}
+use Rattle.run_send.specs.Inside.Sending.{SendsAs, SendsByClock, SendsKnowing, SendsOnLinks}
 use Rattle.run_parts.specs.Hosts.{IsUnused}
 use Rattle.run_send.specs.Sent.{Sent, no_work, outside_left, send_status}
 use Rattle.run_parts.specs.declared.status.Status.{Status}
 use Rattle.run_parts.specs.declared.status.Status.TheVariants as statuses
 use Rattle.run_parts.specs.Causes.{CanRefuse, fault_of}
 use Rattle.run_parts.proofs.HandedLemmas.{places_between}
+use Rattle.run_parts.proofs.PeerLemmas.{stated_known}
 
 -- a sender is set to what a line says
 pub record IsSetTo (s : SenderState) (c : SendCommand) : Type 0 where
@@ -120,7 +122,7 @@ pub sent_by : {I O E L C : Type 0} (tells : Tells I O E) (live : TellsLive L C) 
     → ChangesSources old mid → ChangesSources later new
     → SendsOnLinks tells live mid later c source spent status → Sent tells live old new c status
 sent_by tells live old mid later new c source spent status took gave read e f s =
-    let clock = by_clock_between tells live old mid later new c source spent s.were s.are status (ap (λ x. x.clocks) e) (ap (λ x. x.entropies) e) (ap (λ x. x.clocks) f) (ap (λ x. x.entropies) f) s.did in
+    let clock = by_clock_between tells live old mid later new c source spent s.were s.are status (ap (λ x. x.clocks) e) (ap (λ x. x.entropies) e) (ap (λ x. x.clocks) f) (ap (λ x. x.entropies) f) s.did.by_clock in
     record {
       source = source;
       spent = spent;
@@ -144,6 +146,7 @@ sent_by tells live old mid later new c source spent status took gave read e f s 
       sends = clock.sends.sends;
       left = clock.sends.left;
       given = clock.sends.given;
+      known = λ link d among. stated_known (live.line.knows (slice_index_or s.were link d)) Sends c.session.profile refl (s.did.know link d (omega arith) among);
     }
 
 -- a host that hands out a source is as unused as before
@@ -159,9 +162,9 @@ still_unused tells old mid e unused = record {
 pub on_opened_links : {I O E L C : Type 0} (tells : Tells I O E) (live : TellsLive L C) (old mid later new : Shelf I O E L C) (c : SendCommand) (source spent : I) (links was is given : List L) (status : Status)
     → mid ≡ record old { links = mid.links; opened_links = mid.opened_links } → new ≡ record later { links = new.links }
     → length links ≡ length c.links → AreOut old.links mid.links links → later.links ≡ mid.links → AreBack later.links new.links given
-    → was ≡ links → given ≡ is → length is ≡ length was
+    → was ≡ links → given ≡ is → length is ≡ length was → KnowStatedFrom live.line.knows Sends c.session.profile 0 links
     → SendsByClock tells live mid later c source spent status was is → SendsOnLinks tells live old new c source spent status
-on_opened_links tells live old mid later new c source spent links was is given status e f some out between back same gives long s = record {
+on_opened_links tells live old mid later new c source spent links was is given status e f some out between back same gives long know s = record {
   were = was;
   are = is;
   count = ap length same ∙ some;
@@ -172,7 +175,10 @@ on_opened_links tells live old mid later new c source spent links was is given s
         (back.now place d (subst (λ l. place < length l) (sym gives) (subst (λ n. place < n) (sym long) less))
         (ap (λ x. x place) between ∙ out.now place (subst (λ l. place < length l) same less)));
   };
-  did = by_clock_between tells live old mid later new c source spent was is status (ap (λ x. x.clocks) e) (ap (λ x. x.entropies) e) (ap (λ x. x.clocks) f) (ap (λ x. x.entropies) f) s;
+  did = record {
+    know = subst (λ l. KnowStatedFrom live.line.knows Sends c.session.profile 0 l) (sym same) know;
+    by_clock = by_clock_between tells live old mid later new c source spent was is status (ap (λ x. x.clocks) e) (ap (λ x. x.entropies) e) (ap (λ x. x.clocks) f) (ap (λ x. x.entropies) f) s;
+  };
 }
 
 -- a front that was taken out and put back

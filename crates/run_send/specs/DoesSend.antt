@@ -5,6 +5,7 @@ use Rattle.outside_host.specs.Shelf.{Shelf}
 use Rattle.rist_words.specs.CommandLine.{SendCommand}
 use Rattle.run_parts.specs.Causes.{CanRefuse}
 use Rattle.run_send.specs.Complete.{CompletesSending}
+use Rattle.run_send.specs.Ends.{IsSendEnd}
 use Rattle.run_send.specs.Frame.{KeepsAround, OpensLinksAfter, links_opened}
 use Rattle.run_parts.specs.Objects.{Tells, TellsLive}
 use Rattle.run_send.specs.Pieces.{SentInPieces}
@@ -17,6 +18,8 @@ use Rattle.run_parts.specs.declared.status.Status.TheVariants as statuses
 -- what a sending did to an unused host that tells, whose count of failed calls stood so before and after
 pub record DoesSend {I O E L C : Type 0} (told : Bool) (tells : Tells I O E) (live : TellsLive L C) (c : SendCommand)
     (faults_were faults_are : ℕ) (old new : Shelf I O E L C) (status : Status) : Type 0 where
+  -- a status that is none of a sending's never comes
+  pub ends : IsSendEnd c status
   -- its source is sent onto the links of its line by the first clock, and source, links and clock come back; or nothing
   -- was read of it and nothing written
   pub sent : IsUnused told old → (CanRefuse status → ⊥) → Sent tells live old new c status

@@ -1,5 +1,6 @@
 pub mod Sessions
 pub mod Sent
+pub mod Ends
 pub mod Pieces
 pub mod Frame
 pub mod Complete

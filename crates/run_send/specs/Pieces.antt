@@ -1,9 +1,12 @@
 -- Which payloads a sending sent of its source, and what its links were given of them.
-use Rattle.std.specs.Prelude.{◌≡◌, ◌<◌, ℕ, List, [], length, reverse, slice_index_or, Option, Some, Result}
+use Rattle.std.specs.Prelude.{◌≡◌, ◌<◌, ◌-◌, ◌^◌, ◌++◌, ℕ, List, [], length, reverse, slice_index_or, Option, Some}
+use Rattle.std.specs.Prelude.{Result}
+use Rattle.std.specs.Option.{option_map}
 use Rattle.outside_host.specs.Shelf.{Shelf}
 use Rattle.outside_host.specs.declared.host.Place.TheVariants.{Here, Back}
 use Rattle.sender_rules.specs.Sendings.{sent_packets}
-use Rattle.rist_sender.specs.History.{Event, sendings_of}
+use Rattle.rist_sender.specs.History.{Event, sendings_of, tried_as, tried_on}
+use Rattle.rist_sender.specs.Links.{datagrams_given}
 use Rattle.rist_send.specs.Given.{Gives}
 use Rattle.rist_send.specs.Packets.{AreSentAs}
 use Rattle.rist_sender.specs.Served.{AreServed}
@@ -34,6 +37,12 @@ pub record SentInPieces {I O E L C : Type 0} (tells : Tells I O E) (live : Tells
   pub gave_links : (place : ℕ) (d : L) → place < length was → new.links place ≡ Back (slice_index_or is place d)
   pub history : List Event
   pub given : AreServed live.line c.stream.flow (session_sent c) [] history was is
+  -- a link took them all, in order, where none of its calls failed (its count of faults has 64 bits)
+  pub taken : (link : ℕ) (d : L) → link < length was → live.line.faults (slice_index_or was link d) < 2 ^ 64 - 1
+      → live.line.faults (slice_index_or is link d) ≡ live.line.faults (slice_index_or was link d)
+      → live.line.taken (slice_index_or is link d)
+      ≡ option_map (λ held. held ++ datagrams_given (tried_on (tried_as c.stream.flow (session_sent c)) link history))
+      (live.line.taken (slice_index_or was link d))
   pub sent : List (List ℕ)
   pub packets : AreSentAs c.stream.nulls c.stream.first (reverse sent) (sent_packets (sendings_of history))
   pub pieces : (octets : List ℕ) → tells.remaining source ≡ Some octets

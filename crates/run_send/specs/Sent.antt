@@ -1,5 +1,6 @@
 -- What a sending leaves of the objects of its host.
-use Rattle.std.specs.Prelude.{◌≡◌, List, [], length, map, false, Option, IfSome, Result, Ok, Err}
+use Rattle.std.specs.Prelude.{◌≡◌, ◌<◌, ℕ, List, [], length, map, slice_index_or, false, Option, IfSome, Result, Ok}
+use Rattle.std.specs.Prelude.{Err}
 use Rattle.outside_io.specs.Causes.{HasReadCause}
 use Rattle.outside_host.specs.Shelf.{Shelf}
 use Rattle.outside_host.specs.declared.host.Place.TheVariants.{Here, Back}
@@ -8,7 +9,7 @@ use Rattle.psk_seal.specs.Sealer.{SealerState}
 use Rattle.rist_sender.specs.Calls.{Work}
 use Rattle.rist_send.specs.Run.{Run}
 use Rattle.rist_send.specs.Sending.{SendsSource}
-use Rattle.rist_sender.specs.Served.{AreServed}
+use Rattle.rist_sender.specs.Served.{AreServed, KnowsPeers}
 use Rattle.rist_send.specs.Served.{Outside, new_run}
 use Rattle.rist_send.specs.declared.fault.SendFault.{SendFault}
 use Rattle.rist_send.specs.declared.fault.SendFault.TheVariants as faults
@@ -79,6 +80,9 @@ pub record Sent {I O E L C : Type 0} (tells : Tells I O E) (live : TellsLive L C
   pub left : outside_left to ≡ outside_of tells live later spent links_are
   -- and each link was given just the datagrams that the sender made for it
   pub given : AreServed live.line c.stream.flow (session_sent c) [] to.work.history links_were links_are
+  -- whose peers it knew at first
+  pub known : (link : ℕ) (d : L) → link < length links_were
+      → KnowsPeers (session_sent c) (live.line.knows (slice_index_or links_were link d))
 
 -- a sending didn't begin: its source, its links and its clock stand as they stood, or came back as they were
 pub record Unsent {I O E L C : Type 0} (old new : Shelf I O E L C) (c : SendCommand) : Type 0 where

@@ -14,6 +14,7 @@ ghost use Rattle.run_send.specs.Inside.Sending.{SendsAs, SendsByClock, SendsOnLi
 ghost use Rattle.run_parts.specs.Hosts.{IsUnused};
 ghost use Rattle.run_send.specs.Sent.{Sent, Unsent, send_status};
 ghost use Rattle.run_send.specs.DoesSend.{DoesSend};
+ghost use Rattle.run_send.specs.Ends.{IsSendEnd};
 
 use bond_links::Bond;
 use outside_host::{Host, back_links, open_links};
@@ -24,7 +25,7 @@ use rist_send::{SendFault, SendSettings, send};
 use rist_sender::{Sender, Settings};
 use rist_wire::Opener;
 use rist_words::SendLine;
-use run_parts::{Status, Telling, sealer_for, session_of};
+use run_parts::{Status, Telling, sealer_for, session_of, watch};
 use std::alloc::Global;
 
 // How the links of a line have its packets.
@@ -96,6 +97,7 @@ fn send_with<S: Source, L: Link, C: Clock>(
     ensures memory { CanRefuse result → (result ≡ Status.Memory)
         × (source.new ≡ source.old) × (links.new ≡ links.old) × (clock.new ≡ clock.old) }
     ensures line { result ≢ Status.Usage }
+    ensures ends { IsSendEnd (shown_send line.now) result }
     ensures read { HasReadCause (fault_of result) (S.faults source.old) (S.faults source.new) }
     ensures count { length links.new ≡ length links.old }
 {
@@ -141,6 +143,7 @@ fn send_by_clock<H: Host>(
     ensures times { IsTrue H.tells → (H.shelf host.old).next_clock ≡ 0 → (H.shelf host.old).next_entropy ≡ 0
         → KeepsTimes (H.shelf host.old) (H.shelf host.new) (is_some (shown_send line.now).session.pass) }
     ensures line { result ≢ Status.Usage }
+    ensures ends { IsSendEnd (shown_send line.now) result }
     ensures opened { HasOpenCause (fault_of result) (H.faults host.old) (H.faults host.new) }
     ensures read { HasReadCause (fault_of result) (H.Input.faults source.old) (H.Input.faults source.new) }
     ensures count { length links.new ≡ length links.old }
@@ -183,6 +186,7 @@ fn send_on_links<H: Host>(
     ensures random { IsUnused H.tells (H.shelf host.old) → result ≡ Status.EntropyFault
         → FailedAt ⟦<H as Telling>⟧.objects (H.shelf host.old) (H.shelf host.new) }
     ensures line { result ≢ Status.Usage }
+    ensures ends { IsSendEnd (shown_send line.now) result }
     ensures opened { HasOpenCause (fault_of result) (H.faults host.old) (H.faults host.new) }
     ensures read { HasReadCause (fault_of result) (H.Input.faults source.old) (H.Input.faults source.new) }
 {
@@ -218,6 +222,7 @@ fn send_from_source<H: Host>(alloc: Global, host: &mut H, line: &SendLine<'_>) -
     ensures random { IsUnused H.tells (H.shelf host.old) → result ≡ Status.EntropyFault
         → FailedAt ⟦<H as Telling>⟧.objects (H.shelf host.old) (H.shelf host.new) }
     ensures line { result ≢ Status.Usage }
+    ensures ends { IsSendEnd (shown_send line.now) result }
     ensures opened { HasOpenCause (fault_of result) (H.faults host.old) (H.faults host.new) }
 {
     let mut source = match host.source(line.source) {
@@ -229,6 +234,17 @@ fn send_from_source<H: Host>(alloc: Global, host: &mut H, line: &SendLine<'_>) -
     status
 }
 
+/// Does the line of a sending, once the host knows what is told of the run.
+fn send_unwatched<H: Host>(alloc: Global, host: &mut H, line: &SendLine<'_>) -> Status
+    requires range { IsInSend (shown_send line.now) }
+    ensures does { DoesSend H.tells ⟦<H as Telling>⟧.objects ⟦<H as Telling>⟧.live (shown_send line.now)
+        (H.faults host.old) (H.faults host.new) (H.shelf host.old) (H.shelf host.new) result }
+    ensures line { result ≢ Status.Usage }
+    ensures opened { HasOpenCause (fault_of result) (H.faults host.old) (H.faults host.new) }
+{
+    send_from_source(alloc, host, line)
+}
+
 /// Does the line of a sending.
 pub fn send_line<H: Host>(alloc: Global, host: &mut H, line: &SendLine<'_>) -> Status
     requires range { IsInSend (shown_send line.now) }
@@ -237,5 +253,8 @@ pub fn send_line<H: Host>(alloc: Global, host: &mut H, line: &SendLine<'_>) -> S
     ensures line { result ≢ Status.Usage }
     ensures opened { HasOpenCause (fault_of result) (H.faults host.old) (H.faults host.new) }
 {
-    send_from_source(alloc, host, line)
+    match watch(host, &line.watching) {
+        Ok(()) => send_unwatched(alloc, host, line),
+        Err(bad) => Status::from(bad),
+    }
 }

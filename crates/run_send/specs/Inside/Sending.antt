@@ -1,5 +1,7 @@
 -- What the parts of a sending leave.
 use Rattle.std.specs.Prelude.{◌≡◌, List, [], length, Option, IfSome, Result}
+use Rattle.outside_net.specs.declared.link_spec.Role.TheVariants.{Sends}
+use Rattle.outside_host.specs.Links.{KnowStatedFrom}
 use Rattle.outside_host.specs.Shelf.{Shelf}
 use Rattle.outside_host.specs.declared.host.Place.TheVariants.{Here, Back}
 use Rattle.psk_seal.specs.Sealer.{SealerState}
@@ -40,8 +42,14 @@ pub record SendsByClock {I O E L C : Type 0} (tells : Tells I O E) (live : Tells
   pub sends : SendsAs live.line c sealer (outside_of tells live clock source was)
       (outside_of tells live later spent is) was is status
 
+-- by links that knew the peers that their addresses state
+pub record SendsKnowing {I O E L C : Type 0} (tells : Tells I O E) (live : TellsLive L C) (old new : Shelf I O E L C)
+    (c : SendCommand) (source spent : I) (status : Status) (was is : List L) : Type 0 where
+  pub know : KnowStatedFrom live.line.knows Sends c.session.profile 0 was
+  pub by_clock : SendsByClock tells live old new c source spent status was is
+
 -- and on links that were handed out
 abbrev pub SendsOnLinks : {I O E L C : Type 0} → Tells I O E → TellsLive L C → Shelf I O E L C → Shelf I O E L C
     → SendCommand → I → I → Status → Type 0
 SendsOnLinks tells live old new c source spent status =
-    HandedOut old.links new.links (length c.links) (SendsByClock tells live old new c source spent status)
+    HandedOut old.links new.links (length c.links) (SendsKnowing tells live old new c source spent status)

@@ -1,9 +1,10 @@
--- What the parts of a gateway leave is what its line does.
-use Rattle.run_gate.proofs.DoesGateLemmas.{does_gate}
+-- What is said to the host first changes nothing that it tells.
+use Rattle.run_gate.proofs.DoesGateLemmas.{does_after, refuses_before}
 use Rattle.run_gate.proofs.gating.gate_line.Goals as goal
 
-pub returns-clause-does : goal.returns-clause-does
-returns-clause-does g c =
-    let e = c.gate_on_links.ensures in
-    does_gate _ _ _ _ _ _ (g.H.Host.shelf c.args.host.now) (g.H.Host.shelf c.gate_on_links.new.host) c.gate_on_links.result
-    e.opened e.gated e.ungated e.around e.links_opened e.random
+pub returns-in-Ok-clause-does : goal.returns-in-Ok-clause-does
+returns-in-Ok-clause-does g c =
+    does_after _ _ _ _ _ _ _ _ _ _ _ c.watch.ensures.same c.in-Ok.ensures.cause c.gate_unwatched.ensures.does
+
+pub returns-in-Err-clause-does : goal.returns-in-Err-clause-does
+returns-in-Err-clause-does g c = refuses_before _ _ _ _ _ _ _ _ c.in-Err.bad _ c.from.ensures c.watch.ensures.same c.in-Err.ensures.cause

@@ -1,5 +1,7 @@
 -- Links come back as they were where nothing was begun, and else with what was done on them.
-use Rattle.std.proofs.Common.{◌≡◌, ◌∙◌, ◌+◌, ap, length, arith}
+use Rattle.std.proofs.Common.{◌≡◌, ◌∙◌, ◌+◌, ap, List, length, subst, arith}
+use Rattle.outside_net.specs.declared.link_spec.Role.TheVariants.{Forwards}
+use Rattle.outside_host.specs.Links.{KnowStatedFrom}
 use Rattle.run_parts.proofs.FrameLemmas.{links_back, links_stay}
 use Rattle.run_parts.proofs.HandedLemmas.{links_as_they_were, from_first}
 use Rattle.run_gate.proofs.GatingLemmas.{around_links, around_unopened, failed_between, gated_by, ungated_between}
@@ -14,6 +16,7 @@ returns-clause-gated g c unused ran =
     (from_first _ _ _ _ _ _ (c.in-Ok.ensures.ok (unused.told, unused.links)) (c.gate_by_clocks-status.ensures.others unused.told).links
     (c.back_links.ensures.state unused.told) c.gate_by_clocks-status.ensures.links)
     e (c.back_links.ensures.same unused.told)
+    (subst (λ (ls : List _). KnowStatedFrom g.H.Wire.Link.knows Forwards c.args.line.now.session.profile (length ls) c.in-Ok.links.items) c.as_slice.ensures.value c.in-Ok.ensures.know)
     (c.gate_by_clocks-status.ensures.gated unused.told (ap (λ s. s.next_clock) e ∙ unused.clock) (ap (λ s. s.next_entropy) e ∙ unused.entropy) ran)
 
 pub returns-clause-ungated : goal.returns-clause-ungated

@@ -6,6 +6,7 @@ use Rattle.rist_words.specs.Shown.{shown_gate}
 use Rattle.desk_run.specs.Run.{timed_links}
 use Rattle.run_links.specs.Sessions.{limits_served}
 use Rattle.run_gate.specs.Sessions.{setup_gated}
+use Rattle.run_gate.proofs.EndsLemmas.{gated_ends}
 use Rattle.run_gate.proofs.gating.gate_with.Goals as goal
 
 pub returns-in-Ok-gate_on-clause-work : goal.returns-in-Ok-gate_on-clause-work
@@ -24,3 +25,6 @@ returns-in-Ok-gate_on-clause-work g c =
           (λ s. Forwards g.C.Clock.moments tells s (limits_served line.serving) c.len.result (timed_links c.args.links.now.items c.args.clocks.now.items) (timed_links c.gate_on.new.links.items c.gate_on.new.clocks.items)
           gated.counts gated.ending) c.in-Ok.ensures.setup c.in-Ok-gate_on.ensures.work);
     }
+
+pub returns-in-Ok-gate_on-clause-ends : goal.returns-in-Ok-gate_on-clause-ends
+returns-in-Ok-gate_on-clause-ends g c = gated_ends _ _ _ _ _ _ _ _ _ _ (returns-in-Ok-gate_on-clause-work g c)

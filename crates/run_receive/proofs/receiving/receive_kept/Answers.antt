@@ -5,6 +5,7 @@ use Rattle.desk_run.specs.Run.{Receives, outside}
 use Rattle.rist_words.specs.Shown.{shown_recv}
 use Rattle.run_receive.specs.Sessions.{limits_received}
 use Rattle.run_links.proofs.KeptLemmas.{kept_some}
+use Rattle.run_receive.proofs.EndsLemmas.{received_ends}
 use Rattle.run_receive.proofs.ReceiveLemmas.{same_setup}
 use Rattle.run_receive.proofs.receiving.receive_kept.Goals as goal
 
@@ -23,3 +24,6 @@ returns-clause-work g c =
           (λ s. Receives g.C.Clock.moments tells s (limits_received line) (outside c.args.links.now.items c.args.clocks.now.items (g.K.Sink.contents c.args.sink) (g.K.Sink.faults c.args.sink)) (outside c.receive_on-ending.new.links.items c.receive_on-ending.new.clocks.items (g.K.Sink.contents c.receive_on-ending.result.sink) (g.K.Sink.faults c.receive_on-ending.result.sink))
           c.receive_on-ending.result.counts c.receive_on-ending.result.ending) setup c.receive_on-ending.ensures.work;
     }
+
+pub returns-clause-ends : goal.returns-clause-ends
+returns-clause-ends g c = received_ends _ _ _ _ _ _ _ _ _ _ _ _ _ c.requires.fresh (returns-clause-work g c)

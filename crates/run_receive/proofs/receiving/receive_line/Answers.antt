@@ -1,9 +1,10 @@
--- What the parts of a receiving leave is what its line does.
-use Rattle.run_receive.proofs.DoesReceiveLemmas.{does_receive}
+-- What is said to the host first changes nothing that it tells.
+use Rattle.run_receive.proofs.DoesReceiveLemmas.{does_after, refuses_before}
 use Rattle.run_receive.proofs.receiving.receive_line.Goals as goal
 
-pub returns-clause-does : goal.returns-clause-does
-returns-clause-does g c =
-    let e = c.receive_into_sink.ensures in
-    does_receive _ _ _ _ _ _ (g.H.Host.shelf c.args.host.now) (g.H.Host.shelf c.receive_into_sink.new.host) c.receive_into_sink.result
-    e.opened e.received e.unreceived e.around e.links_opened e.order e.random
+pub returns-in-Ok-clause-does : goal.returns-in-Ok-clause-does
+returns-in-Ok-clause-does g c =
+    does_after _ _ _ _ _ _ _ _ _ _ _ c.watch.ensures.same c.in-Ok.ensures.cause c.receive_unwatched.ensures.does
+
+pub returns-in-Err-clause-does : goal.returns-in-Err-clause-does
+returns-in-Err-clause-does g c = refuses_before _ _ _ _ _ _ _ _ c.in-Err.bad _ c.from.ensures c.watch.ensures.same c.in-Err.ensures.cause

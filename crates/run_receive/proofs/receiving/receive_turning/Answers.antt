@@ -5,6 +5,7 @@ use Rattle.desk_run.specs.Run.{Receives, outside}
 use Rattle.rist_words.specs.Shown.{shown_recv}
 use Rattle.run_receive.specs.Sessions.{limits_received}
 use Rattle.run_links.proofs.KeptLemmas.{kept_none}
+use Rattle.run_receive.proofs.EndsLemmas.{received_ends}
 use Rattle.run_receive.proofs.ReceiveLemmas.{same_setup}
 use Rattle.run_receive.proofs.receiving.receive_turning.Goals as goal
 
@@ -24,3 +25,6 @@ returns-in-Ok-receive_in_turns-clause-work g c =
           (λ s. Receives g.C.Clock.moments tells s (limits_received line) (outside c.args.links.now.items c.args.clocks.now.items (g.K.Sink.contents c.args.sink) (g.K.Sink.faults c.args.sink)) (outside c.receive_in_turns.new.links.items c.receive_in_turns.new.clocks.items (g.K.Sink.contents ran.sink) (g.K.Sink.faults ran.sink))
           ran.counts ran.ending) setup c.in-Ok-receive_in_turns.ensures.work;
     }
+
+pub returns-in-Ok-receive_in_turns-clause-ends : goal.returns-in-Ok-receive_in_turns-clause-ends
+returns-in-Ok-receive_in_turns-clause-ends g c = received_ends _ _ _ _ _ _ _ _ _ _ _ _ _ c.requires.fresh (returns-in-Ok-receive_in_turns-clause-work g c)

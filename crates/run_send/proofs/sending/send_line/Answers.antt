@@ -1,9 +1,10 @@
--- What the parts leave is what the line does.
-use Rattle.run_send.proofs.DoesSendLemmas.{does_send}
+-- What is said to the host first changes nothing that it tells.
+use Rattle.run_send.proofs.DoesSendLemmas.{does_after, refuses_before}
 use Rattle.run_send.proofs.sending.send_line.Goals as goal
 
-pub returns-clause-does : goal.returns-clause-does
-returns-clause-does g c =
-    let e = c.send_from_source.ensures in
-    does_send _ _ _ _ _ _ (g.H.Host.shelf c.args.host.now) (g.H.Host.shelf c.send_from_source.new.host) c.send_from_source.result
-    c.requires.range e.opened e.sent e.unsent e.around e.links_opened e.order e.random
+pub returns-in-Ok-clause-does : goal.returns-in-Ok-clause-does
+returns-in-Ok-clause-does g c =
+    does_after _ _ _ _ _ _ _ _ _ _ _ c.watch.ensures.same c.in-Ok.ensures.cause c.send_unwatched.ensures.does
+
+pub returns-in-Err-clause-does : goal.returns-in-Err-clause-does
+returns-in-Err-clause-does g c = refuses_before _ _ _ _ _ _ _ _ c.in-Err.bad _ c.from.ensures c.watch.ensures.same c.in-Err.ensures.cause

@@ -12,7 +12,7 @@ returns-clause-sent g c unused ran =
     on_opened_links _ _ _ _ _ _ _ _ _ _ _ _ _ _ e (c.back_links.ensures.same unused.told)
     (c.in-Ok.ensures.count ∙ ap length c.as_slice.ensures.value) (c.in-Ok.ensures.ok (unused.told, unused.links))
     (c.send_by_clock-status.ensures.others unused.told).links (c.back_links.ensures.state unused.told)
-    c.as_mut_slice.ensures.value (put_front _ _ _ (sym c.as_mut_slice.ensures.len ∙ sym c.send_by_clock-status.ensures.count)) c.send_by_clock-status.ensures.count
+    c.as_mut_slice.ensures.value (put_front _ _ _ (sym c.as_mut_slice.ensures.len ∙ sym c.send_by_clock-status.ensures.count)) c.send_by_clock-status.ensures.count c.in-Ok.ensures.know
     (c.send_by_clock-status.ensures.sent unused.told (ap (λ s. s.next_clock) e ∙ unused.clock) (ap (λ s. s.next_entropy) e ∙ unused.entropy) ran)
 
 pub returns-clause-kept : goal.returns-clause-kept

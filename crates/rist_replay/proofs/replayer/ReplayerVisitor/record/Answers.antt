@@ -10,8 +10,7 @@ use Rattle.outside_io.specs.Told.{Writes, WritesPart}
 use Rattle.rist_ends.specs.Told.{input_of}
 use Rattle.rist_ends.specs.Items.{input_read}
 use Rattle.rist_replay.specs.Steps.{step_of, receiver_history, history_of}
-use Rattle.rist_replay.specs.Inside.Visiting.{HasReplayed}
-use Rattle.rist_replay.specs.Replay.{released_so_far}
+use Rattle.rist_replay.specs.Replay.{released_so_far, HasReplayed}
 use Rattle.rist_ends.specs.Receiver.{IsReceiverAfter}
 use Rattle.rist_wire.specs.declared.session.Session.{Session}
 use Rattle.rist_reporter.specs.OneMore.{step_answered}
