@@ -4,7 +4,7 @@ use capture_file::Reader;
 use capture_walk::WalkBad;
 use outside_io::{Pieces, Store8};
 use rist_ends::Settings;
-use rist_replay::count;
+use rist_replay::{Replayer, count};
 use std::alloc::Global;
 use std::test::Fail;
 
@@ -23,11 +23,13 @@ const TEXT: &[u8] =
     b"kept 1\nstranger 1\nexhausted 0\nlate 1\nbehind 0\nearly 1\ntwice 1\nspan 1\nrefused 1\n";
 
 /// What is counted of the capture, with a delay of one second and a span of 8.
-#[tactic(auto, using(capture_walk::proofs::GoingLemmas::new_has_read))]
 fn counted(alloc: Global, source: Pieces, mut sink: Store8) -> (Result<(), WalkBad>, Store8) {
     let mut reader = Reader::over(source);
     let settings = Settings::muted(1000, 8, 0, false);
-    let end = count(alloc, &simple_session(), &settings, &mut reader, &mut sink);
+    let end = match Replayer::with(alloc, &simple_session(), &settings) {
+        Ok(replayer) => count(replayer, &mut reader, &mut sink),
+        Err(_) => Err(WalkBad::Memory),
+    };
     (end, sink)
 }
 

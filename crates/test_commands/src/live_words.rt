@@ -1,10 +1,10 @@
 //! Command lines of a receiving and of a gateway that are taken and refused.
-use crate::words::{PLAIN, STREAM, none_of, reads, specs, weights};
+use crate::words::{PLAIN, STREAM, UNWATCHED, none_of, reads, specs, weights};
 use gre_tunnel::Tunnel;
 use link_channels::Profile;
 use request_rules::NackKind;
 use rist_words::{
-    GateLine, Line, ReceiverWords, RecvLine, ServingWords, SessionWords, StreamWords,
+    GateLine, Line, ReceiverWords, RecvLine, ServingWords, SessionWords, StreamWords, WatchingWords,
 };
 use std::alloc::Global;
 use std::test::Fail;
@@ -177,8 +177,63 @@ fn is_received(
         session: PLAIN,
         receiver,
         serving,
+        watching: UNWATCHED,
     };
     reads(alloc, text, Ok(Line::Recv(line)))
+}
+
+/// What is kept and told of a run, with statistics at their least and at their greatest.
+static WATCHED: [(&str, WatchingWords<'static>); 3] = [
+    (
+        "rist recv - 127.0.0.1:2 127.0.0.1:65534 --record a",
+        WatchingWords {
+            capture: Some("a"),
+            ..UNWATCHED
+        },
+    ),
+    (
+        "rist recv - 127.0.0.1:2 127.0.0.1:65534 --stats 100 --stats-file=b",
+        WatchingWords {
+            stats: Some(100),
+            stats_file: Some("b"),
+            ..UNWATCHED
+        },
+    ),
+    (
+        "rist recv - 127.0.0.1:2 127.0.0.1:65534 --stats=3600000 --record=a",
+        WatchingWords {
+            capture: Some("a"),
+            stats: Some(3_600_000),
+            ..UNWATCHED
+        },
+    ),
+];
+
+/// Lines of a receiving that are none for what is to be kept or told.
+static NOT_WATCHED: [&str; 6] = [
+    "rist recv - 127.0.0.1:2 --record=",
+    "rist recv - 127.0.0.1:2 --record a --record a",
+    "rist recv - 127.0.0.1:2 --stats 99",
+    "rist recv - 127.0.0.1:2 --stats 3600001",
+    "rist recv - 127.0.0.1:2 --stats-file b",
+    "rist send a 127.0.0.1:2 --record a",
+];
+
+fn all_watched(alloc: Global) -> Result<bool, Fail> {
+    for (text, watching) in &WATCHED {
+        let line = RecvLine {
+            out: "-",
+            links: specs(alloc, &[2, 65_534])?,
+            session: PLAIN,
+            receiver: RECEIVER,
+            serving: SERVING,
+            watching: *watching,
+        };
+        if !reads(alloc, text, Ok(Line::Recv(line)))? {
+            return Ok(false);
+        }
+    }
+    Ok(true)
 }
 
 fn all_received(alloc: Global) -> Result<bool, Fail> {
@@ -350,6 +405,7 @@ fn is_gate(
         store: words.store,
         hold: words.hold,
         share: weights(alloc, share)?,
+        watching: UNWATCHED,
     };
     reads(alloc, text, Ok(Line::Gate(line)))
 }
@@ -368,6 +424,8 @@ fn words_over_links_are_a_line_or_refused(rt: HostRuntime) -> Result<(), Fail> {
     let alloc = rt.alloc();
     assert!(rt; all_received(alloc)?);
     assert!(rt; none_of(alloc, &NOT_RECEIVED)?);
+    assert!(rt; all_watched(alloc)?);
+    assert!(rt; none_of(alloc, &NOT_WATCHED)?);
     assert!(rt; all_gates(alloc)?);
     assert!(rt; none_of(alloc, &NOT_GATES)?);
     Ok(())

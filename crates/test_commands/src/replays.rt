@@ -10,7 +10,7 @@ use capture_walk::WalkBad;
 use link_channels::{Channel, Profile};
 use outside_io::{Pieces, Store8};
 use rist_ends::Settings;
-use rist_replay::replay;
+use rist_replay::{Replayer, replay};
 use rist_wire::{Session, Shutter, Tunnel};
 use seq_unwrap::Width;
 use std::alloc::Global;
@@ -65,7 +65,6 @@ fn main_session() -> Session
 }
 
 /// What a replay writes, and how it ends.
-#[tactic(auto, using(capture_walk::proofs::GoingLemmas::new_has_read))]
 fn replayed(
     alloc: Global,
     session: &Session,
@@ -77,7 +76,10 @@ fn replayed(
     requires settings { AreSettings settings.now }
 {
     let mut reader = Reader::over(source);
-    let end = replay(alloc, session, settings, &mut reader, &mut sink);
+    let end = match Replayer::with(alloc, session, settings) {
+        Ok(replayer) => replay(replayer, &mut reader, &mut sink),
+        Err(_) => Err(WalkBad::Memory),
+    };
     (end, sink)
 }
 

@@ -4,7 +4,7 @@ use link_channels::Profile;
 use outside_net::LinkSpec;
 use rist_words::{
     CountLine, DrillLine, Line, PackLine, Refused, ReplayLine, SendLine, SessionWords, ShowLine,
-    StreamWords, line,
+    StreamWords, WatchingWords, line,
 };
 use std::alloc::Global;
 use std::test::Fail;
@@ -24,6 +24,13 @@ pub const STREAM: StreamWords = StreamWords {
     wide: false,
     flow: 270_544_960,
     first: 0,
+};
+
+/// Nothing is kept or told of a run.
+pub const UNWATCHED: WatchingWords<'static> = WatchingWords {
+    capture: None,
+    stats: None,
+    stats_file: None,
 };
 
 /// The words between blanks.
@@ -387,6 +394,7 @@ fn send_line(
         share: weights(alloc, share)?,
         linger: 1000,
         turns: 1 << 40,
+        watching: UNWATCHED,
     })
 }
 

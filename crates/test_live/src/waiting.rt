@@ -221,6 +221,14 @@ impl Host for WaitingHost {
         })
     }
 
+    fn record(&mut self, name: &str) -> Result<(), HostBad> {
+        self.host.record(name)
+    }
+
+    fn statistics(&mut self, every: u64, name: Option<&str>) -> Result<(), HostBad> {
+        self.host.statistics(every, name)
+    }
+
     fn clock(&mut self) -> Result<ScriptClock, HostBad> {
         self.host.clock()
     }

@@ -227,6 +227,34 @@ fn another_file_that_is_there_is_written_while_one_is_read(rt: HostRuntime) -> R
     Ok(())
 }
 
+fn assert_recorded<H: Host>(rt: &impl Abort, host: &mut H, name: &str, want: Result<(), HostBad>) {
+    assert!(rt; host.record(name) == want, "{name}");
+}
+
+#[test]
+fn a_recording_begins_a_capture_and_never_over_what_is_read(rt: HostRuntime) -> Result<(), Fail> {
+    fs::write(&rt, "source.bin", b"ABC")?;
+    fs::write(&rt, "recording.bin", b"what was there")?;
+    let mut host = RealHost::new(&rt);
+    let source = source_of(&mut host, "source.bin")?;
+    for (name, want) in [
+        ("./source.bin", Err(HostBad::Failed)),
+        ("no such folder/recording.bin", Err(HostBad::Failed)),
+        ("recording.bin", Ok(())),
+    ] {
+        assert_recorded(&rt, &mut host, name, want);
+    }
+    host.back_source("source.bin", source);
+    assert_octets(&rt, fs::read(&rt, "source.bin")?.as_slice(), b"ABC");
+    assert_octets(&rt, fs::read(&rt, "recording.bin")?.as_slice(), b"RISTCAP1");
+    let alloc = rt.alloc();
+    let mut memory = MemHost::with(alloc, parts_with(alloc, &[0])?)?;
+    assert_recorded(&rt, &mut memory, "recording.bin", Ok(()));
+    fs::remove_file(&rt, "source.bin")?;
+    fs::remove_file(&rt, "recording.bin")?;
+    Ok(())
+}
+
 fn assert_word<E: Entropy>(rt: &impl Abort, entropy: &mut E, want: Result<u32, Failed>) {
     assert!(rt; entropy.word() == want);
 }
@@ -294,6 +322,24 @@ fn the_system_gives_random_words(rt: HostRuntime) -> Result<(), Fail> {
 fn each_failure_has_its_text(rt: HostRuntime) -> Result<(), Fail> {
     let shown = format!(in rt.alloc(); "{}, {}, {}", Failed, NoMemory, HostBad::Failed)?;
     assert!(rt; shown.as_str() == "call failed, out of memory, cannot open");
+    Ok(())
+}
+
+#[test]
+fn a_link_that_knows_no_peer_is_only_received_on(rt: HostRuntime) -> Result<(), Fail> {
+    let alloc = rt.alloc();
+    let mut parts = parts_with(alloc, &[])?;
+    let link = ScriptLink::with(alloc, Vec::new(alloc), false, 1, &[], &[])?;
+    parts.links.push(Place::Here(link))?;
+    let mut host = MemHost::with(alloc, parts)?;
+    let spec = LinkSpec {
+        address: [127, 0, 0, 1],
+        port: 5000,
+    };
+    for role in [Role::Sends, Role::Forwards] {
+        assert_no_link(&rt, &mut host, &spec, role);
+    }
+    link_of(&mut host, &spec, Role::Receives)?;
     Ok(())
 }
 

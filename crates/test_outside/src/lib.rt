@@ -20,10 +20,16 @@ mod hosts;
 #[cfg(test)]
 mod links;
 #[cfg(test)]
+mod metering;
+#[cfg(test)]
 mod opening;
 #[cfg(test)]
 mod pieces;
 #[cfg(test)]
+mod signs;
+#[cfg(test)]
 mod sinks;
+#[cfg(test)]
+mod told;
 #[cfg(test)]
 mod walks;

@@ -103,6 +103,7 @@ fn a_refused_datagram_leaves_the_peers(rt: HostRuntime) -> Result<(), Fail> {
     assert_peers(&rt, &mut link, true, false, false);
     assert_peers(&rt, &mut link, false, false, true);
     assert_peers(&rt, &mut link, true, false, true);
+    assert!(rt; link.has_peer(Channel::Control) && !link.has_peer(Channel::Media));
     Ok(())
 }
 
