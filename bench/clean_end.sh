@@ -2,9 +2,10 @@
 # Ends `rist recv`, `rist gate` and `rist send` by SIGTERM and by SIGINT in the middle of a stream of 100 Mbit/s over loopback. Each
 # must end with status 0. Of a receiver each piece that it kept must be written, of a gateway each that it kept must have come at the
 # next receiver, and of a sender each that it sent: a front part of the source, without a hole. Both print their counts. The script
-# ends with 1 where that doesn't hold. What the gateway's delay lets wait, 3,000 pieces or those of a second, has room in the next receiver's socket. It takes a minute, needs python3 and a net.core.rmem_max of 4 MB, so that what the gateway sends
-# on at once has room, uses 127.0.0.1 alone and writes only below a new folder in /tmp. Where a tool isn't there, or the buffer is
-# smaller, it says so and ends with status 3, without `recv` with status 4.
+# ends with 1 where that doesn't hold. What the gateway's delay lets wait, 3,000 pieces or those of a second, has room in the next
+# receiver's socket. It takes a minute, needs python3 and a net.core.rmem_max of 4 MB, so that what the gateway sends on at once has
+# room, uses 127.0.0.1 alone and writes only below a new folder in /tmp. Where a tool isn't there, or the buffer is smaller, it says
+# so and ends with status 3, without `recv` with status 4.
 # Words: microseconds between two pieces (105), and a built program that stands for bin/rist (none).
 set -eu
 gap=${1:-105} program=${2:-}
@@ -97,7 +98,7 @@ for signal in TERM INT; do
 
     echo "SIG$signal to gate"
     receive 5100 '--idle 3000'
-    $rist gate 127.0.0.1:5000 127.0.0.1:5100 --delay "$delay" --store 16384 > "$work/gate" 2>&1 &
+    $rist gate 127.0.0.1:5000 127.0.0.1:5100 --delay "$delay" --span 16384 --store 16384 > "$work/gate" 2>&1 &
     gate=$!
     started="$started $gate"
     sleep 0.5
