@@ -9,6 +9,7 @@ use Rattle.pass_words.specs.declared.options.PassFault.{PassFault}
 use Rattle.pass_words.specs.declared.options.PassFault.TheVariants.{Twice, NoName}
 use Rattle.pass_words.specs.declared.options.PassFile.{PassFile}
 
+-- a word of a command line
 abbrev pub Word : Type 0
 Word = List ℕ
 
@@ -73,8 +74,8 @@ is_value [] = false
 is_value (first ∷ []) = true
 is_value (first ∷ second ∷ rest) = not (first == 45)
 
--- the value of an option: what stands behind its `=`, which isn't empty, or else the next word. And whether it is a word
--- of its own
+-- the value of an option: what stands behind its `=`, which isn't empty, or else the next word; and whether it is a
+-- word of its own
 abbrev pub value_with : Option (Word × Word) → List Word → Option (Word × Bool)
 value_with (Some parts) rest = if length parts.1 == 0 then None else Some (parts.1, false)
 value_with None [] = None

@@ -26,7 +26,8 @@ IsWithPhrase option word =
     (phrase : Word) × (string_bytes word ≡ phrase_word_of option phrase) × (1 ≤ length phrase) × (length phrase ≤ 128)
 
 -- where a file is named, some such word stands in place of what names it
-abbrev pub IsPlaced : {A : Type 0} → PassOption → Result (Option Place) PassFault → List (String A) → List (String A) → Type 0
+abbrev pub IsPlaced : {A : Type 0} → PassOption → Result (Option Place) PassFault → List (String A) → List (String A)
+    → Type 0
 IsPlaced option (Ok None) old new = Unit {0}
 IsPlaced {A} option (Ok (Some place)) old new =
     (word : String A) × IsWithPhrase option word × (new ≡ placed place.at place.is_apart word old)

@@ -91,7 +91,8 @@ pub fn first_line<S: Source>(source: &mut S, line: &mut [u8; 129]) -> Result<usi
 
 /// The next octet of a source, or none at its end.
 fn next<S: Source>(source: &mut S) -> Result<Option<u8>, Failed>
-    ensures some { IfOk result (λ found. IfSome found (λ octet. Takes (S.remaining source.old) (S.remaining source.new) (octet ∷ []))) }
+    ensures some { IfOk result (λ found. IfSome found (λ octet.
+        Takes (S.remaining source.old) (S.remaining source.new) (octet ∷ []))) }
     ensures none { result ≡ Ok None → S.remaining source.new ≡ S.remaining source.old }
     ensures end { result ≡ Ok None → IsEmpty (S.remaining source.new) }
     ensures cause { HasCause (S.faults source.old) (S.faults source.new) result }

@@ -112,7 +112,8 @@ pub fn pass_file<'a>(
     words: &'a [String],
 ) -> Result<Option<PassFile<'a>>, PassFault>
     ensures value { shown_place result ≡ pass_file_of option (map string_bytes words.entry.now) }
-    ensures within { IfOk result (λ found. IfSome found (λ file. IsWithin file.at file.is_apart (length words.entry.now))) }
+    ensures within { IfOk result (λ found. IfSome found (λ file.
+        IsWithin file.at file.is_apart (length words.entry.now))) }
 {
     if !is_of_command(option, words) {
         return Ok(None);
@@ -134,7 +135,8 @@ fn file_in<'a>(
 ) -> Result<Option<PassFile<'a>>, PassFault>
     requires within { at < length words.now }
     ensures value { shown_place result ≡ place_of option at (value_of (map string_bytes (drop at words.entry.now))) }
-    ensures within { IfOk result (λ found. IfSome found (λ file. IsWithin file.at file.is_apart (length words.entry.now))) }
+    ensures within { IfOk result (λ found. IfSome found (λ file.
+        IsWithin file.at file.is_apart (length words.entry.now))) }
 {
     match value_in(&words[at..]) {
         Some((name, is_apart)) => Ok(Some(PassFile { name, at, is_apart })),
