@@ -10,7 +10,8 @@ use Rattle.rist_desk.specs.declared.step.Step.{Step}
 use Rattle.rist_desk.specs.declared.worker.ServingLimits.{ServingLimits}
 use Rattle.rist_desk.specs.declared.worker.Worker.{Worker}
 use Rattle.rist_desk.specs.Desk.{Given}
-use Rattle.rist_desk.specs.Sending.{holds, LacksRoom}
+use Rattle.rist_desk.specs.Sending.{LacksRoom, one}
+use Rattle.rist_desk.specs.Work.{Work, holds}
 use Rattle.rist_desk.specs.Turns.{Feed, IsServed}
 use Rattle.rist_desk.specs.Inside.Going.{IsTask, is_link_end, is_link_failure}
 
@@ -22,25 +23,41 @@ pub record IsFeed (f : Feed) (session : Session) (place : ℕ) (limits : Serving
   pub answers_are : answers ≡ Some f.answers
   pub knows_are : knows ≡ f.knows
 
--- The worker at this place ended: its own list has gained the steps of its turns, and its link what they made. Of a
--- named desk that tells its steps, that is what the rules make.
-pub record ServesBy {L C U : Type 0} (desk : Option Given) (moments : C → Option (ℕ → ℕ)) (tells : LinkTells L)
-    (list : U → Option (List Step)) (limits : ServingLimits) (place : ℕ) (old new : Worker L C U) : Type 0 where
+-- The worker at this place ended: its own list has gained the steps of its turns, and its link what they made.
+pub record ServesBy {K P M L C U : Type 0} (work : Work K P M) (moments : C → Option (ℕ → ℕ)) (tells : LinkTells L)
+    (list : U → Option (List K)) (limits : ServingLimits) (place : ℕ) (old new : Worker L C U) : Type 0 where
   pub end : Ended
   pub ended : new.end ≡ Some end
   pub served : (f : Feed)
       → IsFeed f old.opener place limits (moments old.clock) (tells.reads old.link) (tells.knows old.link)
-      → IsServed desk f (tells.knows new.link) end (moments new.clock) (tells.reads new.link)
+      → IsServed work f (tells.knows new.link) end (moments new.clock) (tells.reads new.link)
       (holds (list old.trace) (tells.taken old.link)) (holds (list new.trace) (tells.taken new.link))
   pub session : new.opener ≡ old.opener
   -- End and Failed come exactly where the link's count rose
   pub end_cause : RoseWhere (is_link_end (Some end)) (tells.ends old.link) (tells.ends new.link)
   pub failed_cause : RoseWhere (is_link_failure (Some end)) (tells.faults old.link) (tells.faults new.link)
 
+-- what a kind of work tells of what is a worker's own: what its list keeps; that it wants room for the next step; and
+-- where pairs may be wanting
+pub record OwnTells (K U : Type 0) : Type 1 where
+  pub list : U → Option (List K)
+  pub Lacks : U → Type 0
+  pub Keyed : Type 0
+
+-- A worker at this place ended. Where it ended since a trace was full, there was no room; and where it ended since pairs
+-- were wanting, they may be.
+pub record ServesWith {K P M L C U : Type 0} (work : Work K P M) (moments : C → Option (ℕ → ℕ)) (tells : LinkTells L)
+    (own : OwnTells K U) (limits : ServingLimits) (place : ℕ) (old new : Worker L C U) : Type 0 where
+  pub made : ServesBy work moments tells own.list limits place old new
+  pub full : new.end ≡ Some ends.TraceFull → own.Lacks new.trace
+  pub spent : new.end ≡ Some ends.Spent → own.Keyed
+
+-- ---- on the receiver of one flow
+
 -- so, whatever the desk
 abbrev pub Serves : {L C U : Type 0} → (C → Option (ℕ → ℕ)) → LinkTells L → (U → Option (List Step)) → ServingLimits → ℕ
     → Worker L C U → Worker L C U → Type 0
-Serves moments tells list limits place old new = ServesBy None moments tells list limits place old new
+Serves moments tells list limits place old new = ServesBy (one None) moments tells list limits place old new
 
 -- what a kind of traces tells, and how many steps one takes
 pub record TraceTells (U : Type 0) : Type 0 where
@@ -51,13 +68,24 @@ pub record TraceTells (U : Type 0) : Type 0 where
 abbrev pub IsKeyed : Given → Type 0
 IsKeyed given = given.tells_steps ≡ true → is_some given.shutter.sealer ≡ true
 
--- A worker at this place ended on this desk. Where it ended since a trace was full, that is its own, or the desk's was;
--- and where it ended since pairs were wanting, the desk has a sealer.
-pub record ServesOn {L C U : Type 0} (given : Given) (moments : C → Option (ℕ → ℕ)) (tells : LinkTells L)
-    (trace : TraceTells U) (limits : ServingLimits) (place : ℕ) (old new : Worker L C U) : Type 0 where
-  pub made : ServesBy (Some given) moments tells trace.list limits place old new
-  pub full : new.end ≡ Some ends.TraceFull → LacksRoom given (trace.limit new.trace) (trace.list new.trace)
-  pub spent : new.end ≡ Some ends.Spent → IsKeyed given
+-- what is a worker's own on this desk: it wants room where its trace is full, or the desk's; and pairs may be wanting
+-- where the desk has a sealer
+abbrev pub own_on : {U : Type 0} → Given → TraceTells U → OwnTells Step U
+own_on given trace =
+    record {
+      list = trace.list;
+      Lacks = λ own. LacksRoom given (trace.limit own) (trace.list own);
+      Keyed = IsKeyed given;
+    }
+
+-- A worker at this place ended on this desk. Of a desk that tells its steps, they and what they made are what the rules
+-- give.
+abbrev pub ServesOn : {L C U : Type 0} → Given → (C → Option (ℕ → ℕ)) → LinkTells L → TraceTells U → ServingLimits → ℕ
+    → Worker L C U → Worker L C U → Type 0
+ServesOn given moments tells trace limits place old new =
+    ServesWith (one (Some given)) moments tells (own_on given trace) limits place old new
+
+-- ---- before and after
 
 -- a worker at this place may make all its turns, of two steps at most, on what is shared
 pub record MayServe {S L C U : Type 0} (is_of : S → ℕ → U → Type 0) (left : U → ℕ) (shared : S) (limits : ServingLimits)

@@ -13,7 +13,8 @@ use Rattle.rist_desk.specs.declared.step.Step.{Step}
 use Rattle.rist_desk.specs.declared.worker.ServingLimits.{ServingLimits as WorkerLimits}
 use Rattle.rist_desk.specs.declared.worker.Worker.{Worker}
 use Rattle.rist_desk.specs.Items.{Planned, erased}
-use Rattle.rist_desk.specs.Sending.{Made, last_in, plan_of, steps_in}
+use Rattle.rist_desk.specs.Sending.{Made, planned_of}
+use Rattle.rist_desk.specs.Work.{last_in}
 use Rattle.rist_desk.specs.Serving.{IsFeed, ServesOn}
 use Rattle.desk_run.specs.declared.ending.Ending.{Ending}
 use Rattle.desk_run.specs.Receiving.{the_end}
@@ -33,8 +34,12 @@ pub before_is : (kept before : Option (List Step)) → kept ≡ option_map (λ s
 before_is kept None is told = absurd (cc (is, told))
 before_is kept (Some steps) is told = refl
 
+-- the steps that were made
+abbrev steps_in : List Made → List Step
+steps_in ms = map (λ (m : Made). m.step) ms
+
 -- planned steps are steps but for what they came to
-plans_are : (ms : List Made) → map (λ (p : Planned). p.step) (plan_of ms) ≡ map erased (steps_in ms)
+plans_are : (ms : List Made) → map (λ (p : Planned). p.step) (map planned_of ms) ≡ map erased (steps_in ms)
 plans_are [] = refl
 plans_are (m ∷ ms) = ap (λ l. erased m.step ∷ l) (plans_are ms)
 
@@ -86,7 +91,7 @@ module _ {L C : Type 0} (live : TellsLive L C) (s : ReceiveSetup) (limits : Work
         turns = did.last + 1;
         missing = map (λ (p : Planned). p.step) did.own.missing;
         front = ap (map (λ (p : Planned). p.step)) did.own.plan_is
-            ∙ (map_both (plan_of ms) did.own.missing
+            ∙ (map_both (map planned_of ms) did.own.missing
             ∙ ap (λ (l : List Step). l ++ map (λ (p : Planned). p.step) did.own.missing) (plans_are ms ∙ ap (map erased) (sym list ∙ told)));
       }
 

@@ -5,6 +5,7 @@ use Rattle.outside_host.specs.declared.host.Place.TheVariants.{Here}
 use Rattle.rist_compare.specs.Tears.{Agree}
 use Rattle.rist_desk.specs.declared.step.Step.{Step}
 use Rattle.rist_desk.specs.Items.{erased}
+use Rattle.rist_desk.specs.Sending.{one_flow}
 use Rattle.rist_desk.specs.Serving.{IsFeed}
 use Rattle.rist_desk.specs.Turns.{Feed, steps_until}
 use Rattle.rist_wire.specs.declared.session.Session.{Session}
@@ -17,7 +18,7 @@ use Rattle.run_parts.specs.Objects.{TellsLive}
 pub record AreBroughtBy (f : Feed) (steps : List Step) : Type 0 where
   pub turns : ℕ
   pub missing : List Step
-  pub front : map (λ plan. plan.step) (steps_until f turns) ≡ map erased steps ++ missing
+  pub front : map (λ plan. plan.step) (steps_until one_flow f turns) ≡ map erased steps ++ missing
 
 -- Steps are those of a link at a place of a run in this session and with these limits, where the link and its clock
 -- tell what they give.
