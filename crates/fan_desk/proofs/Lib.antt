@@ -1,3 +1,6 @@
 pub mod OneLemmas
 pub mod OwnLemmas
 pub mod RowLemmas
+pub mod WriteLemmas
+pub mod MadeLemmas
+pub mod EndLemmas

@@ -1,5 +1,5 @@
 -- A row of one place, and places that were told nothing.
-use Rattle.std.proofs.Common.{◌≡◌, ◌↔◌, ℕ, zero, suc, true, false, if◌then◌else◌, map, List, [], ◌∷◌, unwrap_or, Option, Some, option_map, refl, ap, sym, subst}
+use Rattle.std.proofs.Common.{◌≡◌, ◌↔◌, ℕ, zero, suc, true, ◌&&◌, map, List, [], ◌∷◌, unwrap_or, Option, Some, option_map, refl, ap, sym, subst}
 use Rattle.outside_io.specs.Told.{IsEmpty}
 use Rattle.rist_reporter.specs.declared.out.Outs.{Outs}
 use Rattle.rist_ends.specs.declared.told.Told.{Told}
@@ -21,7 +21,7 @@ seen_one [] = refl
 seen_one (s ∷ steps) = ap (λ (l : List Step). s ∷ l) (seen_one steps)
 
 one_row : (told : Told) (answer : Answer) (outs : Outs)
-    → row_unless (if is_stopped answer then true else false) (fan_step (Some 0) told (outcome_with answer outs ∷ [])) ≡ option_map row_of (step_added told outs answer)
+    → row_unless (is_stopped answer && true) (fan_step (Some 0) told (outcome_with answer outs ∷ [])) ≡ option_map row_of (step_added told outs answer)
 one_row told answers.Stopped outs = refl
 one_row told answers.WriteFault outs = refl
 one_row told (answers.Verdict v) outs = refl

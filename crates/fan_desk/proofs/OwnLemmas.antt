@@ -68,7 +68,7 @@ added_before : (s : Option Step) (l m : List Step) → added s (l ++ m) ≡ adde
 added_before None l m = refl
 added_before (Some s) l m = refl
 
-seen_before : (v : ℕ) (since rows : List FanStep) → seen v (since ++ rows) ≡ seen v since ++ seen v rows
+pub seen_before : (v : ℕ) (since rows : List FanStep) → seen v (since ++ rows) ≡ seen v since ++ seen v rows
 seen_before v [] rows = refl
 seen_before v (row ∷ since) rows = ap (added (seen_in v row)) (seen_before v since rows) ∙ added_before (seen_in v row) (seen v since) (seen v rows)
 
@@ -76,12 +76,12 @@ row_before : (row : Option FanStep) (l m : List FanStep) → added row (l ++ m) 
 row_before None l m = refl
 row_before (Some row) l m = refl
 
-rows_before : (since turns : List (Turn FanStep)) → entries (since ++ turns) ≡ entries since ++ entries turns
+pub rows_before : (since turns : List (Turn FanStep)) → entries (since ++ turns) ≡ entries since ++ entries turns
 rows_before [] turns = refl
 rows_before (t ∷ since) turns = ap (added t.entry) (rows_before since turns) ∙ row_before t.entry (entries since) (entries turns)
 
 -- each step of a legal list was made while no write had failed
-open_before : (setup : Setup) (s : Step) (later steps : List Step) → IsLegal setup (s ∷ later ++ steps) → phase_of steps ≡ Open
+pub open_before : (setup : Setup) (s : Step) (later steps : List Step) → IsLegal setup (s ∷ later ++ steps) → phase_of steps ≡ Open
 open_before setup s [] steps legal = legal.1.running
 open_before setup s (t ∷ later) steps legal = open_before setup t later steps legal.0
 

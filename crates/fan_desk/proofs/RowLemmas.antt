@@ -1,5 +1,5 @@
 -- One more row of a history, to each place by itself.
-use Rattle.std.proofs.Common.{◌≡◌, ◌<◌, ℕ, zero, suc, Bool, true, false, length, map, List, [], ◌∷◌, slice_get, if◌then◌else◌, ◌==◌, Option, None, Some, option_map, refl, ap, sym, ◌∙◌, subst}
+use Rattle.std.proofs.Common.{◌≡◌, ◌<◌, ℕ, zero, suc, Bool, true, false, length, map, List, [], ◌∷◌, slice_get, if◌then◌else◌, ◌&&◌, ◌==◌, Option, None, Some, option_map, refl, ap, sym, ◌∙◌, subst}
 use Rattle.std.proofs.lemmas.Option.{slice_get_within, slice_get-map}
 use Rattle.rist_ends.specs.declared.told.Told.{Told}
 use Rattle.rist_ends.specs.declared.told.What.{What}
@@ -25,7 +25,7 @@ use Rattle.fan_desk.specs.Rows.{AreBeside, IsDatagram, are_all_stopped, entry_at
 
 -- ---- where each had ended
 
-both_stopped : (a : Answer) (others : Bool) → (if is_stopped a then others else false) ≡ true → (a ≡ answers.Stopped) × (others ≡ true)
+both_stopped : (a : Answer) (others : Bool) → (is_stopped a && others) ≡ true → (a ≡ answers.Stopped) × (others ≡ true)
 both_stopped answers.Stopped others all = (refl, all)
 both_stopped answers.WriteFault others all = absurd (cc (all))
 both_stopped (answers.Verdict v) others all = absurd (cc (all))
@@ -33,7 +33,7 @@ both_stopped answers.Spent others all = absurd (cc (all))
 both_stopped answers.Made others all = absurd (cc (all))
 both_stopped answers.Nothing others all = absurd (cc (all))
 
-stopped_at : (room : List Came) (v : ℕ) (came : Came) → slice_get room v ≡ Some came → are_all_stopped room ≡ true → came.answer ≡ answers.Stopped
+pub stopped_at : (room : List Came) (v : ℕ) (came : Came) → slice_get room v ≡ Some came → are_all_stopped room ≡ true → came.answer ≡ answers.Stopped
 stopped_at [] v came at all = absurd (cc (at))
 stopped_at (x ∷ room) zero came at all = let same : x ≡ came = cc (at) in ap (λ (c : Came). c.answer) (sym same) ∙ (both_stopped x.answer (are_all_stopped room) all).0
 stopped_at (x ∷ room) (suc v) came at all = stopped_at room v came at (both_stopped x.answer (are_all_stopped room) all).1

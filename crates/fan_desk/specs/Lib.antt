@@ -1,3 +1,4 @@
 pub mod Rows
 pub mod Own
 pub mod Origin
+pub mod Made

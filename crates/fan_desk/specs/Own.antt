@@ -15,6 +15,10 @@ use Rattle.fan_desk.specs.declared.desk.FanDesk.{FanDesk}
 abbrev pub AreRowsOf : ℕ → List FanStep → Type 0
 AreRowsOf link rows = (v : ℕ) → AreOf link (seen v rows)
 
+-- the rows that were made with a pass, the oldest first
+abbrev pub own_rows : {X : Type 0} → Pass FanStep X → Option (List FanStep)
+own_rows pass = Some (reverse (entries_with pass))
+
 -- the steps that were made with a pass at a place, the oldest first
 abbrev pub own_list : {X : Type 0} → ℕ → Pass FanStep X → Option (List Step)
 own_list v pass = Some (reverse (seen v (entries_with pass)))

@@ -1,6 +1,7 @@
 -- What is told to all places in a turn, the row that it adds to the history, and what each place answers. Lists of rows
 -- stand with the newest first.
-use Rattle.std.specs.Prelude.{◌≡◌, ℕ, List, [], ◌∷◌, length, Bool, true, false, if◌then◌else◌, Option, None, Some}
+use Rattle.std.specs.Prelude.{◌≡◌, ℕ, List, [], ◌∷◌, length, Bool, true, false, Option, None, Some}
+use Rattle.std.specs.List.{list_all}
 use Rattle.rist_ends.specs.declared.told.Told.{Told}
 use Rattle.rist_ends.specs.declared.told.What.{What}
 use Rattle.rist_ends.specs.declared.told.What.TheVariants as whats
@@ -35,8 +36,7 @@ is_stopped answers.Nothing = false
 
 -- so had each of these
 abbrev pub are_all_stopped : List Came → Bool
-are_all_stopped [] = true
-are_all_stopped (came ∷ others) = if is_stopped came.answer then are_all_stopped others else false
+are_all_stopped room = list_all (λ came. is_stopped came.answer) room
 
 -- the row, or none
 abbrev pub row_unless : Bool → FanStep → Option FanStep

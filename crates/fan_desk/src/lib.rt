@@ -5,11 +5,15 @@
 mod desk;
 mod ending;
 mod fan_step;
+mod flows;
 pub mod laws;
 mod origin;
+mod row_end;
+mod sending;
 mod shared;
 mod steps;
 mod told;
+mod tunnel_desk;
 
 pub use desk::FanDesk;
 pub use ending::tell_end;
@@ -17,3 +21,4 @@ pub use fan_step::FanStep;
 pub use origin::FanOrigin;
 pub use shared::SharedFan;
 pub use told::FanTold;
+pub use tunnel_desk::{RowPass, TunnelDesk};

@@ -1,0 +1,2 @@
+pub mod ConcludeLemmas
+pub mod RunLemmas

@@ -1,0 +1,270 @@
+-- What the workers and the places leave, together.
+use Rattle.std.proofs.Common.{◌≡◌, ◌⊎◌, ◌<◌, ◌≤◌, ◌^◌, ℕ, zero, suc, List, [], ◌∷◌, ◌++◌, map, length, reverse, slice_get, Bool, Option, None, Some, refl, ap, sym, ◌∙◌, subst, arith}
+use Rattle.std.specs.Prelude.{slice_index_or, ◌||◌, ◌&&◌}
+use Rattle.std.specs.List.{All}
+use Rattle.std.specs.Option.{option_map}
+use Rattle.std.proofs.lemmas.List.{length-map, get_or-map}
+use Rattle.std.proofs.lemmas.List.Elements.{All-map}
+use Rattle.std.proofs.lemmas.Option.{get_or_from_slice_get, slice_get_within, slice_get-map}
+use Rattle.outside_net.specs.Links.{LinkTells}
+use Rattle.rist_wire.specs.declared.session.Session.{Session}
+use Rattle.rist_desk.specs.declared.ended.Ended.{Ended}
+use Rattle.rist_desk.specs.declared.ended.Ended.TheVariants as ends
+use Rattle.rist_desk.specs.declared.worker.ServingLimits.{ServingLimits}
+use Rattle.rist_desk.specs.declared.worker.Worker.{Worker}
+use Rattle.rist_desk.specs.Desk.{Given}
+use Rattle.rist_desk.specs.Serving.{MayServe, OwnTells, ServesWith}
+use Rattle.turn_lock.specs.declared.pass.Pass.{Pass}
+use Rattle.turn_lock.specs.Passes.{entries_with, turns_left}
+use Rattle.rist_fan.specs.declared.fan.Fan.{Fan}
+use Rattle.rist_fan.specs.declared.flow.Came.{Came}
+use Rattle.rist_fan.specs.declared.flow.Flow.{Flow}
+use Rattle.rist_fan.specs.Seen.{FanStep, seen}
+use Rattle.turn_desk.specs.Own.{AreOf}
+use Rattle.fan_desk.specs.declared.desk.FanDesk.{FanDesk}
+use Rattle.fan_desk.specs.declared.tunnel_desk.RowPass.{RowPass}
+use Rattle.fan_desk.specs.Own.{AreFreshFor, HasSeenFault, IsOf, own_rows}
+use Rattle.fan_desk.specs.Made.{IsSomeKeyed, several}
+use Rattle.desk_run.specs.declared.ending.Ending.{Ending}
+use Rattle.desk_run.specs.Endings.{all_workers, any_worker, is_link_failed, is_spent, is_without_room}
+use Rattle.desk_run.specs.Run.{timed_links}
+use Rattle.desk_run.specs.Turns.{FitsAfter, ending_by}
+use Rattle.desk_run.specs.Workers.{clock_of, is_unended, link_of, opener_of, trace_of}
+use Rattle.fan_run.specs.Concluded.{AreOwnedRows, HaveConcluded}
+use Rattle.fan_run.specs.Passes.{HasRooms, pass_of}
+use Rattle.fan_run.specs.Run.{FlowsGiven, IsNewWorker, ReceivesFlows, ToldRows, is_any_cut, rows_of, told_by, told_rows}
+
+-- ---- one less of a list
+
+-- the last of a list of which each has this, and the rest
+pub last_has : {A : Type 0} (x : A) (P : A → Type 0) (old new : List A) → old ≡ new ++ x ∷ [] → All P old → P x
+last_has x P old new popped all =
+    let whole = subst (All P) popped all in
+    let d = x in
+    let at = whole (length new) d (within new) in
+    subst P (there new) at
+  where
+    within : (l : List _) → length l < length (l ++ x ∷ [])
+    within [] = omega arith
+    within (y ∷ l) = let more = within l in omega (arith, more)
+
+    there : (l : List _) → slice_index_or (l ++ x ∷ []) (length l) x ≡ x
+    there [] = refl
+    there (y ∷ l) = there l
+
+pub rest_have : {A : Type 0} (x : A) (P : A → Type 0) (old new : List A) → old ≡ new ++ x ∷ [] → All P old → All P new
+rest_have x P old new popped all k d less =
+    let whole = subst (All P) popped all in
+    subst P (front new k d less) (whole k d (longer new k less))
+  where
+    longer : (l : List _) (k : ℕ) → k < length l → k < length (l ++ x ∷ [])
+    longer [] k less = absurd (omega (arith, less))
+    longer (y ∷ l) zero less = omega arith
+    longer (y ∷ l) (suc k) less = let more = longer l k (omega (arith, less)) in omega (arith, more)
+
+    front : (l : List _) (k : ℕ) (d : _) → k < length l → slice_index_or (l ++ x ∷ []) k d ≡ slice_index_or l k d
+    front [] k d less = absurd (omega (arith, less))
+    front (y ∷ l) zero d less = refl
+    front (y ∷ l) (suc k) d less = front l k d (omega (arith, less))
+
+-- ---- workers with their passes
+
+there : {A : Type 0} (l : List A) (k : ℕ) (d : A) → k < length l → slice_get l k ≡ Some (slice_index_or l k d)
+there [] k d less = absurd (omega (arith, less))
+there (x ∷ l) zero d less = refl
+there (x ∷ l) (suc k) d less = there l k d (omega (arith, less))
+
+-- a worker of such a desk
+abbrev pub RowWorker : (N K L C : Type 0) → Type 0
+RowWorker N K L C = Worker L C (RowPass N K)
+
+-- what a worker may be given there, and how many steps it may still make
+abbrev pub Owns : {N K : Type 0} → FanDesk N K → ℕ → ℕ → RowPass N K → Type 0
+Owns desk places link own = IsOf desk link own.pass × (length own.came.items ≡ places)
+
+abbrev pub good_for : {N K : Type 0} → RowPass N K → ℕ
+good_for own = turns_left own.pass
+
+-- what is told of what is its own
+abbrev pub own_tells : {N K : Type 0} → (ℕ → Given) → OwnTells FanStep (RowPass N K)
+own_tells given = record { list = λ own. own_rows own.pass; Lacks = λ own. ⊥; Keyed = IsSomeKeyed given }
+
+-- a worker was served
+abbrev Serves : {L C U : Type 0} → (C → Option (ℕ → ℕ)) → LinkTells L → FlowsGiven → ServingLimits → OwnTells FanStep U → ℕ → Worker L C U → Worker L C U → Type 0
+Serves moments tells flows limits own link was is = ServesWith (several flows.ports flows.given flows.places) moments tells own limits link was is
+
+module _ {N K L C : Type 0} where
+  -- the passes of workers
+  abbrev pub passes_in : List (RowWorker N K L C) → List (Pass FanStep (Fan K))
+  passes_in ws = map (pass_of {N = N} {K = K}) (map trace_of ws)
+
+  pub pass_at : (ws : List (RowWorker N K L C)) (k : ℕ) (w : RowWorker N K L C) → slice_get ws k ≡ Some w → slice_get (passes_in ws) k ≡ Some w.trace.pass
+  pass_at ws k w e =
+      slice_get-map pass_of (map trace_of ws) k
+      ∙ ap (option_map pass_of) (slice_get-map trace_of ws k ∙ ap (option_map trace_of) e)
+
+  -- a worker with a fresh pass may make all its turns
+  pub may_serve : (desk : FanDesk N K) (places : ℕ) (ws : List (RowWorker N K L C)) (passes : List (Pass FanStep (Fan K))) (limits : ServingLimits) → passes_in ws ≡ passes → All (HasRooms places) (map trace_of ws)
+      → AreFreshFor desk passes → limits.turns ≤ 2 ^ 40 → (i : ℕ) (d : RowWorker N K L C) → i < length ws
+      → MayServe (λ (s : FanDesk N K). Owns s places) good_for desk limits i (slice_index_or ws i d)
+  may_serve desk places ws passes limits are rooms fresh few i d less =
+      let w : RowWorker N K L C = slice_index_or ws i d in
+      let f = fresh.each i w.trace.pass (subst (λ (l : List (Pass FanStep (Fan K))). slice_get l i ≡ Some w.trace.pass) are (pass_at ws i w (there ws i d less))) in
+      let room : HasRooms places w.trace =
+      subst (HasRooms places) (get_or-map trace_of ws i d (trace_of d) less) (rooms i (trace_of d) (subst (λ n. i < n) (sym (length-map ws trace_of)) less)) in
+      record {
+        own = (record { own = f.own; number = f.number_is; rows = λ v. subst (λ (rows : List FanStep). AreOf i (seen v rows)) (sym f.added_nothing) tt }, room);
+        left_is = let left = f.left in omega (arith, left, few);
+      }
+
+  -- the passes of workers that ended are still the desk's
+  pub still_all : (desk : FanDesk N K) (ws : List (RowWorker N K L C)) → ((i : ℕ) (d : RowWorker N K L C) → i < length ws → IsOf desk i (slice_index_or ws i d).trace.pass)
+      → (k : ℕ) (p : Pass FanStep (Fan K)) → slice_get (passes_in ws) k ≡ Some p → IsOf desk k p
+  still_all desk ws are k p e = by_place (slice_get ws k) refl
+    where
+      by_place : (o : Option (RowWorker N K L C)) → slice_get ws k ≡ o → IsOf desk k p
+      by_place None none =
+          absurd (let gone = sym e ∙ (slice_get-map pass_of (map trace_of ws) k ∙ ap (option_map pass_of) (slice_get-map trace_of ws k ∙ ap (option_map trace_of) none)) in cc (gone))
+      by_place (Some w) at =
+          let same : w.trace.pass ≡ p = (let is = sym (pass_at ws k w at) ∙ e in cc (is)) in
+          subst (IsOf desk k) same (subst (λ (x : RowWorker N K L C). IsOf desk k x.trace.pass) (get_or_from_slice_get ws k w w at) (are k w (slice_get_within ws k w at)))
+
+  -- ---- as far as workers tell
+
+  pub links_told : (ws : List (RowWorker N K L C)) → map link_of (map told_by ws) ≡ map link_of ws
+  links_told [] = refl
+  links_told (w ∷ ws) = ap (λ l. w.link ∷ l) (links_told ws)
+
+  pub clocks_told : (ws : List (RowWorker N K L C)) → map clock_of (map told_by ws) ≡ map clock_of ws
+  clocks_told [] = refl
+  clocks_told (w ∷ ws) = ap (λ l. w.clock ∷ l) (clocks_told ws)
+
+  any_told : (test : Option Ended → Bool) (ws : List (RowWorker N K L C)) → any_worker test (map told_by ws) ≡ any_worker test ws
+  any_told test [] = refl
+  any_told test (w ∷ ws) = ap (λ b. test w.end || b) (any_told test ws)
+
+  all_told : (test : Option Ended → Bool) (ws : List (RowWorker N K L C)) → all_workers test (map told_by ws) ≡ all_workers test ws
+  all_told test [] = refl
+  all_told test (w ∷ ws) = ap (λ b. test w.end && b) (all_told test ws)
+
+  pub fits_told : (ws : List (RowWorker N K L C)) (after : Ending) → FitsAfter ws after → FitsAfter (map told_by ws) after
+  fits_told ws after f = record {
+    no_fault = f.no_fault;
+    spent = λ e. any_told is_spent ws ∙ f.spent e;
+    full = λ e. any_told is_without_room ws ∙ f.full e;
+    whole = f.whole;
+    down = λ e. let h = f.down e in ((any_told is_spent ws ∙ h.0.0, any_told is_without_room ws ∙ h.0.1), all_told is_link_failed ws ∙ h.1);
+    done = λ e. let h = f.done e in ((any_told is_spent ws ∙ h.0.0, any_told is_without_room ws ∙ h.0.1), all_told is_link_failed ws ∙ h.1);
+  }
+
+  told_at : (ws : List (RowWorker N K L C)) (link : ℕ) (t : Worker L C ToldRows) → slice_get (map told_by ws) link ≡ Some t → (w : RowWorker N K L C) × (slice_get ws link ≡ Some w) × (told_by w ≡ t)
+  told_at ws link t is = by_place (slice_get ws link) refl (sym (slice_get-map told_by ws link) ∙ is)
+    where
+      by_place : (o : Option (RowWorker N K L C)) → slice_get ws link ≡ o → option_map told_by o ≡ Some t → (w : RowWorker N K L C) × (slice_get ws link ≡ Some w) × (told_by w ≡ t)
+      by_place None e f = absurd (cc (f))
+      by_place (Some w) e f = (w, e, cc (f))
+
+  module _ (moments : C → Option (ℕ → ℕ)) (tells : LinkTells L) (flows : FlowsGiven) (limits : ServingLimits) where
+    serves_told : (link : ℕ) (was is : RowWorker N K L C) → Serves moments tells flows limits (own_tells flows.given) link was is → Serves moments tells flows limits (told_rows flows.given) link (told_by was) (told_by is)
+    serves_told link was is s = record {
+      made = record {
+        end = s.made.end;
+        ended = s.made.ended;
+        served = s.made.served;
+        session = s.made.session;
+        end_cause = s.made.end_cause;
+        failed_cause = s.made.failed_cause;
+      };
+      full = s.full;
+      spent = s.spent;
+    }
+
+    pub all_served : (ws later : List (RowWorker N K L C)) → ((link : ℕ) (d : RowWorker N K L C) → link < length ws → Serves moments tells flows limits (own_tells flows.given) link (slice_index_or ws link d) (slice_index_or later link d))
+        → (link : ℕ) (was is : Worker L C ToldRows) → slice_get (map told_by ws) link ≡ Some was → slice_get (map told_by later) link ≡ Some is → Serves moments tells flows limits (told_rows flows.given) link was is
+    all_served ws later served link was is had has =
+        let before = told_at ws link was had in
+        let after = told_at later link is has in
+        let here : Serves moments tells flows limits (own_tells flows.given) link before.0 after.0 =
+        subst (λ x. Serves moments tells flows limits (own_tells flows.given) link x after.0) (get_or_from_slice_get ws link before.0 before.0 before.1)
+        (subst (λ y. Serves moments tells flows limits (own_tells flows.given) link (slice_index_or ws link before.0) y) (get_or_from_slice_get later link after.0 before.0 after.1)
+        (served link before.0 (slice_get_within ws link before.0 before.1))) in
+        subst (λ x. Serves moments tells flows limits (told_rows flows.given) link x is) before.2
+        (subst (λ y. Serves moments tells flows limits (told_rows flows.given) link (told_by before.0) y) after.2 (serves_told link before.0 after.0 here))
+
+  -- ---- own rows
+
+  each_row : (ws : List (RowWorker N K L C)) (k : ℕ) (rows : List FanStep) → slice_get (rows_of (map told_by ws)) k ≡ Some rows → (p : Pass FanStep (Fan K)) × (slice_get (passes_in ws) k ≡ Some p) × (rows ≡ reverse (entries_with p))
+  each_row [] k rows e = absurd (cc (e))
+  each_row (w ∷ ws) zero rows e = let same : reverse (entries_with w.trace.pass) ≡ rows = cc (e) in (w.trace.pass, refl, sym same)
+  each_row (w ∷ ws) (suc k) rows e = each_row ws k rows e
+
+  none_behind : (ws : List (RowWorker N K L C)) (k : ℕ) (p : Pass FanStep (Fan K)) → length (rows_of (map told_by ws)) ≤ k → slice_get (passes_in ws) k ≡ Some p → entries_with p ≡ []
+  none_behind [] k p le e = absurd (cc (e))
+  none_behind (w ∷ ws) zero p le e = absurd (omega (arith, le))
+  none_behind (w ∷ ws) (suc k) p le e = none_behind ws k p (omega (arith, le)) e
+
+  pub owned_rows : (ws : List (RowWorker N K L C)) → AreOwnedRows (rows_of (map told_by ws)) (passes_in ws)
+  owned_rows ws = record { each = each_row ws; behind = none_behind ws }
+
+  -- ---- a run
+
+  -- workers were set into their places, and served
+  pub record RunsFlows (moments : C → Option (ℕ → ℕ)) (tells : LinkTells L) (flows : FlowsGiven) (session : Session) (limits : ServingLimits) (ws later : List (RowWorker N K L C)) (openers : List Session)
+      (passes : List (Pass FanStep (Fan K))) (after : Ending) : Type 0 where
+    pub openers_are : map opener_of ws ≡ openers
+    pub session_is : All (λ opener. opener ≡ session) openers
+    pub passes_are : passes_in ws ≡ passes
+    pub fresh : (k : ℕ) (p : Pass FanStep (Fan K)) → slice_get passes k ≡ Some p → entries_with p ≡ []
+    pub unended : All is_unended ws
+    pub as_many : length later ≡ length ws
+    pub served : (link : ℕ) (d : RowWorker N K L C) → link < length ws → ServesWith (several flows.ports flows.given flows.places) moments tells (own_tells flows.given) limits link (slice_index_or ws link d) (slice_index_or later link d)
+    pub over : (link : ℕ) (d : RowWorker N K L C) → link < length ws → ((slice_index_or later link d).end ≡ Some ends.Stopped) ⊎ ((slice_index_or later link d).end ≡ Some ends.WriteFault)
+        → (v : ℕ) → v < flows.places → HasSeenFault v (slice_index_or later link d).trace.pass
+    pub fits : FitsAfter later after
+
+  module _ (moments : C → Option (ℕ → ℕ)) (tells : LinkTells L) (contents : K → Option (List ℕ)) (faults : K → ℕ) (flows : FlowsGiven) (session : Session) (limits : ServingLimits)
+      (ws later : List (RowWorker N K L C)) (openers : List Session) (passes : List (Pass FanStep (Fan K))) (after : Ending) (r : RunsFlows moments tells flows session limits ws later openers passes after) where
+    begun : All (IsNewWorker session) (map told_by ws)
+    begun =
+        All-map (IsNewWorker session) told_by ws
+        (λ place d less.
+        let w : RowWorker N K L C = slice_index_or ws place d in
+        let opener : w.opener ≡ session =
+        subst (λ (x : Session). x ≡ session) (get_or-map opener_of ws place d (opener_of d) less)
+        (subst (λ (l : List Session). slice_index_or l place (opener_of d) ≡ session) (sym r.openers_are)
+        (r.session_is place (opener_of d) (subst (λ (l : List Session). place < length l) r.openers_are (subst (λ n. place < n) (sym (length-map ws opener_of)) less)))) in
+        let nothing : entries_with w.trace.pass ≡ [] =
+        r.fresh place w.trace.pass (subst (λ (l : List (Pass FanStep (Fan K))). slice_get l place ≡ Some w.trace.pass) r.passes_are (pass_at ws place w (there ws place d less))) in
+        record { session_is = opener; rows = ap (λ (l : List FanStep). Some (reverse l)) nothing; unended = r.unended place d less })
+
+    pub receives : (left : List (Flow K)) (came : List Came) (ending : Ending) (links_were links_are : List L) (clocks_were clocks_are : List C)
+        → map link_of ws ≡ links_were → map link_of later ≡ links_are → map clock_of ws ≡ clocks_were → map clock_of later ≡ clocks_are
+        → length left ≡ flows.places → length came ≡ flows.places → HaveConcluded flows.given contents faults (rows_of (map told_by later)) (passes_in later) left came
+        → ending ≡ ending_by (is_any_cut came) after
+        → ReceivesFlows moments tells contents faults flows session limits (timed_links links_were clocks_were) (timed_links links_are clocks_are) left came ending
+    receives left came ending links_were links_are clocks_were clocks_are had have clocks_had clocks_have left_many came_many h is =
+        record {
+          were = map told_by ws;
+          are = map told_by later;
+          links_had = links_told ws ∙ had;
+          clocks_had = clocks_told ws ∙ clocks_had;
+          begun = begun;
+          links_have = links_told later ∙ have;
+          clocks_have = clocks_told later ∙ clocks_have;
+          as_many = length-map later told_by ∙ (r.as_many ∙ sym (length-map ws told_by));
+          served = all_served moments tells flows limits ws later r.served;
+          places = (left_many, came_many);
+          concluded = record { turns = h.turns; owned = h.owned; behind = h.behind; each = h.each; cut = λ v c k p at_came at_pass. absurd (cc (at_pass)) };
+          broken = λ link t e broke v c at.
+              let back = told_at later link t e in
+              let w = back.0 in
+              let among : link < length ws = subst (λ n. link < n) r.as_many (slice_get_within later link w back.1) in
+              let same : slice_index_or later link w ≡ w = get_or_from_slice_get later link w w back.1 in
+              let why = subst (λ (x : RowWorker N K L C). (x.end ≡ Some ends.Stopped) ⊎ (x.end ≡ Some ends.WriteFault)) (sym same) (subst (λ (x : Worker L C ToldRows). (x.end ≡ Some ends.Stopped) ⊎ (x.end ≡ Some ends.WriteFault)) (sym back.2) broke) in
+              let low : v < flows.places = subst (λ n. v < n) came_many (slice_get_within came v c at) in
+              let seen = subst (λ (x : RowWorker N K L C). HasSeenFault v x.trace.pass) same (r.over link w among why v low) in
+              h.cut v c link w.trace.pass at (pass_at later link w back.1) seen;
+          after = after;
+          fits = fits_told later after r.fits;
+          ending_is = is;
+        }

@@ -1,0 +1,4 @@
+pub mod Passes
+pub mod Concluded
+pub mod Run
+pub mod Inside
