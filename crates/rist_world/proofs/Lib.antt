@@ -1,4 +1,5 @@
 pub mod MarkLemmas
+pub mod SoundLemmas
 pub mod TallyLemmas
 pub mod SenderLemmas
 pub mod ReceiverLemmas

@@ -66,7 +66,6 @@ behind first second sealer gives = ap (drop 16) gives.taken ∙ ap (λ n. drop n
 made_is_setup : (links : ℕ) → IsSetup (made_setup links)
 made_is_setup links = record {
   session = record { even = refl; low = omega arith; high = omega arith; bits = inl refl; simple = λ e. cc (e) };
-  reduced = refl;
   even = refl;
   small = omega arith;
   delay = omega arith;

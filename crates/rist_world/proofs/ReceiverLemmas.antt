@@ -180,6 +180,7 @@ step_goes setup old r w b t from told outcome stepped counted is s back =
         far = is.far;
         links = is.links;
         forward = is.forward;
+        taken = is.taken;
         receiver = if_stepped outcome stepped s.state from.steps is.receiver;
         control = s.settings ∙ is.control;
         shutter = s.pairs ∙ ap (λ (x : ShutterState). record { session = x.session; sealer = after_pairs (answer_count (result_of outcome)) x.sealer }) is.shutter;
@@ -270,6 +271,7 @@ carried_then setup old t from link place d media says counts came size is = reco
   far = is.far;
   links = is.links;
   forward = is.forward;
+  taken = is.taken;
   receiver = is.receiver;
   control = is.control;
   shutter = is.shutter;
@@ -342,6 +344,7 @@ begins session near far near_sealer far_sealer links s n f r w forward backward 
   far = f_is;
   links = ap length forward_is ∙ length-replicate links none ∙ sym count;
   forward = λ link d among. ap (λ (ws : List WireState). (get_or ws link d).put) forward_is ∙ ap (λ (x : WireState). x.put) (get_or-replicate links link none d (omega (arith, among, count)));
+  taken = λ link among. tt;
   receiver = receiver;
   control = control;
   shutter = shutter;

@@ -76,6 +76,7 @@ drilled setup near far script links first last moves counts hash count begun goe
       makes = run.makes;
       few = run.few;
       follows = run.whole;
+      taken = g.stands.taken;
       counted = counted setup g.to g.stands;
       digest = is ∙ ap sha256 g.stands.written;
       exact = λ legal sealer short. plays_short setup near far (reverse moves) g.to legal sealer short run.makes;

@@ -1,7 +1,7 @@
 -- A world after a move of its sender.
 use Rattle.std.proofs.Common.{◌≡◌, ◌∙◌, ℕ, ◌+◌, ◌%◌, ◌^◌, ◌<◌, Bool, true, false, not, List, [], ◌∷◌, ◌++◌, length, map, get_or, Option, None, Some, Result, Ok, Err, IfOk, refl, sym, ap, subst, arith, slice_get}
-use Rattle.std.specs.Prelude.{◌==◌, ◌&&◌, nat_lt, if◌then◌else◌, unwrap_or}
-use Rattle.std.specs.List.{list_any}
+use Rattle.std.specs.Prelude.{All, ◌==◌, ◌&&◌, nat_lt, if◌then◌else◌, unwrap_or}
+use Rattle.std.specs.List.{AllByRecursion, list_any}
 use Rattle.std.proofs.lemmas.Bool.{ltb-true, lt-ltb}
 use Rattle.rtcp_compound.specs.Compound.{Content}
 use Rattle.outside_net.specs.Links.{Datagram, Quiet}
@@ -11,7 +11,8 @@ use Rattle.rist_wire.specs.Item.{item_of}
 use Rattle.std.proofs.lemmas.List.{get_or-map}
 use Rattle.sender_rules.specs.declared.send_bad.SendBad.{SendBad}
 use Rattle.outside_net.specs.Links.{LinkTells}
-use Rattle.rist_sender.specs.Links.{datagrams_taken}
+use Rattle.rist_sender.specs.declared.answer.Answer.TheVariants.{Took}
+use Rattle.rist_sender.specs.Links.{Tried, datagrams_taken}
 use Rattle.rist_sender.specs.History.{tried_as, tried_on}
 use Rattle.rist_sender.specs.Calls.{Work, IfElse, Sends, FeedsBack, Ticks, renewed_as}
 use Rattle.rist_sender.specs.Sender.{SenderState, IsSenderAfter, StaysSet, DoesWork, rules_of}
@@ -19,12 +20,13 @@ use Rattle.world_rules.specs.SentFlows.{SentFlow, is_known}
 use Rattle.world_rules.specs.Flows.{flows_of, flow_after, put_on}
 use Rattle.world_rules.specs.World.{Setup, Course, links_of, rules_after, Works, SendsIn, TicksIn, FeedsIn, FeedsIf, compound_carried, compound_read, backward_at, renewed_in, is_new}
 use Rattle.world_rules.proofs.CountLemmas.{sends_count, feeds_count, ticks_count}
-use Rattle.world_rules.proofs.AddLemmas.{Adds, adds_sends, adds_feeds, adds_ticks, flow_stays, first_stays, names_stay, known_by_name, taken_since}
+use Rattle.world_rules.proofs.AddLemmas.{Adds, adds_sends, adds_feeds, adds_ticks, flow_stays, first_stays, names_stay, known_by_name, put_since, taken_since}
 use Rattle.world_rules.specs.Counts.{sent_count, sent_by, media_of}
 use Rattle.rist_ends.specs.Counts.{capped}
 use Rattle.rist_world.specs.Tally.{TallyState, IsTallyOf}
 use Rattle.rist_world.proofs.MarkLemmas.{marked_since}
-use Rattle.rist_world.specs.World.{WireState, WorldState, IsWorldAfter, GoesTo, GoesOn, AreMarked, datagrams_on, marked, none}
+use Rattle.rist_world.proofs.SoundLemmas.{none_failed, each_taken, all_more}
+use Rattle.rist_world.specs.World.{WireState, WorldState, IsWorldAfter, GoesTo, GoesOn, AreMarked, AreSound, datagrams_on, marked, none}
 
 -- what a wire tells
 abbrev pub wire_line : LinkTells WireState
@@ -52,20 +54,39 @@ rules_stay setup from to a =
       keepalives = setup.keepalives;
     })
 
+-- what a link was given in a call, as it was put on it
+gained_more : (setup : Setup) (old : WorldState) (s : SenderState) (f : List WireState) (from : Course) (Q : Work → Type 0) (d : DoesWork wire_line old.sender s old.forward f from.work Q)
+    → IsWorldAfter setup old from → (link : ℕ) (w : WireState) (among : link < length old.forward)
+    → tried_on (tried_as (flow_after setup.flow from.work.history) setup.session) link d.to.history
+    ≡ tried_on (tried_as (flow_after setup.flow from.work.history) setup.session) link from.work.history ++ (d.given link w among).gained
+gained_more setup old s f from Q d is link w among =
+    let flow : old.sender.flow ≡ flow_after setup.flow from.work.history = λ i. (is.rules i).flow in
+    let g = d.given link w among in
+    subst (λ session. tried_on (tried_as (flow_after setup.flow from.work.history) session) link d.to.history ≡ tried_on (tried_as (flow_after setup.flow from.work.history) session) link from.work.history ++ g.gained) is.sending
+    (subst (λ flow. tried_on (tried_as flow old.sender.session) link d.to.history ≡ tried_on (tried_as flow old.sender.session) link from.work.history ++ g.gained) flow g.more)
+
 -- a link holds what was put on it, after a call too
 forward_goes : (setup : Setup) (old : WorldState) (s : SenderState) (f : List WireState) (from : Course) (Q : Work → Type 0) (d : DoesWork wire_line old.sender s old.forward f from.work Q) → Adds from.work d.to
     → IsWorldAfter setup old from → (link : ℕ) (w : WireState) → link < links_of setup
     → (get_or f link w).put ≡ datagrams_taken (put_on setup.flow setup.session link d.to.history)
 forward_goes setup old s f from Q d a is link w among =
-    let flow : old.sender.flow ≡ flow_after setup.flow from.work.history = λ i. (is.rules i).flow in
-    let g = d.given link w (omega (arith, among, is.links)) in
-    let more : tried_on (tried_as (flow_after setup.flow from.work.history) setup.session) link d.to.history
-    ≡ tried_on (tried_as (flow_after setup.flow from.work.history) setup.session) link from.work.history ++ g.gained
-    = subst (λ session. tried_on (tried_as (flow_after setup.flow from.work.history) session) link d.to.history ≡ tried_on (tried_as (flow_after setup.flow from.work.history) session) link from.work.history ++ g.gained) is.sending
-    (subst (λ flow. tried_on (tried_as flow old.sender.session) link d.to.history ≡ tried_on (tried_as flow old.sender.session) link from.work.history ++ g.gained) flow g.more) in
+    let within : link < length old.forward = omega (arith, among, is.links) in
+    let g = d.given link w within in
     some_same _ _ g.delivers.taken
     ∙ ap (λ ds. ds ++ datagrams_taken g.gained) (is.forward link w among)
-    ∙ sym (taken_since setup.flow setup.session link from.work d.to g.gained a more)
+    ∙ sym (taken_since setup.flow setup.session link from.work d.to g.gained a (gained_more setup old s f from Q d is link w within))
+
+-- and it took all of that, after a call too
+taken_goes : (setup : Setup) (old : WorldState) (s : SenderState) (f : List WireState) (from : Course) (Q : Work → Type 0) (d : DoesWork wire_line old.sender s old.forward f from.work Q) → Adds from.work d.to
+    → length f ≡ length old.forward → AreSound f → IsWorldAfter setup old from → (link : ℕ) → link < links_of setup
+    → AllByRecursion (λ (t : Tried). t.answer ≡ Took) (put_on setup.flow setup.session link d.to.history)
+taken_goes setup old s f from Q d a size sound is link among =
+    let within : link < length old.forward = omega (arith, among, is.links) in
+    let g = d.given link none within in
+    subst (λ ts. AllByRecursion (λ (t : Tried). t.answer ≡ Took) ts)
+    (sym (put_since setup.flow setup.session link from.work d.to g.gained a (gained_more setup old s f from Q d is link none within)))
+    (all_more (λ (t : Tried). t.answer ≡ Took) (put_on setup.flow setup.session link from.work.history) g.gained (is.taken link among)
+    (each_taken g.gained (none_failed _ _ _ g.delivers.faults (sound link (omega (arith, within, size)))) g.delivers.answers))
 
 -- a link's marks are those of what was put on it, after a call too
 marks_go : (setup : Setup) (old : WorldState) (s : SenderState) (f : List WireState) (m : List (List (Option Bool))) (from : Course) (Q : Work → Type 0) (d : DoesWork wire_line old.sender s old.forward f from.work Q) → Adds from.work d.to
@@ -94,9 +115,9 @@ tally_same setup old from to count t = record { kind = t.kind; sent = t.sent ∙
 
 -- after a call the world goes on
 pub sender_goes : (setup : Setup) (old : WorldState) (far : Session) (s : SenderState) (f : List WireState) (m : List (List (Option Bool))) (t : TallyState) (from : Course) (Q : Work → Type 0) (R : Work → Work → Type 0) → ((to : Work) → Q to → Adds from.work to)
-    → ((to : Work) → Q to → R from.work to) → ((to : Work) → Q to → IsTallyOf setup t (worked to from)) → far ≡ old.far → length m ≡ length old.media → AreMarked old.far old.media f m → IsWorldAfter setup old from → StaysSet old.sender s → length f ≡ length old.forward → DoesWork wire_line old.sender s old.forward f from.work Q
+    → ((to : Work) → Q to → R from.work to) → ((to : Work) → Q to → IsTallyOf setup t (worked to from)) → far ≡ old.far → length m ≡ length old.media → AreMarked old.far old.media f m → IsWorldAfter setup old from → StaysSet old.sender s → length f ≡ length old.forward → AreSound f → DoesWork wire_line old.sender s old.forward f from.work Q
     → GoesTo setup (record { sender = s; near = old.near; receiver = old.receiver; far = far; written = old.written; forward = f; backward = old.backward; media = m; flows = old.flows; tally = t }) (λ to. Works R from to)
-sender_goes setup old far s f m t from Q R adds means counts same count marks is stays size d =
+sender_goes setup old far s f m t from Q R adds means counts same count marks is stays size sound d =
     let a = adds d.to d.fact in
     record {
       to = worked d.to from;
@@ -109,6 +130,7 @@ sender_goes setup old far s f m t from Q R adds means counts same count marks is
         far = same ∙ is.far;
         links = size ∙ is.links;
         forward = λ link w among. forward_goes setup old s f from Q d a is link w among;
+        taken = λ link among. taken_goes setup old s f from Q d a size sound is link among;
         receiver = is.receiver;
         control = is.control;
         shutter = is.shutter;
@@ -122,19 +144,20 @@ sender_goes setup old far s f m t from Q R adds means counts same count marks is
     }
 
 -- the same where the links were lent as a slice, and came back
-lent_goes : (setup : Setup) (old : WorldState) (far : Session) (s : SenderState) (lent f back shown : List WireState) (m : List (List (Option Bool))) (t : TallyState) (from : Course) (Q : List WireState → Work → Type 0) (R : Work → Work → Type 0) → lent ≡ old.forward → back ≡ f
+lent_goes : (setup : Setup) (old : WorldState) (far : Session) (s : SenderState) (lent f back shown checked : List WireState) (m : List (List (Option Bool))) (t : TallyState) (from : Course) (Q : List WireState → Work → Type 0) (R : Work → Work → Type 0) → lent ≡ old.forward → back ≡ f
     → far ≡ old.far → length m ≡ length old.media → shown ≡ back → AreMarked old.far old.media shown m
-    → ((to : Work) → Q old.forward to → Adds from.work to) → ((to : Work) → Q old.forward to → R from.work to) → ((to : Work) → Q old.forward to → IsTallyOf setup t (worked to from)) → IsWorldAfter setup old from → StaysSet old.sender s → length f ≡ length lent
+    → ((to : Work) → Q old.forward to → Adds from.work to) → ((to : Work) → Q old.forward to → R from.work to) → ((to : Work) → Q old.forward to → IsTallyOf setup t (worked to from)) → IsWorldAfter setup old from → StaysSet old.sender s → length f ≡ length lent → checked ≡ back → AreSound checked
     → DoesWork wire_line old.sender s lent f from.work (Q lent)
     → GoesTo setup (record { sender = s; near = old.near; receiver = old.receiver; far = far; written = old.written; forward = back; backward = old.backward; media = m; flows = old.flows; tally = t }) (λ to. Works R from to)
-lent_goes setup old far s lent f back shown m t from Q R was now same count seen marks adds means counts is stays size d =
+lent_goes setup old far s lent f back shown checked m t from Q R was now same count seen marks adds means counts is stays size looked sound d =
     subst (λ fs. GoesTo setup (record { sender = s; near = old.near; receiver = old.receiver; far = far; written = old.written; forward = fs; backward = old.backward; media = m; flows = old.flows; tally = t }) (λ to. Works R from to)) (sym now)
-    (sender_goes setup old far s f m t from (Q old.forward) R adds means counts same count (subst (λ fs. AreMarked old.far old.media fs m) (seen ∙ now) marks) is stays (size ∙ ap length was) (subst (λ fs. DoesWork wire_line old.sender s fs f from.work (Q fs)) was d))
+    (sender_goes setup old far s f m t from (Q old.forward) R adds means counts same count (subst (λ fs. AreMarked old.far old.media fs m) (seen ∙ now) marks) is stays (size ∙ ap length was) (subst AreSound (looked ∙ now) sound) (subst (λ fs. DoesWork wire_line old.sender s fs f from.work (Q fs)) was d))
 
 -- what each call means in the setup
-pub sends_in : (setup : Setup) (old : WorldState) (from : Course) (us : ℕ) (payload : List ℕ) (result : Result Unit SendBad) (to : Work) → IsWorldAfter setup old from
+pub sends_in : (setup : Setup) (old : WorldState) (from : Course) (us : ℕ) (payload : List ℕ) (result : Result Unit SendBad) (to : Work) → All (λ octet. octet < 256) payload → IsWorldAfter setup old from
     → Sends (rules_of old.sender) (length old.forward) us payload result from.work to → SendsIn setup us payload from.work to
-sends_in setup old from us payload result to is sends = record {
+sends_in setup old from us payload result to are is sends = record {
+  octets = are;
   result = result;
   sends = subst (λ links. Sends (rules_after setup from.work.history) links us payload result from.work to) is.links
       (subst (λ rules. Sends rules (length old.forward) us payload result from.work to) is.rules sends);
@@ -156,29 +179,29 @@ feeds_in setup old from us link compound result to is feeds = record {
       (subst (λ rules. FeedsBack rules (length old.forward) us link compound result from.work to) is.rules feeds);
 }
 
-pub send_goes : (setup : Setup) (old : WorldState) (far : Session) (s : SenderState) (lent f back shown : List WireState) (m : List (List (Option Bool))) (t : TallyState) (from : Course) (us : ℕ) (payload : List ℕ) (result : Result Unit SendBad) → t ≡ record old.tally { sent = capped (old.tally.sent + sent_by result) } → IsWorldAfter setup old from → StaysSet old.sender s
-    → lent ≡ old.forward → back ≡ f → far ≡ old.far → length m ≡ length old.media → shown ≡ back → AreMarked old.far old.media shown m → length f ≡ length lent → DoesWork wire_line old.sender s lent f from.work (Sends (rules_of old.sender) (length lent) us payload result from.work)
+pub send_goes : (setup : Setup) (old : WorldState) (far : Session) (s : SenderState) (lent f back shown checked : List WireState) (m : List (List (Option Bool))) (t : TallyState) (from : Course) (us : ℕ) (payload : List ℕ) (result : Result Unit SendBad) → All (λ octet. octet < 256) payload → t ≡ record old.tally { sent = capped (old.tally.sent + sent_by result) } → IsWorldAfter setup old from → StaysSet old.sender s
+    → lent ≡ old.forward → back ≡ f → far ≡ old.far → length m ≡ length old.media → shown ≡ back → AreMarked old.far old.media shown m → length f ≡ length lent → checked ≡ back → AreSound checked → DoesWork wire_line old.sender s lent f from.work (Sends (rules_of old.sender) (length lent) us payload result from.work)
     → GoesTo setup (record { sender = s; near = old.near; receiver = old.receiver; far = far; written = old.written; forward = back; backward = old.backward; media = m; flows = old.flows; tally = t }) (λ to. Works (SendsIn setup us payload) from to)
-send_goes setup old far s lent f back shown m t from us payload result counted is stays was now same count seen marks size d =
-    lent_goes setup old far s lent f back shown m t from (λ fs. Sends (rules_of old.sender) (length fs) us payload result from.work) (SendsIn setup us payload) was now same count seen marks
-    (λ to q. adds_sends _ _ us payload result from.work to q) (λ to q. sends_in setup old from us payload result to is q)
-    (λ to q. tally_sent setup old.tally t from to (sent_by result) counted (sends_count _ _ us payload result from.work to q) is.tally) is stays size d
+send_goes setup old far s lent f back shown checked m t from us payload result are counted is stays was now same count seen marks size looked sound d =
+    lent_goes setup old far s lent f back shown checked m t from (λ fs. Sends (rules_of old.sender) (length fs) us payload result from.work) (SendsIn setup us payload) was now same count seen marks
+    (λ to q. adds_sends _ _ us payload result from.work to q) (λ to q. sends_in setup old from us payload result to are is q)
+    (λ to q. tally_sent setup old.tally t from to (sent_by result) counted (sends_count _ _ us payload result from.work to q) is.tally) is stays size looked sound d
 
-pub tick_goes : (setup : Setup) (old : WorldState) (far : Session) (s : SenderState) (lent f back shown : List WireState) (m : List (List (Option Bool))) (from : Course) (us : ℕ) (result : Result Unit SendBad) → IsWorldAfter setup old from → StaysSet old.sender s
-    → lent ≡ old.forward → back ≡ f → far ≡ old.far → length m ≡ length old.media → shown ≡ back → AreMarked old.far old.media shown m → length f ≡ length lent → DoesWork wire_line old.sender s lent f from.work (Ticks (rules_of old.sender) (length lent) us result from.work)
+pub tick_goes : (setup : Setup) (old : WorldState) (far : Session) (s : SenderState) (lent f back shown checked : List WireState) (m : List (List (Option Bool))) (from : Course) (us : ℕ) (result : Result Unit SendBad) → IsWorldAfter setup old from → StaysSet old.sender s
+    → lent ≡ old.forward → back ≡ f → far ≡ old.far → length m ≡ length old.media → shown ≡ back → AreMarked old.far old.media shown m → length f ≡ length lent → checked ≡ back → AreSound checked → DoesWork wire_line old.sender s lent f from.work (Ticks (rules_of old.sender) (length lent) us result from.work)
     → GoesTo setup (record { sender = s; near = old.near; receiver = old.receiver; far = far; written = old.written; forward = back; backward = old.backward; media = m; flows = old.flows; tally = old.tally }) (λ to. Works (TicksIn setup us) from to)
-tick_goes setup old far s lent f back shown m from us result is stays was now same count seen marks size d =
-    lent_goes setup old far s lent f back shown m old.tally from (λ fs. Ticks (rules_of old.sender) (length fs) us result from.work) (TicksIn setup us) was now same count seen marks
+tick_goes setup old far s lent f back shown checked m from us result is stays was now same count seen marks size looked sound d =
+    lent_goes setup old far s lent f back shown checked m old.tally from (λ fs. Ticks (rules_of old.sender) (length fs) us result from.work) (TicksIn setup us) was now same count seen marks
     (λ to q. adds_ticks _ _ us result from.work to q) (λ to q. ticks_in setup old from us result to is q)
-    (λ to q. tally_same setup old.tally from to (ticks_count _ _ us result from.work to q) is.tally) is stays size d
+    (λ to q. tally_same setup old.tally from to (ticks_count _ _ us result from.work to q) is.tally) is stays size looked sound d
 
-pub feedback_goes : (setup : Setup) (old : WorldState) (far : Session) (s : SenderState) (lent f back shown : List WireState) (m : List (List (Option Bool))) (from : Course) (us link : ℕ) (compound : List Content) (result : Result ℕ SendBad) → IsWorldAfter setup old from → StaysSet old.sender s
-    → lent ≡ old.forward → back ≡ f → far ≡ old.far → length m ≡ length old.media → shown ≡ back → AreMarked old.far old.media shown m → length f ≡ length lent → DoesWork wire_line old.sender s lent f from.work (FeedsBack (rules_of old.sender) (length lent) us link compound result from.work)
+pub feedback_goes : (setup : Setup) (old : WorldState) (far : Session) (s : SenderState) (lent f back shown checked : List WireState) (m : List (List (Option Bool))) (from : Course) (us link : ℕ) (compound : List Content) (result : Result ℕ SendBad) → IsWorldAfter setup old from → StaysSet old.sender s
+    → lent ≡ old.forward → back ≡ f → far ≡ old.far → length m ≡ length old.media → shown ≡ back → AreMarked old.far old.media shown m → length f ≡ length lent → checked ≡ back → AreSound checked → DoesWork wire_line old.sender s lent f from.work (FeedsBack (rules_of old.sender) (length lent) us link compound result from.work)
     → GoesTo setup (record { sender = s; near = old.near; receiver = old.receiver; far = far; written = old.written; forward = back; backward = old.backward; media = m; flows = old.flows; tally = old.tally }) (λ to. Works (FeedsIn setup us link compound) from to)
-feedback_goes setup old far s lent f back shown m from us link compound result is stays was now same count seen marks size d =
-    lent_goes setup old far s lent f back shown m old.tally from (λ fs. FeedsBack (rules_of old.sender) (length fs) us link compound result from.work) (FeedsIn setup us link compound) was now same count seen marks
+feedback_goes setup old far s lent f back shown checked m from us link compound result is stays was now same count seen marks size looked sound d =
+    lent_goes setup old far s lent f back shown checked m old.tally from (λ fs. FeedsBack (rules_of old.sender) (length fs) us link compound result from.work) (FeedsIn setup us link compound) was now same count seen marks
     (λ to q. adds_feeds _ _ us link compound result from.work to q) (λ to q. feeds_in setup old from us link compound result to is q)
-    (λ to q. tally_same setup old.tally from to (feeds_count _ _ us link compound result from.work to q) is.tally) is stays size d
+    (λ to q. tally_same setup old.tally from to (feeds_count _ _ us link compound result from.work to q) is.tally) is stays size looked sound d
 
 -- ---- another flow
 
@@ -209,6 +232,7 @@ renew_goes setup old s flow first flows from is more new value state = record {
     far = is.far;
     links = is.links;
     forward = is.forward;
+    taken = is.taken;
     receiver = is.receiver;
     control = is.control;
     shutter = is.shutter;

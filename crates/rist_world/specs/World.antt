@@ -1,5 +1,6 @@
 -- What a contract sees of a simulated network.
 use Rattle.std.specs.Prelude.{◌≡◌, ◌<◌, ◌*◌, ◌++◌, ℕ, List, [], length, map, drop, get_or, Bool, true, false, Option}
+use Rattle.std.specs.List.{AllByRecursion}
 use Rattle.outside_net.specs.Links.{Datagram}
 use Rattle.receiver_rules.specs.Steps.{has_ended}
 use Rattle.receiver_rules.specs.History.{released_bytes}
@@ -11,9 +12,10 @@ use Rattle.rist_ends.specs.declared.settings.Settings.{Settings as ReceiverSetti
 use Rattle.rist_ends.specs.Settings.{control_settings}
 use Rattle.rist_ends.specs.Receiver.{ReceiverState, IsReceiverAfter, settings_of}
 use Rattle.rist_sender.specs.declared.settings.Settings.{Settings as SenderSettings}
+use Rattle.rist_sender.specs.declared.answer.Answer.TheVariants.{Took}
 use Rattle.rist_sender.specs.Sender.{SenderState, IsSenderAfter, has_keepalives, rules_of}
 use Rattle.world_rules.specs.SentFlows.{SentFlow}
-use Rattle.world_rules.specs.Flows.{flows_of}
+use Rattle.world_rules.specs.Flows.{flows_of, put_on}
 use Rattle.world_rules.specs.World.{Setup, Course, links_of, rules_after, forward_on}
 use Rattle.world_rules.specs.Counts.{media_of}
 use Rattle.rist_world.specs.Tally.{TallyState, IsTallyOf}
@@ -65,6 +67,16 @@ abbrev pub phase_of : Bool → Phase
 phase_of true = Ended
 phase_of false = Open
 
+-- no write on these links has failed
+abbrev pub AreSound : List WireState → Type 0
+AreSound wires = (link : ℕ) → link < length wires → (get_or wires link none).faults ≡ 0
+
+-- each datagram that the sender wrote was taken by its link: none was refused, and none was left
+abbrev pub AreAllTaken : Setup → Course → Type 0
+AreAllTaken setup course =
+    (link : ℕ) → link < links_of setup
+    → AllByRecursion (λ tried. tried.answer ≡ Took) (put_on setup.flow setup.session link course.work.history)
+
 -- the datagrams of each link
 abbrev pub datagrams_on : List WireState → List (List Datagram)
 datagrams_on wires = map (λ (w : WireState). w.put) wires
@@ -86,7 +98,7 @@ pub record AreMarks (setup : Setup) (media : List (List (Option Bool))) (course 
       → get_or media link [] ≡ map (media_of setup.session) (forward_on setup course link)
 
 -- A world stands for a course: its sender for the work, its receiver for the steps, and each link holds what was put on
--- it. What was written is what the steps released, the marks are those of what the sender put, and what is counted is
+-- it, which is all that the sender wrote on it. What was written is what the steps released, the marks are those of what the sender put, and what is counted is
 -- what came of it.
 pub record IsWorldAfter (setup : Setup) (w : WorldState) (course : Course) : Type 0 where
   pub sender : IsSenderAfter w.sender course.work
@@ -97,6 +109,7 @@ pub record IsWorldAfter (setup : Setup) (w : WorldState) (course : Course) : Typ
   pub links : length w.forward ≡ links_of setup
   pub forward : (link : ℕ) (d : WireState) → link < links_of setup
       → (get_or w.forward link d).put ≡ forward_on setup course link
+  pub taken : AreAllTaken setup course
   pub receiver : IsReceiverAfter w.receiver course.steps
   pub control : settings_of w.receiver ≡ setup.control
   pub shutter : w.receiver.reporter.shutter ≡ record { session = setup.session; sealer = course.sealer }

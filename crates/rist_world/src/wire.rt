@@ -1,5 +1,5 @@
 //! All datagrams that were ever put on a link, one way.
-ghost use Rattle.std.specs.Prelude.{◌≡◌, ◌≤◌, ◌++◌, ◌∷◌, [], length, take, IfOk, IfSome, OnErr, option_map, slice_get};
+ghost use Rattle.std.specs.Prelude.{◌≡◌, ◌≤◌, ◌++◌, ◌∷◌, ◌==◌, not, [], length, take, IfOk, IfSome, OnErr, option_map, slice_get};
 ghost use Rattle.link_channels.specs.declared.bounds.TheConstants.{MAX_DATAGRAM};
 
 use link_channels::{Channel, MAX_DATAGRAM};
@@ -96,7 +96,9 @@ impl Wire {
     }
 
     /// Whether a write has failed.
-    pub(crate) fn failed(&self) -> bool {
+    pub(crate) fn failed(&self) -> bool
+        ensures value { result ≡ not (self.now.faults == 0) }
+    {
         self.faults != 0
     }
 }

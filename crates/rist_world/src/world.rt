@@ -5,7 +5,7 @@ ghost use Rattle.std.specs.Prelude.{nat_lt, option_map, if◌then◌else◌, ◌
 ghost use Rattle.std.specs.List.{list_any};
 ghost use Rattle.rist_reporter.specs.OneMore.{outs_of};
 ghost use Rattle.world_rules.specs.World.{datagram_made};
-ghost use Rattle.rist_world.specs.World.{datagrams_on, none};
+ghost use Rattle.rist_world.specs.World.{AreSound, datagrams_on, none};
 
 use crate::marks::{Marks, mark_all, media_in};
 use crate::tally::Tally;
@@ -363,7 +363,9 @@ fn held_on(wires: &[Wire], link: u8) -> u64
 }
 
 // Refuses where some write has failed.
-fn check_memory(wires: &[Wire]) -> Result<(), NoMemory> {
+fn check_memory(wires: &[Wire]) -> Result<(), NoMemory>
+    ensures sound { IfOk result (λ done. AreSound wires.now) }
+{
     for wire in wires.iter() {
         if wire.failed() {
             return Err(NoMemory);

@@ -1,7 +1,7 @@
 -- What a call adds to a sender's history: no other flow begins in it.
-use Rattle.std.proofs.Common.{◌≡◌, ◌∙◌, ℕ, ◌+◌, Bool, true, false, List, [], ◌∷◌, ◌++◌, map, Option, Result, refl, sym, ap, subst, append_assoc, append-nil, drop}
+use Rattle.std.proofs.Common.{◌≡◌, ◌∙◌, ℕ, ◌+◌, Bool, true, false, List, [], ◌∷◌, ◌++◌, map, Option, Result, refl, sym, ap, append_assoc, append-nil, drop}
 use Rattle.std.specs.Prelude.{◌==◌, ◌||◌, if◌then◌else◌}
-use Rattle.std.specs.List.{range_with_len, list_any}
+use Rattle.std.specs.List.{list_any}
 use Rattle.sender_rules.specs.Sendings.{Packet}
 use Rattle.rtcp_compound.specs.Compound.{Content}
 use Rattle.outside_net.specs.Links.{Datagram}
@@ -9,7 +9,6 @@ use Rattle.psk_seal.specs.declared.sealer.Pair.{Pair}
 use Rattle.rist_wire.specs.declared.session.Session.{Session}
 use Rattle.rist_wire.specs.Writing.{is_spent}
 use Rattle.rist_sender.specs.declared.answer.Answer.{Answer}
-use Rattle.rist_sender.specs.declared.answer.Answer.TheVariants.{Took, NoPeer, Failed}
 use Rattle.sender_rules.specs.declared.send_bad.SendBad.{SendBad}
 use Rattle.rist_sender.specs.Links.{Tried, taken_as, datagrams_taken}
 use Rattle.rist_sender.specs.Messages.{Message}
@@ -188,15 +187,22 @@ taken_append (t ∷ ts) us =
     ∙ sym (append_assoc (taken_as t.channel t.octets t.answer) (datagrams_taken ts) (datagrams_taken us))
 
 -- what a link was given in a call stands behind what was put on it before
-pub taken_since : (flow : ℕ) (session : Session) (link : ℕ) (from to : Work) (gained : List Tried) → Adds from to
+pub put_since : (flow : ℕ) (session : Session) (link : ℕ) (from to : Work) (gained : List Tried) → Adds from to
     → tried_on (tried_as (flow_after flow from.history) session) link to.history ≡ tried_on (tried_as (flow_after flow from.history) session) link from.history ++ gained
-    → datagrams_taken (put_on flow session link to.history) ≡ datagrams_taken (put_on flow session link from.history) ++ datagrams_taken gained
-taken_since flow session link from to gained a is =
+    → put_on flow session link to.history ≡ put_on flow session link from.history ++ gained
+put_since flow session link from to gained a is =
     let seen = tried_as (flow_after flow from.history) session in
     let behind : tried_on seen link a.added ≡ gained
     = same_behind (tried_on seen link from.history) (tried_on seen link a.added) gained
     (sym (tried_added seen link a.added from.history) ∙ ap (tried_on seen link) (sym a.is) ∙ is) in
-    ap (λ h. datagrams_taken (put_on flow session link h)) a.is
-    ∙ ap datagrams_taken (put_added flow session link a.added from.history a.same)
-    ∙ taken_append (put_on flow session link from.history) (tried_on seen link a.added)
-    ∙ ap (λ ts. datagrams_taken (put_on flow session link from.history) ++ datagrams_taken ts) behind
+    ap (put_on flow session link) a.is
+    ∙ put_added flow session link a.added from.history a.same
+    ∙ ap (λ ts. put_on flow session link from.history ++ ts) behind
+
+-- and so does what it took
+pub taken_since : (flow : ℕ) (session : Session) (link : ℕ) (from to : Work) (gained : List Tried) → Adds from to
+    → tried_on (tried_as (flow_after flow from.history) session) link to.history ≡ tried_on (tried_as (flow_after flow from.history) session) link from.history ++ gained
+    → datagrams_taken (put_on flow session link to.history) ≡ datagrams_taken (put_on flow session link from.history) ++ datagrams_taken gained
+taken_since flow session link from to gained a is =
+    ap datagrams_taken (put_since flow session link from to gained a is)
+    ∙ taken_append (put_on flow session link from.history) gained

@@ -4,7 +4,7 @@ use Rattle.std.specs.Prelude.{nat_le, nat_lt, ◌==◌, ◌&&◌, ◌||◌, if�
 use Rattle.std.proofs.lemmas.Bool.{eqb-true, leb-true, ltb-true, le-ltb, true≢false}
 use Rattle.seq_unwrap.specs.declared.width.Width.{Width}
 use Rattle.seq_unwrap.specs.Nearest.{cycle_of}
-use Rattle.receiver_rules.specs.Steps.{tick_of, has_ended, is_end as ends_stream, Event, end_step}
+use Rattle.receiver_rules.specs.Steps.{tick_of, has_ended, is_end as ends_stream, Event}
 use Rattle.receiver_rules.specs.Steps as buffer
 use Rattle.receiver_rules.specs.History.{released_payloads}
 use Rattle.rtcp_compound.specs.Compound.{Content}
@@ -157,7 +157,7 @@ sent_if : (setup : Setup) (low count micros : ℕ) (payload : List ℕ) (fits : 
     → IfElse fits (Works (SendsIn setup micros payload) from to) (to ≡ from) → IsTrue setup low (suc count) to
 sent_if setup low count micros payload true from to legal within few t w =
     left setup low (suc count) (t.current ∷ t.older) from to (ap (λ (c : Course). c.steps) w.is) t.brings
-    (sends_leaves setup low count (links_of setup) micros t.current t.older payload w.works.result from.work to.work legal (leb-true _ _ few) within.low within.high t.sound w.works.sends)
+    (sends_leaves setup low count (links_of setup) micros t.current t.older payload w.works.result from.work to.work legal (leb-true _ _ few) w.works.octets within.low within.high t.sound w.works.sends)
 sent_if setup low count micros payload false from to legal within few t same = subst (λ (c : Course). IsTrue setup low (suc count) c) (sym same) (more_true setup low count from t)
 
 renewed_if : (setup : Setup) (low count flow first : ℕ) (new : Bool) (from to : Course) → is_new setup from flow ≡ new → IsTrue setup low count from

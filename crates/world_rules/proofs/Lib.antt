@@ -1,6 +1,7 @@
 pub mod FlowLemmas
 pub mod RunLemmas
 pub mod GrowLemmas
+pub mod FullLemmas
 pub mod MessageLemmas
 pub mod SenderLemmas
 pub mod CourseLemmas

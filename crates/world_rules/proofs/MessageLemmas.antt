@@ -1,7 +1,7 @@
 -- What a datagram of a sender brings at the other end.
 use Rattle.std.proofs.Common.{◌≡◌, ◌∙◌, ℕ, ◌/◌, ◌^◌, ◌<◌, Bool, true, false, List, get_or, Option, None, Some, is_some, IfSome, Result, Ok, Err, refl, sym, subst, arith}
-use Rattle.std.specs.Prelude.{nat_lt, if◌then◌else◌}
-use Rattle.std.proofs.lemmas.Bool.{ltb-true, ltb-false}
+use Rattle.std.specs.Prelude.{nat_lt, if◌then◌else◌, All}
+use Rattle.std.proofs.lemmas.Bool.{ltb-true, ltb-false, true≢false}
 use Rattle.std.proofs.lemmas.List.{get_or_past}
 use Rattle.seq_unwrap.specs.declared.width.Width.{Width}
 use Rattle.receiver_rules.specs.Steps.{Event}
@@ -22,13 +22,15 @@ use Rattle.rist_wire.specs.declared.bad.WireBad.{WireBad}
 use Rattle.rist_wire.specs.declared.item.Item.{Item}
 use Rattle.rist_wire.specs.declared.item.Kind.TheVariants.{Media as MediaKind, Control as ControlKind, Keepalive as KeepaliveKind}
 use Rattle.rist_wire.specs.Session.{IsSession}
-use Rattle.rist_wire.specs.Messages.{rtcp_item, keepalive_item}
+use Rattle.gre_tunnel.specs.Reading.{reading_of as gre_reading_of}
+use Rattle.rist_wire.specs.Messages.{Message as WireMessage, rtcp_item, keepalive_item, item_by}
+use Rattle.rist_wire.specs.Tunnel.{tunnel_message}
 use Rattle.rist_wire.specs.Item.{item_of, message_of, message_on, item_in}
 use Rattle.rist_wire.specs.Writing.{IsPair, next_pair}
 use Rattle.rist_wire.specs.Packets.{media_value}
 use Rattle.rist_wire.specs.Sent.{IsMediaOut}
-use Rattle.rist_wire.specs.Datagrams.{channel_of, channel_on, datagram_of, datagram_on}
-use Rattle.rist_wire.proofs.BackLemmas.{item-back}
+use Rattle.rist_wire.specs.Datagrams.{channel_of, channel_on, datagram_of, datagram_on, tunnel_octets}
+use Rattle.rist_wire.proofs.BackLemmas.{IsCarried, item-back}
 use Rattle.rist_wire.proofs.MediaLemmas.{media-taken}
 use Rattle.request_rules.specs.Steps.{receiver_input}
 use Rattle.receiver_rules.specs.ReceiverSteps.{buffer_event}
@@ -37,6 +39,7 @@ use Rattle.rist_sender.specs.Links.{Tried}
 use Rattle.rist_sender.specs.Messages.{Message, Original, Retransmission, Report, RttAnswer, Alive, media_of, message_octets, message_channel, message_datagram}
 use Rattle.world_rules.specs.SentFlows.{SentFlow, stream_of, was_sent, BringsCopy}
 use Rattle.world_rules.specs.World.{IsSealerOf}
+use Rattle.world_rules.proofs.FullLemmas.{IsControl, control_full, alive_carried}
 use Rattle.world_rules.proofs.GrowLemmas.{Grows, brings_grows}
 
 -- what comes with an item, as the buffer sees it
@@ -52,6 +55,7 @@ pub record IsPacketSent (width : Width) (flows : List SentFlow) (flow : ℕ) (pa
   pub sends : was_sent flows flow packet.number ≡ true
   pub is : (again : Bool) → arrival_of (media_value width (media_of flow again packet)) ≡ copy_of (stream_of width flows flow) packet.number again
   pub out : (again : Bool) → IsMediaOut (media_of flow again packet)
+  pub octets : All (λ octet. octet < 256) packet.payload
 
 -- a message says such a packet, or none
 abbrev pub IsMessage : Width → List SentFlow → ℕ → Message → Type 0
@@ -66,6 +70,7 @@ packet_grows width old new flow packet g p = record {
   sends = g.sends flow packet.number p.sends;
   is = λ again. p.is again ∙ sym (g.same flow packet.number again p.sends);
   out = p.out;
+  octets = p.octets;
 }
 
 pub tried_grows : (session : Session) (old new : List SentFlow) (tried : Tried) → Grows session.width old new → Brings session old tried → Brings session new tried
@@ -102,15 +107,15 @@ next_is_some (Some s) = refl
 
 -- ---- what each message brings
 
-media_brings : (session : Session) (flows : List SentFlow) (pair : Option Pair) (flow : ℕ) (again : Bool) (packet : Packet) (us : ℕ) → IsSession session → session.full ≡ false → IsPair pair
+media_brings : (session : Session) (flows : List SentFlow) (pair : Option Pair) (flow : ℕ) (again : Bool) (packet : Packet) (us : ℕ) → IsSession session → IsPair pair
     → is_some pair ≡ is_some session.pass → IsPacketSent session.width flows flow packet
     → BringsCopy session.width flows (event_read us (item_of session (channel_of session MediaKind) (datagram_of session pair MediaKind (message_octets flow session.width session.echo (if again then Retransmission packet else Original packet)))))
-media_brings session flows pair flow true packet us legal reduced fits paired p =
-    let taken = media-taken session pair (media_of flow true packet) legal (λ main. fits) paired (p.out true) (λ full. absurd (cc (reduced, full))) in
+media_brings session flows pair flow true packet us legal fits paired p =
+    let taken = media-taken session pair (media_of flow true packet) legal (λ main. fits) paired (p.out true) (λ full. p.octets) in
     subst (λ item. BringsCopy session.width flows (event_read us item)) (sym taken)
     (record { number = packet.number; sends = p.sends; is = p.is true })
-media_brings session flows pair flow false packet us legal reduced fits paired p =
-    let taken = media-taken session pair (media_of flow false packet) legal (λ main. fits) paired (p.out false) (λ full. absurd (cc (reduced, full))) in
+media_brings session flows pair flow false packet us legal fits paired p =
+    let taken = media-taken session pair (media_of flow false packet) legal (λ main. fits) paired (p.out false) (λ full. p.octets) in
     subst (λ item. BringsCopy session.width flows (event_read us item)) (sym taken)
     (record { number = packet.number; sends = p.sends; is = p.is false })
 
@@ -122,33 +127,54 @@ alive_brings : (width : Width) (flows : List SentFlow) (us : ℕ) (read : Result
 alive_brings width flows us (Ok keepalive) = tt
 alive_brings width flows us (Err bad) = tt
 
-control_brings : (session : Session) (flows : List SentFlow) (pair : Option Pair) (octets : List ℕ) (us : ℕ) → IsSession session → session.full ≡ false → IsPair pair → is_some pair ≡ is_some session.pass
+-- what is read as control, or not at all, is no packet
+read_brings : (session : Session) (flows : List SentFlow) (us : ℕ) (read : Result WireMessage WireBad) → IsControl read → BringsCopy session.width flows (event_read us (item_in session.tunnel read))
+read_brings session flows us (Ok message) is =
+    subst (λ kind. BringsCopy session.width flows (event_read us (item_by session.tunnel kind message.octets))) (sym is)
+    (rtcp_brings session.width flows us message.octets (fault_of message.octets))
+read_brings session flows us (Err bad) is = tt
+
+-- a full datagram, which the tunnel alone has
+control_in_full : (session : Session) (profile : Profile) (flows : List SentFlow) (pair : Option Pair) (octets : List ℕ) (us : ℕ) → session.profile ≡ profile → session.full ≡ true → IsSession session → IsPair pair
+    → is_some pair ≡ is_some session.pass → BringsCopy session.width flows (event_read us (item_of session (channel_of session ControlKind) (datagram_of session pair ControlKind octets)))
+unfolding item_of message_of
+control_in_full session Simple flows pair octets us is full legal fits paired = absurd (true≢false (sym full ∙ (legal.simple is).full))
+control_in_full session Main flows pair octets us is full legal fits paired =
+    subst (λ profile. BringsCopy session.width flows (event_read us (item_in session.tunnel (message_on profile (channel_on profile ControlKind) session (datagram_on profile session pair ControlKind octets))))) (sym is)
+    (subst (λ b. BringsCopy session.width flows (event_read us (item_in session.tunnel (tunnel_message session (tunnel_octets (record session { full = b }) pair ControlKind octets) (gre_reading_of (tunnel_octets (record session { full = b }) pair ControlKind octets)))))) (sym full)
+    (read_brings session flows us _ (control_full session pair octets legal fits paired)))
+
+control_brings : (session : Session) (flows : List SentFlow) (pair : Option Pair) (octets : List ℕ) (us : ℕ) → IsSession session → IsPair pair → is_some pair ≡ is_some session.pass
     → BringsCopy session.width flows (event_read us (item_of session (channel_of session ControlKind) (datagram_of session pair ControlKind octets)))
-control_brings session flows pair octets us legal reduced fits paired =
-    let no : ControlKind ≡ KeepaliveKind → session.profile ≡ Main = λ e. cc in
-    subst (λ item. BringsCopy session.width flows (event_read us item))
-    (sym (item-back session pair ControlKind octets legal (λ main. fits) (λ main. paired) no (λ full. absurd (cc (reduced, full)))))
-    (rtcp_brings session.width flows us octets (fault_of octets))
+control_brings session flows pair octets us legal fits paired = by session.full refl
+  where
+    by : (full : Bool) → session.full ≡ full → BringsCopy session.width flows (event_read us (item_of session (channel_of session ControlKind) (datagram_of session pair ControlKind octets)))
+    by true full = control_in_full session session.profile flows pair octets us refl full legal fits paired
+    by false reduced =
+        let no : ControlKind ≡ KeepaliveKind → session.profile ≡ Main = λ e. cc in
+        subst (λ item. BringsCopy session.width flows (event_read us item))
+        (sym (item-back session pair ControlKind octets legal (λ main. fits) (λ main. paired) no (λ full. absurd (true≢false (sym full ∙ reduced)))))
+        (rtcp_brings session.width flows us octets (fault_of octets))
 
 -- a keepalive that would go in the Simple Profile would be read as control
-keepalive_on : (session : Session) (profile : Profile) (flows : List SentFlow) (pair : Option Pair) (octets : List ℕ) (us : ℕ) → session.profile ≡ profile → IsSession session → session.full ≡ false → IsPair pair
+keepalive_on : (session : Session) (profile : Profile) (flows : List SentFlow) (pair : Option Pair) (octets : List ℕ) (us : ℕ) → session.profile ≡ profile → IsCarried octets → IsSession session → IsPair pair
     → is_some pair ≡ is_some session.pass → BringsCopy session.width flows (event_read us (item_of session (channel_of session KeepaliveKind) (datagram_of session pair KeepaliveKind octets)))
 unfolding item_of message_of
-keepalive_on session Simple flows pair octets us is legal reduced fits paired =
+keepalive_on session Simple flows pair octets us is carries legal fits paired =
     subst (λ profile. BringsCopy session.width flows (event_read us (item_in session.tunnel (message_on profile (channel_on profile KeepaliveKind) session (datagram_on profile session pair KeepaliveKind octets))))) (sym is)
     (subst (λ profile. BringsCopy session.width flows (event_read us (item_in session.tunnel (message_on profile (channel_on profile ControlKind) session (datagram_on profile session pair ControlKind octets))))) is
-    (control_brings session flows pair octets us legal reduced fits paired))
-keepalive_on session Main flows pair octets us is legal reduced fits paired =
+    (control_brings session flows pair octets us legal fits paired))
+keepalive_on session Main flows pair octets us is carries legal fits paired =
     subst (λ item. BringsCopy session.width flows (event_read us item))
-    (sym (item-back session pair KeepaliveKind octets legal (λ main. fits) (λ main. paired) (λ e. is) (λ full. absurd (cc (reduced, full)))))
+    (sym (item-back session pair KeepaliveKind octets legal (λ main. fits) (λ main. paired) (λ e. is) (λ full. carries)))
     (alive_brings session.width flows us (keepalive_reading_of octets))
 
 -- a datagram of a flow, under a pair
-pub message_brings : (session : Session) (flows : List SentFlow) (pair : Option Pair) (flow : ℕ) (message : Message) (us : ℕ) → IsSession session → session.full ≡ false → IsPair pair
+pub message_brings : (session : Session) (flows : List SentFlow) (pair : Option Pair) (flow : ℕ) (message : Message) (us : ℕ) → flow < 2 ^ 32 → IsSession session → IsPair pair
     → is_some pair ≡ is_some session.pass → IsMessage session.width flows flow message
     → BringsCopy session.width flows (event_read us (item_of session (message_channel session message) (message_datagram flow session pair message)))
-message_brings session flows pair flow (Original packet) us legal reduced fits paired is = media_brings session flows pair flow false packet us legal reduced fits paired is
-message_brings session flows pair flow (Retransmission packet) us legal reduced fits paired is = media_brings session flows pair flow true packet us legal reduced fits paired is
-message_brings session flows pair flow (Report status) us legal reduced fits paired is = control_brings session flows pair _ us legal reduced fits paired
-message_brings session flows pair flow (RttAnswer status echo) us legal reduced fits paired is = control_brings session flows pair _ us legal reduced fits paired
-message_brings session flows pair flow Alive us legal reduced fits paired is = keepalive_on session session.profile flows pair _ us refl legal reduced fits paired
+message_brings session flows pair flow (Original packet) us small legal fits paired is = media_brings session flows pair flow false packet us legal fits paired is
+message_brings session flows pair flow (Retransmission packet) us small legal fits paired is = media_brings session flows pair flow true packet us legal fits paired is
+message_brings session flows pair flow (Report status) us small legal fits paired is = control_brings session flows pair _ us legal fits paired
+message_brings session flows pair flow (RttAnswer status echo) us small legal fits paired is = control_brings session flows pair _ us legal fits paired
+message_brings session flows pair flow Alive us small legal fits paired is = keepalive_on session session.profile flows pair _ us refl (alive_carried flow small) legal fits paired

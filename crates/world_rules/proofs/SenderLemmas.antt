@@ -1,6 +1,6 @@
 -- What holds of a sender's history, event after event: what it wrote are copies of what it sent.
 use Rattle.std.proofs.Common.{◌≡◌, ◌∙◌, ℕ, zero, suc, ◌+◌, ◌%◌, ◌^◌, ◌<◌, ◌≤◌, Bool, true, false, not, List, [], ◌∷◌, ◌++◌, length, map, take, Option, None, Some, is_some, Result, refl, sym, ap, subst, arith}
-use Rattle.std.specs.Prelude.{nat_le, nat_lt, ◌==◌, ◌&&◌, if◌then◌else◌}
+use Rattle.std.specs.Prelude.{nat_le, nat_lt, ◌==◌, ◌&&◌, if◌then◌else◌, All}
 use Rattle.std.specs.List.{filter, filter_map, find, range_with_len}
 use Rattle.std.proofs.lemmas.Bool.{eq-eqb, le-leb, lt-ltb}
 use Rattle.std.proofs.lemmas.Bool.Decides.{nat_tests}
@@ -29,7 +29,7 @@ use Rattle.rist_rtt.specs.Echo.{first_request}
 use Rattle.rist_sender.specs.Messages.{Message, Original, Retransmission, Report, RttAnswer, Alive, Status, media_of}
 use Rattle.rist_sender.specs.History.{Write, Event, Wrote, effective_time, sendings_of, sending_as, packet_count, is_down, tried_as}
 use Rattle.rist_sender.specs.Calls.{Work, Due, Rules, IfElse, WritesInTurn, Spreads, SendsPacket, SendsNext, TicksInTurn, Sends, FeedsBack, Ticks, after_due, after_write, without_pair, called_at, written_as, with_event, after_copy, after_sent, is_settled, is_ended, packet_with, packet_for, is_sharing, links_tried, asked_numbers, packets_again, rtt_answer, on_link, renewed_as, status_at}
-use Rattle.rist_sender.proofs.LawLemmas.{media-is}
+use Rattle.rist_sender.proofs.LawLemmas.{media-is, octets-are}
 use Rattle.world_rules.specs.SentFlows.{SentPayload, SentFlow, is_known, with_sent, tick_at, payload_at, stream_in, stream_of, was_sent, AreSteady}
 use Rattle.world_rules.proofs.GrowLemmas.{Grows, grows_not, grows_sent, grows_flow}
 use Rattle.world_rules.specs.Flows.{payload_of, flows_of, flow_after, first_after, put_on}
@@ -173,12 +173,12 @@ message_keeps tick (Report status) before = refl
 message_keeps tick (RttAnswer status echo) before = refl
 message_keeps tick Alive before = refl
 
-one_brings : (setup : Setup) (flows : List SentFlow) (flow : ℕ) (write : Write) (link : ℕ) → IsSetup setup → IsPair write.pair → is_some write.pair ≡ is_some setup.session.pass
+one_brings : (setup : Setup) (flows : List SentFlow) (flow : ℕ) (write : Write) (link : ℕ) → flow < 2 ^ 32 → IsSetup setup → IsPair write.pair → is_some write.pair ≡ is_some setup.session.pass
     → IsMessage setup.session.width flows flow write.message → AllBring setup.session flows (if write.link == link then tried_as flow setup.session write ∷ [] else [])
 unfolding tried_as
-one_brings setup flows flow write link legal fits paired is =
+one_brings setup flows flow write link small legal fits paired is =
     elim (write.link == link) as (λ (c : Bool). AllBring setup.session flows (if c then tried_as flow setup.session write ∷ [] else [])) [
-      | true ↦ (record { is = λ us. message_brings setup.session flows write.pair flow write.message us legal.session legal.reduced fits paired is }, tt)
+      | true ↦ (record { is = λ us. message_brings setup.session flows write.pair flow write.message us small legal.session fits paired is }, tt)
       | false ↦ tt
     ]
 
@@ -201,7 +201,7 @@ wrote setup low count current older write work to legal s is sealer fits paired 
   forward = λ link. subst (λ h. AllBring setup.session (current ∷ older) (put_on setup.flow setup.session link h)) (sym is)
       (bring_append setup.session (current ∷ older) (put_on setup.flow setup.session link work.history) _ (s.forward link)
       (subst (λ flow. AllBring setup.session (current ∷ older) (if write.link == link then tried_as flow setup.session write ∷ [] else [])) (sym s.flow)
-      (one_brings setup (current ∷ older) current.flow write link legal fits paired message)));
+      (one_brings setup (current ∷ older) current.flow write link s.small legal fits paired message)));
   sealer = sealer;
 }
 
@@ -326,9 +326,9 @@ as_sent : (width : Width) (f : SentFlow) (older : List SentFlow) (tick : ℕ) (p
 as_sent width f older tick payload None again = sym (last_stream width f (payload_of tick (packet_with (f.first + length f.sent) (tick % 2 ^ 32) payload None)) older again)
 as_sent width f older tick payload (Some told) again = sym (last_stream width f (payload_of tick (packet_with (f.first + length f.sent) (tick % 2 ^ 32) payload (Some told))) older again)
 
-new_packet : (width : Width) (nulls : Bool) (f : SentFlow) (older : List SentFlow) (tick : ℕ) (payload : List ℕ) → f.flow % 2 ≡ 0 → f.flow < 2 ^ 32 → length payload ≤ 1500
+new_packet : (width : Width) (nulls : Bool) (f : SentFlow) (older : List SentFlow) (tick : ℕ) (payload : List ℕ) → f.flow % 2 ≡ 0 → f.flow < 2 ^ 32 → length payload ≤ 1500 → All (λ octet. octet < 256) payload
     → IsPacketSent width (flow_with (payload_of tick (packet_for nulls (f.first + length f.sent) tick payload)) f ∷ older) f.flow (packet_for nulls (f.first + length f.sent) tick payload)
-new_packet width nulls f older tick payload even small few =
+new_packet width nulls f older tick payload even small few are =
     let packet = packet_for nulls (f.first + length f.sent) tick payload in
     record {
       sends = subst (λ n. was_sent (flow_with (payload_of tick packet) f ∷ older) f.flow n ≡ true)
@@ -336,14 +336,15 @@ new_packet width nulls f older tick payload even small few =
           (last_sent f (payload_of tick packet) older);
       is = λ again. as_sent width f older tick payload (if nulls then stripping_of payload else None) again;
       out = λ again. media-is nulls again f.flow (f.first + length f.sent) tick payload even small few;
+      octets = octets-are nulls (f.first + length f.sent) tick payload are;
     }
 
 -- a payload took its number
-sent : (setup : Setup) (low count : ℕ) (f : SentFlow) (older : List SentFlow) (nulls : Bool) (payload : List ℕ) (work : Work) → low ≤ effective_time work.history → length payload ≤ 1500
+sent : (setup : Setup) (low count : ℕ) (f : SentFlow) (older : List SentFlow) (nulls : Bool) (payload : List ℕ) (work : Work) → low ≤ effective_time work.history → length payload ≤ 1500 → All (λ octet. octet < 256) payload
     → IsSound setup low count f older work
     → IsSound setup low (suc count) (flow_with (payload_of (effective_time work.history) (packet_for nulls (f.first + length f.sent) (effective_time work.history) payload)) f) older
     (after_sent (packet_for nulls (f.first + length f.sent) (effective_time work.history) payload) work)
-sent setup low count f older nulls payload work within few s =
+sent setup low count f older nulls payload work within few are s =
     let tick : ℕ = effective_time work.history in
     let packet = packet_for nulls (f.first + length f.sent) tick payload in
     let p : SentPayload = payload_of tick packet in
@@ -359,7 +360,7 @@ sent setup low count f older nulls payload work within few s =
       last = last_tick;
       time = s.time;
       flows = (record { steady = (record { low = within; high = s.time; rises = s.last }, steady); few = omega (arith, s.flows.0.few) }, more_flows low count older s.flows.1);
-      packets = (new_packet setup.session.width nulls f older tick payload s.even s.small few, packets_grow setup.session.width (f ∷ older) (flow_with p f ∷ older) f.flow (sent_packets (sendings_of work.history)) g s.packets);
+      packets = (new_packet setup.session.width nulls f older tick payload s.even s.small few are, packets_grow setup.session.width (f ∷ older) (flow_with p f ∷ older) f.flow (sent_packets (sendings_of work.history)) g s.packets);
       forward = λ link. all_bring_grow setup.session (f ∷ older) (flow_with p f ∷ older) (put_on setup.flow setup.session link work.history) g (s.forward link);
       sealer = after_pair_of setup.session work.sealer s.sealer;
     }
@@ -393,9 +394,9 @@ pub record Leaves (setup : Setup) (low count : ℕ) (flows : List SentFlow) (to 
   pub sound : IsSound setup low count current older to
   pub grows : Grows setup.session.width flows (current ∷ older)
 
-send_next : (setup : Setup) (rules : Rules) (low count : ℕ) (f : SentFlow) (older : List SentFlow) (payload : List ℕ) (from to : Work) → IsSetup setup → length payload ≤ 1500 → low ≤ effective_time from.history
+send_next : (setup : Setup) (rules : Rules) (low count : ℕ) (f : SentFlow) (older : List SentFlow) (payload : List ℕ) (from to : Work) → IsSetup setup → length payload ≤ 1500 → All (λ octet. octet < 256) payload → low ≤ effective_time from.history
     → rules.first + packet_count from.history ≡ f.first + length f.sent → IsSound setup low count f older from → SendsNext rules payload from to → Leaves setup low (suc count) (f ∷ older) to
-send_next setup rules low count f older payload from to legal few within number s sends = by (is_ended (rules.first + packet_count from.history) from) sends
+send_next setup rules low count f older payload from to legal few are within number s sends = by (is_ended (rules.first + packet_count from.history) from) sends
   where
     by : (c : Bool)
         → IfElse c (to ≡ without_pair from) (SendsPacket rules (packet_count from.history) (effective_time from.history) (packet_for rules.nulls (rules.first + packet_count from.history) (effective_time from.history) payload) from to)
@@ -415,15 +416,15 @@ send_next setup rules low count f older payload from to legal few within number 
           current = flow_with p f;
           older = older;
           sound = spread_of setup rules low (suc count) (flow_with p f) older (packet_count from.history) tick (packet_for rules.nulls (f.first + length f.sent) tick payload) from to legal s.sealer
-              (new_packet setup.session.width rules.nulls f older tick payload s.even s.small few) packet
-              (sent setup low count f older rules.nulls payload from within few s);
+              (new_packet setup.session.width rules.nulls f older tick payload s.even s.small few are) packet
+              (sent setup low count f older rules.nulls payload from within few are s);
           grows = grows_sent setup.session.width p f older;
         }
 
-pub sends_leaves : (setup : Setup) (low count links micros : ℕ) (f : SentFlow) (older : List SentFlow) (payload : List ℕ) (result : Result Unit SendBad) (from to : Work) → IsSetup setup → length payload ≤ 1500
+pub sends_leaves : (setup : Setup) (low count links micros : ℕ) (f : SentFlow) (older : List SentFlow) (payload : List ℕ) (result : Result Unit SendBad) (from to : Work) → IsSetup setup → length payload ≤ 1500 → All (λ octet. octet < 256) payload
     → low ≤ tick_of micros → tick_of micros < low + 2 ^ 31 → IsSound setup low count f older from → Sends (rules_after setup from.history) links micros payload result from to → Leaves setup low (suc count) (f ∷ older) to
-sends_leaves setup low count links micros f older payload result from to legal few above below s sends =
-    send_next setup (rules_after setup from.history) low count f older payload (called_at micros from) to legal few (omega (arith, above))
+sends_leaves setup low count links micros f older payload result from to legal few are above below s sends =
+    send_next setup (rules_after setup from.history) low count f older payload (called_at micros from) to legal few are (omega (arith, above))
     (λ i. s.first i + s.many i) (called setup low count f older micros from below s) sends.writes
 
 pub feeds_leaves : (setup : Setup) (low count links micros link : ℕ) (f : SentFlow) (older : List SentFlow) (compound : List Content) (result : Result ℕ SendBad) (from to : Work) → IsSetup setup

@@ -3,7 +3,7 @@
 -- moves say so.
 use Rattle.std.specs.Prelude.{◌≡◌, ◌≤◌, ◌<◌, ◌^◌, ℕ, ◌%◌, List, [], ◌∷◌, ◌++◌, length, map, replicate, set, get_or}
 use Rattle.link_channels.specs.declared.bounds.TheConstants.{MAX_PAYLOAD}
-use Rattle.std.specs.Prelude.{slice_get, Bool, false, not, ◌&&◌, nat_le, nat_lt, ◌==◌, if◌then◌else◌, Option, None}
+use Rattle.std.specs.Prelude.{All, slice_get, Bool, false, not, ◌&&◌, nat_le, nat_lt, ◌==◌, if◌then◌else◌, Option, None}
 use Rattle.std.specs.Prelude.{Some, is_some, IfSome, Result, Ok, Err}
 use Rattle.receiver_rules.specs.Steps.{tick_of, has_ended}
 use Rattle.sender_rules.specs.Bonding.{Bonding, link_count}
@@ -46,11 +46,9 @@ pub record Setup : Type 0 where
   pub keepalives : Bool
   pub control : ControlSettings
 
--- the session is one of the reduced form, the first flow is an SSRC with its lowest bit cleared, and payloads wait at
--- the receiver
+-- the session is one, the first flow is an SSRC with its lowest bit cleared, and payloads wait at the receiver
 pub record IsSetup (setup : Setup) : Type 0 where
   pub session : IsSession setup.session
-  pub reduced : setup.session.full ≡ false
   pub even : setup.flow % 2 ≡ 0
   pub small : setup.flow < 2 ^ 32
   pub delay : 1 ≤ setup.control.limits.playout_delay
@@ -117,8 +115,9 @@ pub record Works (P : Work → Work → Type 0) (from to : Course) : Type 0 wher
     carried = from.carried;
   }
 
--- a payload is sent
+-- a payload, which is octets, is sent
 pub record SendsIn (setup : Setup) (micros : ℕ) (payload : List ℕ) (from to : Work) : Type 0 where
+  pub octets : All (λ octet. octet < 256) payload
   pub result : Result Unit SendBad
   pub sends : Sends (rules_after setup from.history) (links_of setup) micros payload result from to
 

@@ -10,5 +10,5 @@ returns c = record {
   value = ok_then c.mark_all.result c.mark_all.ensures.value
       (λ marks setup from is.
       let now = subst (λ w. IsWorldAfter setup w from) (sym c.self.view_is) is in
-      send_goes setup _ _ c.send-sent.new.self _ _ _ _ _ c.send.new.self from c.args.us c.args.payload.now c.send-sent.result c.send.ensures.value now c.send-sent.ensures.set c.deref_mut.ensures.value (search (rules, places)) c.mark_all.ensures.same (search (rules, places)) c.deref-2.ensures.value (lent_marks _ _ _ _ _ _ _ (search rules) c.deref_mut-2.ensures.value (search (rules, places)) marks) c.send-sent.auto.links (c.send-sent.ensures.work from.work now.sender));
+      send_goes setup _ _ c.send-sent.new.self _ _ _ _ _ _ c.send.new.self from c.args.us c.args.payload.now c.send-sent.result (search (rules, places, c.shared_slice_known-1.given)) c.send.ensures.value now c.send-sent.ensures.set c.deref_mut.ensures.value (search (rules, places)) c.mark_all.ensures.same (search (rules, places)) c.deref-2.ensures.value (lent_marks _ _ _ _ _ _ _ (search rules) c.deref_mut-2.ensures.value (search (rules, places)) marks) c.send-sent.auto.links c.deref.ensures.value c.in_ok-check_memory.ensures.sound (c.send-sent.ensures.work from.work now.sender));
 }
