@@ -1,3 +1,4 @@
 pub mod Asks
 pub mod Help
 pub mod Checks
+pub mod Ranged

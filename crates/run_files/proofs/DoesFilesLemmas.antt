@@ -1,9 +1,10 @@
 -- What a command over a source and a sink does, by what its parts leave.
-use Rattle.std.proofs.Common.{◌≡◌, ◌∙◌, refl, sym, subst, ◌≢◌, ◌⊎◌, ℕ, Bool}
+use Rattle.std.proofs.Common.{◌≡◌, ◌∙◌, refl, sym, ap, subst, ◌≢◌, ◌⊎◌, ℕ, Bool}
 use mathlib.Core.Logic.{inl, inr}
 use Rattle.outside_host.specs.Shelf.{Shelf}
-use Rattle.rist_words.specs.CommandLine.{CommandLine, Replay, Show, Count, Pack, Split, Send, Recv, Gate, Drill}
+use Rattle.rist_words.specs.CommandLine.{CommandLine, ReplayCommand, Replay, Show, Count, Pack, Split, Send, Recv, Gate, Drill}
 use Rattle.std.specs.Prelude.{IsTrue}
+use Rattle.std.proofs.lemmas.Bool.{true≢false}
 use Rattle.outside_io.specs.Causes.{HasOpenCause}
 use Rattle.rist_words.specs.Ranges.{IsInRange}
 use Rattle.run_parts.specs.Objects.{Tells}
@@ -14,7 +15,7 @@ use Rattle.run_parts.specs.Causes.{fault_of}
 use Rattle.run_files.specs.DoesFiles.{DoesFiles}
 use Rattle.run_files.specs.Ends.{IsFilesEnd}
 use Rattle.run_files.specs.Frame.{KeepsOthers, OpensSourceFirst}
-use Rattle.run_parts.specs.Hosts.{IsFresh}
+use Rattle.run_files.specs.Ready.{IsReady, is_packing}
 use Rattle.run_files.specs.Untouched.{IsShowing, Untouched}
 use Rattle.run_files.proofs.ExactLemmas.{ran_reached, ran_epochs, ran_front}
 use Rattle.run_files.proofs.CutOffLemmas.{ran_part}
@@ -36,15 +37,19 @@ fault_memory e = cc
 not_memory : statuses.Done ≡ statuses.Memory → ⊥
 not_memory e = cc
 
+-- a host that tells is ready for a replay
+ready : {I O E L C : Type 0} (told : Bool) (old : Shelf I O E L C) (c : CommandLine) (r : ReplayCommand) → c ≡ Replay r → IsTrue told → IsReady told old c
+ready told old c r is tells = (tells, λ packing. absurd (true≢false (sym packing ∙ ap is_packing is)))
+
 pub does_files : {I O E L C : Type 0} (told : Bool) (tells : Tells I O E) (c : CommandLine) (were are : ℕ) (old new : Shelf I O E L C) (status : Status)
     → IsInRange c
     → IsFilesEnd c status
     → HasOpenCause (fault_of status) were are
-    → (IsFresh told old → KeepsOthers old new c)
+    → (IsReady told old c → KeepsOthers old new c)
     → (IsTrue told → OpensSourceFirst old new c)
-    → (IsFresh told old → status ≢ statuses.OpenFault → status ≢ statuses.Memory → Ran tells old new c status)
+    → (IsReady told old c → status ≢ statuses.OpenFault → status ≢ statuses.Memory → Ran tells old new c status)
     → (IsTrue told → status ≡ statuses.OpenFault → Untouched old new c)
-    → (IsFresh told old → status ≡ statuses.Memory → Untouched old new c ⊎ (IsShowing c × Ran tells old new c status))
+    → (IsReady told old c → status ≡ statuses.Memory → Untouched old new c ⊎ (IsShowing c × Ran tells old new c status))
     → DoesFiles told tells c were are old new status
 does_files told tells c were are old new status range ends cause others order ran closed memory = record {
   ends = ends;
@@ -53,17 +58,17 @@ does_files told tells c were are old new status range ends cause others order ra
   ran = ran;
   closed = closed;
   memory = λ fresh refused. line_at_memory _ old new c status (memory fresh refused) refused;
-  reached = λ r is fresh done.
+  reached = λ r is told_is done.
       ran_reached _ old new r status (subst IsInRange is range).some_delay done
-      (ran_line _ _ _ _ _ _ is (ran fresh (λ e. not_open (sym done ∙ e)) (λ e. not_memory (sym done ∙ e))));
-  epochs = λ r is fresh done.
+      (ran_line _ _ _ _ _ _ is (ran (ready told old c r is told_is) (λ e. not_open (sym done ∙ e)) (λ e. not_memory (sym done ∙ e))));
+  epochs = λ r is told_is done.
       ran_epochs _ old new r status (subst IsInRange is range).some_delay done
-      (ran_line _ _ _ _ _ _ is (ran fresh (λ e. not_open (sym done ∙ e)) (λ e. not_memory (sym done ∙ e))));
-  front = λ r is fresh opened memory fault.
-      ran_front _ old new r status (subst IsInRange is range).some_delay memory fault (ran_line _ _ _ _ _ _ is (ran fresh opened memory));
-  cut = λ r is fresh fault.
+      (ran_line _ _ _ _ _ _ is (ran (ready told old c r is told_is) (λ e. not_open (sym done ∙ e)) (λ e. not_memory (sym done ∙ e))));
+  front = λ r is told_is opened memory fault.
+      ran_front _ old new r status (subst IsInRange is range).some_delay memory fault (ran_line _ _ _ _ _ _ is (ran (ready told old c r is told_is) opened memory));
+  cut = λ r is told_is fault.
       ran_part _ old new r status (subst IsInRange is range).some_delay fault
-      (ran_line _ _ _ _ _ _ is (ran fresh (λ e. fault_opened (sym fault ∙ e)) (λ e. fault_memory (sym fault ∙ e))));
+      (ran_line _ _ _ _ _ _ is (ran (ready told old c r is told_is) (λ e. fault_opened (sym fault ∙ e)) (λ e. fault_memory (sym fault ∙ e))));
   complete = λ fresh opened.
       ran_completes _ old new c status
       (λ e. opened (subst (λ s. HasOpenCause (fault_of s) were are) e cause))

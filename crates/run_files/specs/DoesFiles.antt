@@ -8,9 +8,9 @@ use Rattle.run_files.specs.CutOff.{WritesPartReached}
 use Rattle.run_files.specs.Ends.{IsFilesEnd}
 use Rattle.run_files.specs.Exact.{WritesReached, WritesEpochs, WritesInFront}
 use Rattle.run_files.specs.Frame.{KeepsOthers, OpensSourceFirst}
-use Rattle.run_parts.specs.Hosts.{IsFresh}
 use Rattle.run_parts.specs.Objects.{Tells}
 use Rattle.run_files.specs.Ran.{Ran}
+use Rattle.run_files.specs.Ready.{IsReady}
 use Rattle.run_files.specs.Untouched.{LeavesAtMemory, Untouched}
 use Rattle.run_parts.specs.declared.status.Status.{Status}
 use Rattle.run_parts.specs.declared.status.Status.TheVariants as statuses
@@ -21,26 +21,26 @@ pub record DoesFiles {I O E L C : Type 0} (told : Bool) (tells : Tells I O E) (c
   -- a status that is none of the command's never comes
   pub ends : IsFilesEnd c status
   -- it touches only what its line speaks of
-  pub others : IsFresh told old → KeepsOthers old new c
+  pub others : IsReady told old c → KeepsOthers old new c
   -- the sink is opened only after the source
   pub order : IsTrue told → OpensSourceFirst old new c
   -- every other answer but want of memory is about what the host's objects tell
-  pub ran : IsFresh told old → status ≢ statuses.OpenFault → status ≢ statuses.Memory → Ran tells old new c status
+  pub ran : IsReady told old c → status ≢ statuses.OpenFault → status ≢ statuses.Memory → Ran tells old new c status
   -- where nothing can be opened, all comes back as it was
   pub closed : IsTrue told → status ≡ statuses.OpenFault → Untouched old new c
   -- where memory is refused, nothing was touched; a showing may have written the lines of some records before
-  pub memory : IsFresh told old → status ≡ statuses.Memory → LeavesAtMemory tells old new c
+  pub memory : IsReady told old c → status ≡ statuses.Memory → LeavesAtMemory tells old new c
   -- what a replay leaves is the exact release set, in sent numbers
-  pub reached : (r : ReplayCommand) → c ≡ Replay r → IsFresh told old → status ≡ statuses.Done
+  pub reached : (r : ReplayCommand) → c ≡ Replay r → IsTrue told → status ≡ statuses.Done
       → WritesReached tells old new r
   -- where flows restart, what a replay leaves is the exact release set of one epoch after another
-  pub epochs : (r : ReplayCommand) → c ≡ Replay r → IsFresh told old → status ≡ statuses.Done
+  pub epochs : (r : ReplayCommand) → c ≡ Replay r → IsTrue told → status ≡ statuses.Done
       → WritesEpochs tells old new r
   -- however the reading of a capture ended, what a replay leaves is the exact release set of the whole records in front
-  pub front : (r : ReplayCommand) → c ≡ Replay r → IsFresh told old → status ≢ statuses.OpenFault
+  pub front : (r : ReplayCommand) → c ≡ Replay r → IsTrue told → status ≢ statuses.OpenFault
       → status ≢ statuses.Memory → status ≢ statuses.WriteFault → WritesInFront tells old new r status
   -- where a write failed, it is a front part of the release set of the whole records that were read
-  pub cut : (r : ReplayCommand) → c ≡ Replay r → IsFresh told old → status ≡ statuses.WriteFault
+  pub cut : (r : ReplayCommand) → c ≡ Replay r → IsTrue told → status ≡ statuses.WriteFault
       → WritesPartReached tells old new r
   -- where no call fails, a capture, or the source of a packing, is taken to its end
-  pub complete : IsFresh told old → (Rose faults_were faults_are → ⊥) → Completes tells old new c status
+  pub complete : IsReady told old c → (Rose faults_were faults_are → ⊥) → Completes tells old new c status

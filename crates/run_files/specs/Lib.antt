@@ -1,6 +1,7 @@
 pub mod Sessions
 pub mod Works
 pub mod Ends
+pub mod Ready
 pub mod Ran
 pub mod Frame
 pub mod Untouched

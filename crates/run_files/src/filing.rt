@@ -4,7 +4,7 @@ ghost use Rattle.outside_io.specs.Causes.{HasOpenCause};
 ghost use Rattle.rist_words.specs.Shown.{shown};
 ghost use Rattle.rist_words.specs.Ranges.{IsInRange};
 ghost use Rattle.run_parts.specs.Causes.{fault_of};
-ghost use Rattle.run_parts.specs.Hosts.{IsFresh};
+ghost use Rattle.run_files.specs.Ready.{IsReady};
 ghost use Rattle.run_files.specs.Works.{IsOverFiles};
 ghost use Rattle.run_files.specs.Ends.{IsFilesEnd};
 ghost use Rattle.run_files.specs.Ran.{Ran};
@@ -38,14 +38,15 @@ fn work_over_files<H: Host>(alloc: Global, host: &mut H, line: &Line<'_>) -> Sta
     ensures line { result ≢ Status.Usage }
     ensures ends { IsFilesEnd (shown line.now) result }
     ensures opened { HasOpenCause (fault_of result) (H.faults host.old) (H.faults host.new) }
-    ensures others { IsFresh H.tells (H.shelf host.old)
+    ensures others { IsReady H.tells (H.shelf host.old) (shown line.now)
         → KeepsOthers (H.shelf host.old) (H.shelf host.new) (shown line.now) }
     ensures order { IsTrue H.tells → OpensSourceFirst (H.shelf host.old) (H.shelf host.new) (shown line.now) }
-    ensures ran { IsFresh H.tells (H.shelf host.old) → result ≢ Status.OpenFault → result ≢ Status.Memory
+    ensures ran { IsReady H.tells (H.shelf host.old) (shown line.now)
+        → result ≢ Status.OpenFault → result ≢ Status.Memory
         → Ran ⟦<H as Telling>⟧.objects (H.shelf host.old) (H.shelf host.new) (shown line.now) result }
     ensures closed { IsTrue H.tells → result ≡ Status.OpenFault
         → Untouched (H.shelf host.old) (H.shelf host.new) (shown line.now) }
-    ensures memory { IsFresh H.tells (H.shelf host.old) → result ≡ Status.Memory
+    ensures memory { IsReady H.tells (H.shelf host.old) (shown line.now) → result ≡ Status.Memory
         → Untouched (H.shelf host.old) (H.shelf host.new) (shown line.now)
         ⊎ (IsShowing (shown line.now)
         × Ran ⟦<H as Telling>⟧.objects (H.shelf host.old) (H.shelf host.new) (shown line.now) result) }

@@ -8,7 +8,7 @@ ghost use Rattle.rist_words.specs.Shown.{shown, shown_replay, shown_show, shown_
 ghost use Rattle.rist_words.specs.Ranges.{IsInRange, IsInReplay, IsInShow, IsInCount, IsInPack};
 ghost use Rattle.run_parts.specs.Causes.{fault_of};
 ghost use Rattle.run_parts.specs.Frame.{draws_words};
-ghost use Rattle.run_parts.specs.Hosts.{IsFresh};
+ghost use Rattle.run_files.specs.Ready.{IsReady};
 ghost use Rattle.run_files.specs.Works.{IsOverFiles, Works, Walks, Replays, Shows, ShowsAs, Counts, PacksAs};
 ghost use Rattle.run_files.specs.Works.{form_of, pack_status};
 ghost use Rattle.run_files.specs.Ends.{IsFilesEnd, IsPackEnd, IsWalkEnd};
@@ -320,7 +320,7 @@ pub fn work<H: Host>(
     requires files { IsOverFiles (shown line.now) }
     ensures line { result.status ≢ Status.Usage }
     ensures ends { IsFilesEnd (shown line.now) result.status }
-    ensures work { IsFresh H.tells (H.shelf host.old)
+    ensures work { IsReady H.tells (H.shelf host.old) (shown line.now)
         → result.status ≢ Status.OpenFault → result.status ≢ Status.Memory
         → Works
         (DrawnFirst ⟦<H as Telling>⟧.objects (H.shelf host.old).entropies (H.shelf host.new).entropies)
@@ -330,7 +330,7 @@ pub fn work<H: Host>(
     ensures write { HasWriteCause (fault_of result.status) (H.Output.faults sink) (H.Output.faults result.sink) }
     ensures closed { IsTrue H.tells → result.status ≡ Status.OpenFault
         → IsUnbegun source result.source sink result.sink (H.shelf host.old) (H.shelf host.new) }
-    ensures memory { IsFresh H.tells (H.shelf host.old) → result.status ≡ Status.Memory
+    ensures memory { IsReady H.tells (H.shelf host.old) (shown line.now) → result.status ≡ Status.Memory
         → IsUnbegun source result.source sink result.sink (H.shelf host.old) (H.shelf host.new)
         ⊎ (IsShowing (shown line.now) × Works
         (DrawnFirst ⟦<H as Telling>⟧.objects (H.shelf host.old).entropies (H.shelf host.new).entropies)
@@ -339,7 +339,7 @@ pub fn work<H: Host>(
     ensures others { IsTrue H.tells
         → KeepsObjects (H.shelf host.old) (H.shelf host.new) (draws_words (shown line.now)) }
     ensures opened { HasOpenCause (fault_of result.status) (H.faults host.old) (H.faults host.new) }
-    ensures random { IsFresh H.tells (H.shelf host.old) → result.status ≡ Status.EntropyFault
+    ensures random { IsReady H.tells (H.shelf host.old) (shown line.now) → result.status ≡ Status.EntropyFault
         → FailedAt ⟦<H as Telling>⟧.objects (H.shelf host.old) (H.shelf host.new) }
 {
     match line {

@@ -1,6 +1,7 @@
 -- What the work leaves is what the line has done: source and sink were handed out for it, and came back.
 use Rattle.std.proofs.Common.{rules}
-use Rattle.run_parts.specs.Hosts.{IsFresh}
+use Rattle.rist_words.specs.Shown.{shown}
+use Rattle.run_files.specs.Ready.{IsReady}
 use Rattle.run_files.proofs.filing.work_over_files.Goals as goal
 
 pub returns-clause-ran : goal.returns-clause-ran
@@ -19,7 +20,7 @@ returns-clause-ran g c fresh unopened memory =
       read = search rules;
       write = search rules;
       random = λ e.
-          let still : IsFresh g.H.Host.tells (g.H.Host.shelf c.sink.new.self) = search rules in
+          let still : IsReady g.H.Host.tells (g.H.Host.shelf c.sink.new.self) (shown c.args.line.now) = search rules in
           let failed = c.work-source.ensures.random still e in
           record { words = failed.words; drawn = failed.drawn; took = search rules; gave = search rules; rose = failed.rose };
     }
