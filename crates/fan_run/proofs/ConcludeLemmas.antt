@@ -37,6 +37,7 @@ use Rattle.desk_run.specs.Receiving.{IsWhole}
 use Rattle.desk_run.specs.Turns.{HasConcluded}
 use Rattle.desk_run.proofs.AgreeLemmas.{agrees}
 use Rattle.desk_run.proofs.EndLemmas.{whole_end}
+use Rattle.desk_run.proofs.RunLemmas.{exactly}
 use Rattle.fan_run.specs.Concluded.{AreOwnedRows, HaveConcluded, no_passes, own_at, seen_by}
 
 -- ---- places of a list
@@ -164,10 +165,13 @@ have_concluded {N} {K} desk given contents faults passes fan left came closed en
           subst (λ (l : List Step). Agree (reverse l) (own_at v own)) (entries_at turns v)
           (agrees (turns_at v turns) (own_at v own) (none_behind turns own v behind) (λ k l at. seen_own turns own v k l (owns k) at)
           (of_links turns own passes v closed.own closed.others (λ k p at. (is k p at).rows v))) in
+          let con : HasConcluded (given v) (own_at v own) no_passes (is_cut_off c.answer) flow.receiver (contents flow.sink) (faults flow.sink) =
+          concluded_at (given v) old.0.receiver flow.receiver (contents old.0.sink) (contents flow.sink) (faults old.0.sink) (faults flow.sink) (seen v h) c.answer c.outs (own_at v own)
+          (closed.stood v old.0 old.1) e.stands e.settings e.cause agree in
           record {
-            concluded = concluded_at (given v) old.0.receiver flow.receiver (contents old.0.sink) (contents flow.sink) (faults old.0.sink) (faults flow.sink) (seen v h) c.answer c.outs (own_at v own)
-                (closed.stood v old.0 old.1) e.stands e.settings e.cause agree;
+            concluded = con;
             kept = refl;
+            exact = λ sound delay. exactly (given v) con.desk (own_at v own) flow.receiver.counts delay (ap settings_of con.receiver_is ∙ con.settings) (ap (λ (x : ReceiverState). x.counts) (sym con.receiver_is)) con.stands (con.received sound);
           };
       cut = λ v c k p at_came at_pass failed.
           let flow = at_some left v (subst (λ (n : ℕ). v < n) came_many (slice_get_within came v c at_came)) in

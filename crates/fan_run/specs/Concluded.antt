@@ -1,6 +1,6 @@
 -- What a desk of several flows leaves once each place was told the end. Lists of a link's own rows and steps stand with
 -- the oldest first, histories with the newest first.
-use Rattle.std.specs.Prelude.{◌≡◌, ◌≤◌, ℕ, List, [], map, length, reverse, slice_get, true, Option, Some}
+use Rattle.std.specs.Prelude.{◌≡◌, ◌≤◌, ℕ, List, [], map, length, reverse, slice_get, true, false, Option, Some}
 use Rattle.rist_desk.specs.declared.step.Step.{Step}
 use Rattle.rist_desk.specs.Desk.{Given, is_cut_off}
 use Rattle.turn_lock.specs.declared.pass.Pass.{Pass}
@@ -12,6 +12,7 @@ use Rattle.rist_fan.specs.declared.flow.Came.{Came}
 use Rattle.rist_fan.specs.declared.flow.Flow.{Flow}
 use Rattle.rist_fan.specs.Seen.{FanStep, seen}
 use Rattle.fan_desk.specs.Own.{HasSeenFault}
+use Rattle.desk_run.specs.Run.{IsExact}
 use Rattle.desk_run.specs.Turns.{HasConcluded}
 
 -- the steps that a place saw of rows
@@ -41,6 +42,9 @@ pub record IsConcluded {K : Type 0} (given : Given) (contents : K → Option (Li
   pub concluded : HasConcluded given own no_passes (is_cut_off came.answer) flow.receiver (contents flow.sink)
       (faults flow.sink)
   pub kept : concluded.desk.kept ≡ Some (reverse (with_end history came.answer came.outs))
+  -- where those steps are copies of what one sender sent, the sink holds exactly the payloads that were reached
+  pub exact : is_cut_off came.answer ≡ false → 1 ≤ given.settings.limits.playout_delay
+      → IsExact given concluded.desk own flow.receiver.counts
 
 -- There is one history of rows: each link's own rows, each once and in their order. Each place was told the end after
 -- what it saw of it, and before the end a write failed there wherever a pass has seen one.
