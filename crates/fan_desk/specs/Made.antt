@@ -122,7 +122,7 @@ pub record GoesOn (row : FanStep) : Type 0 where
 abbrev pub HasPairs : FanStep → Type 0
 HasPairs row = (v : ℕ) (s : Step) → seen_in v row ≡ Some s → s.mark ≢ marks.Spent
 
--- a row was made and sent: the link took exactly those of its datagrams, in the order of places, whose peer it knew then
+-- a row was made and sent: the link took exactly those of its datagrams, in the order of places, whose peer it knew
 pub record IsRowSent (given : ℕ → Given) (places : ℕ) (m : MadeRow) : Type 0 where
   pub made : IsMadeRow given places m
   pub goes : GoesOn m.row
