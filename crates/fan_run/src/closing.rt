@@ -11,7 +11,7 @@ use turn_lock::Pass;
 
 /// Takes all passes back, in order, and tells each place the end. The one history of the run is made of the rows that the
 /// passes own.
-pub fn conclude_flows<N: FanOrigin, K: Sink + Drop>(
+pub(crate) fn conclude_flows<N: FanOrigin, K: Sink + Drop>(
     desk: FanDesk<N, K>,
     passes: Vec<Pass<FanStep, SharedFan<N, K>>>,
     came: &mut Vec<Came>,

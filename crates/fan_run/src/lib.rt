@@ -6,7 +6,5 @@ mod passes;
 mod run;
 mod running;
 
-pub use closing::conclude_flows;
-pub use passes::{passes_of, row_passes};
 pub use run::FlowsRun;
 pub use running::receive_flows;

@@ -10,7 +10,7 @@ use turn_lock::Pass;
 
 /// Sets each pass beside memory for what its steps come to, in room that was taken for them. The list that they stood in
 /// keeps its room.
-pub fn row_passes<N: FanOrigin, K: Sink + Drop>(
+pub(crate) fn row_passes<N: FanOrigin, K: Sink + Drop>(
     passes: &mut Vec<Pass<FanStep, SharedFan<N, K>>>,
     mut rooms: Vec<Vec<Came>>,
     mut own: Vec<RowPass<N, K>>,
@@ -35,7 +35,7 @@ pub fn row_passes<N: FanOrigin, K: Sink + Drop>(
 }
 
 /// Puts the passes back into a list that has room for them.
-pub fn passes_of<N: FanOrigin, K: Sink + Drop>(
+pub(crate) fn passes_of<N: FanOrigin, K: Sink + Drop>(
     mut own: Vec<RowPass<N, K>>,
     passes: &mut Vec<Pass<FanStep, SharedFan<N, K>>>,
 )
