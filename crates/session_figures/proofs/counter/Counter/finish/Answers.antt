@@ -1,0 +1,43 @@
+-- All that waits is let out, and what the playout passed then is counted.
+use Rattle.std.proofs.Common.{◌≡◌, ◌≢◌, ◌∷◌, ◌∙◌, ◌-◌, ◌/◌, ℕ, ap, sym, subst, unwrap_or, arith}
+use Rattle.receiver_rules.specs.declared.limits.Limits.{Limits}
+use Rattle.receiver_rules.specs.Epochs.{epochs_of}
+use Rattle.reorder_buffer.specs.State.{State}
+use Rattle.reorder_buffer.specs.StateAfter.{IsStateAfter}
+use Rattle.reorder_buffer.specs.declared.phase.Phase.{Phase}
+use Rattle.reorder_buffer.specs.declared.phase.Phase.TheVariants.{Ended, Failed}
+use Rattle.request_rules.specs.Steps.{buffer_history}
+use Rattle.time_series.specs.Points.{capped}
+use Rattle.session_figures.specs.declared.numbers.Numbers.{Numbers}
+use Rattle.session_figures.specs.Numbers.{missing_count}
+use Rattle.session_figures.specs.Counting.{AreNumbersOf, AreSeriesOf, CounterState, IsCountedAfter, end_told}
+use Rattle.session_figures.specs.Inside.Taking.{with_missing}
+use Rattle.session_figures.proofs.FigureLemmas.{counted_on}
+use Rattle.session_figures.proofs.counter.Counter.finish.Goals as goal
+
+over : (phase : Phase) → phase ≡ Ended → phase ≢ Failed
+over phase e f = cc
+
+pub returns-clause-state : goal.returns-clause-state
+returns-clause-state c running history is =
+    let inside : CounterState = record { buffer = c.self.inside.buffer; time = c.self.inside.time; start = c.self.inside.start; numbers = c.self.inside.numbers; missing = c.self.inside.missing; table = c.self.inside.table } in
+    let here : IsCountedAfter inside history = subst (λ (x : CounterState). IsCountedAfter x history) (sym c.self.view_is) is in
+    let counted = c.count.ensures in
+    let new : CounterState = c.count.new.self in
+    let buffer : State = c.flush.new.buffer in
+    let limits : buffer.limits ≡ inside.buffer.limits = c.flush.ensures.limits in
+    let state : IsStateAfter buffer (buffer_history (end_told ∷ history)) = c.flush.ensures.state (buffer_history history) here.state in
+    let are : AreNumbersOf inside.numbers (epochs_of inside.buffer.limits (buffer_history (end_told ∷ history))) = here.numbers in
+    let missing : new.missing ≡ capped (missing_count buffer.limits (buffer_history (end_told ∷ history))) =
+    counted.missing (buffer_history (end_told ∷ history)) state (over buffer.phase c.flush.ensures.ended)
+    (subst (λ (l : Limits). AreNumbersOf inside.numbers (epochs_of l (buffer_history (end_told ∷ history)))) (sym limits) are) in
+    let now : new.time ≡ inside.time = counted.same.2 in
+    counted_on inside new end_told history c.silent.result here
+    (ap (λ (b : State). b.limits) counted.same.0 ∙ limits)
+    (subst (λ (b : State). IsStateAfter b (buffer_history (end_told ∷ history))) (sym counted.same.0) state)
+    (omega (arith, now))
+    counted.start
+    (subst (λ (n : Numbers). AreNumbersOf n (epochs_of inside.buffer.limits (buffer_history (end_told ∷ history)))) (sym counted.same.1) are)
+    (missing ∙ ap (λ (l : Limits). capped (missing_count l (buffer_history (end_told ∷ history)))) limits)
+    c.silent.ensures.value
+    (λ entries series. subst (λ (t : ℕ). AreSeriesOf new.table (record { second = (t - unwrap_or inside.start 0) / 90000; amounts = with_missing c.silent.result (new.missing - inside.missing) } ∷ entries)) (sym now) (counted.series entries series))

@@ -1,0 +1,80 @@
+-- What a contract sees of the counting of figures.
+use Rattle.std.specs.Prelude.{◌≡◌, ℕ, ◌<◌, ◌^◌, List, [], ◌∷◌, length, map, Option, slice_index_or}
+use Rattle.link_channels.specs.declared.bounds.TheConstants.{MAX_LINKS}
+use Rattle.time_series.specs.Points.{SeriesState, IsSeriesOf, capped, shown_points}
+use Rattle.receiver_rules.specs.Epochs.{Epoch, epochs_of, newest_accepted}
+use Rattle.reorder_buffer.specs.State.{State}
+use Rattle.reorder_buffer.specs.StateAfter.{IsStateAfter}
+use Rattle.reorder_buffer.specs.declared.phase.Phase.TheVariants.{Open}
+use Rattle.request_rules.specs.Steps.{Step, End, buffer_history, effective_time}
+use Rattle.session_figures.specs.declared.numbers.Numbers.{Numbers}
+use Rattle.session_figures.specs.declared.table.Table.{Table}
+use Rattle.session_figures.specs.Numbers.{lowest_of, sent_over, missing_over, missing_count}
+use Rattle.session_figures.specs.Amounts.{octets_on}
+use Rattle.session_figures.specs.Figures.{Entry, Figures, marks_by, entries_of, start_of}
+
+-- the epochs that are over
+abbrev pub epochs_over : List Epoch → List Epoch
+epochs_over [] = []
+epochs_over (current ∷ earlier) = earlier
+
+-- what is kept of the numbers of some epochs, the newest first
+pub record AreNumbersOf (n : Numbers) (epochs : List Epoch) : Type 0 where
+  pub lowest : n.low ≡ lowest_of (newest_accepted epochs)
+  pub count : n.kept ≡ capped (length (newest_accepted epochs))
+  pub before : n.sent ≡ capped (sent_over (epochs_over epochs))
+  pub lost : n.missing ≡ capped (missing_over (epochs_over epochs))
+
+-- each series of a table has what these steps added
+pub record AreSeriesOf (t : Table) (entries : List Entry) : Type 0 where
+  pub count : length t.links.items ≡ MAX_LINKS
+  pub by_link : (link : ℕ) (d : SeriesState) → link < MAX_LINKS
+      → IsSeriesOf (slice_index_or t.links.items link d) (marks_by (octets_on link) entries)
+  pub of_kept : IsSeriesOf t.kept (marks_by (λ a. a.kept) entries)
+  pub of_first : IsSeriesOf t.first (marks_by (λ a. a.first) entries)
+  pub of_recovered : IsSeriesOf t.recovered (marks_by (λ a. a.recovered) entries)
+  pub of_missing : IsSeriesOf t.missing (marks_by (λ a. a.missing) entries)
+  pub of_late : IsSeriesOf t.late (marks_by (λ a. a.late) entries)
+
+-- a buffer, the effective time of the last step, the tick of the first, what is kept of numbers, how many numbers the
+-- playout has passed without a packet, and the series
+pub record CounterState : Type 0 where
+  pub buffer : State
+  pub time : ℕ
+  pub start : Option ℕ
+  pub numbers : Numbers
+  pub missing : ℕ
+  pub table : Table
+
+-- its time is its buffer's
+pub record IsInTime (b : State) (time : ℕ) : Type 0 where
+  pub clock : b.phase ≡ Open → b.time ≡ time
+  pub tick : time < 2 ^ 61
+
+-- the step of the end, which moves no time
+abbrev pub end_told : Step
+end_told = record { link = 0; tick = 0; input = End }
+
+-- what it keeps is that of a history, whose end may have come
+pub record IsCountedAfter (c : CounterState) (history : List Step) : Type 0 where
+  pub state : IsStateAfter c.buffer (buffer_history history)
+  pub now : c.time ≡ effective_time history
+  pub first : c.start ≡ start_of history
+  pub numbers : AreNumbersOf c.numbers (epochs_of c.buffer.limits (buffer_history history))
+  pub passed : c.missing ≡ capped (missing_count c.buffer.limits (buffer_history history))
+  pub series : AreSeriesOf c.table (entries_of c.buffer.limits history)
+
+-- the figures that a table shows
+abbrev pub figures_in : ℕ → ℕ → Table → Figures
+figures_in ticks sent t =
+    record {
+      ticks = ticks;
+      sent = sent;
+      width = 2 ^ t.kept.scale;
+      links = map shown_points t.links.items;
+      kept = shown_points t.kept;
+      first = shown_points t.first;
+      recovered = shown_points t.recovered;
+      missing = shown_points t.missing;
+      late = shown_points t.late;
+    }

@@ -1,0 +1,81 @@
+-- The figures of a session, over the history of a receiver's steps, the newest first.
+use Rattle.std.specs.Prelude.{ℕ, ◌-◌, ◌/◌, List, [], ◌∷◌, map, Option, None, Some}
+use Rattle.std.specs.Option.{unwrap_or}
+use Rattle.std.specs.List.{range_with_len}
+use Rattle.link_channels.specs.declared.bounds.TheConstants.{MAX_LINKS}
+use Rattle.time_series.specs.Points.{Mark, capped, points_of, width_of}
+use Rattle.receiver_rules.specs.declared.limits.Limits.{Limits}
+use Rattle.request_rules.specs.Steps.{Step, buffer_history, effective_time}
+use Rattle.session_figures.specs.declared.amounts.Amounts.{Amounts}
+use Rattle.session_figures.specs.Numbers.{sent_count}
+use Rattle.session_figures.specs.Amounts.{amounts_of, octets_on}
+
+-- ---- time
+
+-- the tick of the first step
+abbrev pub start_of : List Step → Option ℕ
+start_of [] = None
+start_of (step ∷ before) = Some (unwrap_or (start_of before) step.tick)
+
+-- how many ticks of 1/90,000 s lie between the first step and the effective time of the last
+abbrev pub ticks_of : List Step → ℕ
+ticks_of history = effective_time history - unwrap_or (start_of history) 0
+
+-- ---- over time
+
+-- what a step added, and the second in which it was made, from the first step on
+pub record Entry : Type 0 where
+  pub second : ℕ
+  pub amounts : Amounts
+
+-- what each step of a history added
+abbrev pub entries_of : Limits → List Step → List Entry
+entries_of limits [] = []
+entries_of limits (step ∷ before) =
+    record { second = ticks_of (step ∷ before) / 90000; amounts = amounts_of limits before step }
+    ∷ entries_of limits before
+
+-- one of the amounts, over time
+abbrev pub marks_by : (Amounts → ℕ) → List Entry → List Mark
+marks_by amount entries = map (λ entry. record { second = entry.second; amount = amount entry.amounts }) entries
+
+-- ---- the figures
+
+-- how long it took, in ticks of 1/90,000 s; how many packets were sent; how many seconds wide a bucket is; and in each
+-- bucket: the octets of payloads that came on each link, the octets of packets that were kept, the packets that were
+-- received first time and those that a retransmission recovered, the numbers that the playout passed without a packet,
+-- and the packets that came too late
+pub record Figures : Type 0 where
+  pub ticks : ℕ
+  pub sent : ℕ
+  pub width : ℕ
+  pub links : List (List ℕ)
+  pub kept : List ℕ
+  pub first : List ℕ
+  pub recovered : List ℕ
+  pub missing : List ℕ
+  pub late : List ℕ
+
+-- the sums of one amount in each bucket
+abbrev pub sums_by : (Amounts → ℕ) → List Entry → List ℕ
+sums_by amount entries = points_of (marks_by amount entries)
+
+-- the figures of what steps added
+abbrev pub figures_by : ℕ → ℕ → List Entry → Figures
+figures_by ticks sent entries =
+    record {
+      ticks = ticks;
+      sent = sent;
+      width = width_of (marks_by (λ a. a.kept) entries);
+      links = map (λ link. sums_by (octets_on link) entries) (range_with_len 0 MAX_LINKS);
+      kept = sums_by (λ a. a.kept) entries;
+      first = sums_by (λ a. a.first) entries;
+      recovered = sums_by (λ a. a.recovered) entries;
+      missing = sums_by (λ a. a.missing) entries;
+      late = sums_by (λ a. a.late) entries;
+    }
+
+-- the figures of a history
+abbrev pub figures_of : Limits → List Step → Figures
+figures_of limits history =
+    figures_by (ticks_of history) (capped (sent_count limits (buffer_history history))) (entries_of limits history)

@@ -1,0 +1,2 @@
+-- What private contracts of the counting cite.
+pub mod Taking

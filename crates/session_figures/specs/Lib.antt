@@ -1,0 +1,5 @@
+pub mod Numbers
+pub mod Amounts
+pub mod Figures
+pub mod Counting
+pub mod Inside

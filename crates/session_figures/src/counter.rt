@@ -1,0 +1,156 @@
+//! Steps that are counted.
+ghost use Rattle.std.specs.Prelude.{◌≡◌, ◌≢◌, ◌-◌, ◌/◌, List, ◌∷◌, Some, IfOk};
+ghost use Rattle.std.specs.Option.{unwrap_or};
+
+use crate::amounts::Amounts;
+use crate::figures::Figures;
+use crate::numbers::Numbers;
+use crate::stepping::{flush, missing_now, sent_now, step_buffer};
+use crate::table::Table;
+use outside_io::NoMemory;
+use receiver_rules::tick_of;
+use reorder_buffer::Buffer;
+use rist_ends::{Settings, Told};
+use std::alloc::Global;
+use std::marker::Model;
+
+/// A playout buffer whose payloads nobody wants, and the figures of the steps that it was told.
+#[derive(Drop)]
+pub struct Counter {
+    buffer: Buffer,
+    /// The effective time of the last step.
+    time: u64,
+    /// The tick of the first step.
+    start: Option<u64>,
+    numbers: Numbers,
+    /// How many numbers the playout has passed without a packet.
+    missing: u64,
+    table: Table,
+}
+
+impl Model for Counter {
+    ghost use Rattle.session_figures.specs.Counting.{CounterState, IsInTime};
+
+    ghost Value = { CounterState };
+
+    ghost view = { λ c. record {
+      buffer = c.buffer;
+      time = c.time;
+      start = c.start;
+      numbers = c.numbers;
+      missing = c.missing;
+      table = c.table;
+    } };
+
+    ghost invariant = { λ c. IsInTime c.buffer c.time };
+}
+
+impl Counter {
+    ghost use Rattle.std.specs.Prelude.{[]};
+    ghost use Rattle.receiver_rules.specs.Steps.{Step as BufferStep};
+    ghost use Rattle.receiver_rules.specs.Epochs.{epochs_of};
+    ghost use Rattle.reorder_buffer.specs.StateAfter.{IsStateAfter};
+    ghost use Rattle.reorder_buffer.specs.declared.phase.Phase.TheVariants.{Open, Ended, Failed};
+    ghost use Rattle.request_rules.specs.Steps.{Step};
+    ghost use Rattle.rist_ends.specs.Settings.{IsInRange, limits_of};
+    ghost use Rattle.rist_ends.specs.Told.{IsFit, IsNoEnd, step_of};
+    ghost use Rattle.time_series.specs.Points.{capped};
+    ghost use Rattle.session_figures.specs.Numbers.{missing_count};
+    ghost use Rattle.session_figures.specs.Figures.{Entry, figures_of};
+    ghost use Rattle.session_figures.specs.Counting.{AreNumbersOf, AreSeriesOf, IsCountedAfter, end_told, figures_in};
+    ghost use Rattle.session_figures.specs.Inside.Taking.{with_missing};
+
+    /// One that was told nothing, with the limits of these settings. All memory of a counting is taken here.
+    pub fn with(alloc: Global, settings: &Settings) -> Result<Counter, NoMemory>
+        requires settings { IsInRange settings.now }
+        ensures limits { IfOk result (λ c. c.buffer.limits ≡ limits_of settings.now) }
+        ensures running { IfOk result (λ c. c.buffer.phase ≡ Open) }
+        ensures state { IfOk result (λ c. IsCountedAfter c []) }
+    {
+        let buffer = Buffer::with_limits(
+            alloc,
+            settings.span,
+            settings.delay,
+            settings.restart,
+            settings.drift,
+        )?;
+        Ok(Counter {
+            buffer,
+            time: 0,
+            start: None,
+            numbers: Numbers::none(),
+            missing: 0,
+            table: Table::new(alloc)?,
+        })
+    }
+
+    /// Makes a step of what is told, which isn't the end. After the end none is made.
+    pub fn step(&mut self, told: &Told<'_>)
+        requires fits { IsFit told.now }
+        requires going { IsNoEnd told.now.what }
+        ensures state { self.old.buffer.phase ≡ Open → (history : List Step) → IsCountedAfter self.old history
+            → IsCountedAfter self.new (step_of told.now ∷ history) }
+        ensures phase { self.new.buffer.phase ≡ self.old.buffer.phase }
+        ensures limits { self.new.buffer.limits ≡ self.old.buffer.limits }
+    {
+        if self.buffer.ended() {
+            return;
+        }
+        let amounts = step_buffer(&mut self.buffer, &mut self.numbers, self.time, told);
+        let tick = tick_of(told.us);
+        self.time = self.time.max(tick);
+        self.count(tick, amounts);
+    }
+
+    /// Makes the step of the end, which moves no time. All that waits is let out.
+    pub fn finish(&mut self)
+        ensures state { self.old.buffer.phase ≡ Open → (history : List Step) → IsCountedAfter self.old history
+            → IsCountedAfter self.new (end_told ∷ history) }
+        ensures limits { self.new.buffer.limits ≡ self.old.buffer.limits }
+        ensures ended { self.old.buffer.phase ≡ Open → self.new.buffer.phase ≡ Ended }
+    {
+        if self.buffer.ended() {
+            return;
+        }
+        flush(&mut self.buffer);
+        self.count(0, Amounts::silent(0));
+    }
+
+    /// The figures of the steps so far.
+    pub fn figures(&self) -> Figures<'_>
+        ensures value { self.now.buffer.phase ≢ Failed → (history : List Step) → IsCountedAfter self.now history
+            → figures_in result.ticks result.sent result.table.now
+            ≡ figures_of self.now.buffer.limits history }
+    {
+        Figures {
+            ticks: self.time.saturating_sub(self.start.unwrap_or(0)),
+            sent: sent_now(&self.buffer, &self.numbers),
+            table: &self.table,
+        }
+    }
+
+    // Counts what a step added, which the buffer has made, and what the playout passed in it.
+    fn count(&mut self, tick: u64, amounts: Amounts)
+        ensures same { (self.new.buffer ≡ self.old.buffer) × (self.new.numbers ≡ self.old.numbers)
+            × (self.new.time ≡ self.old.time) }
+        ensures start { self.new.start ≡ Some (unwrap_or self.old.start tick) }
+        ensures missing { (history : List BufferStep) → IsStateAfter self.old.buffer history
+            → self.old.buffer.phase ≢ Failed
+            → AreNumbersOf self.old.numbers (epochs_of self.old.buffer.limits history)
+            → self.new.missing ≡ capped (missing_count self.old.buffer.limits history) }
+        ensures series { (entries : List Entry) → AreSeriesOf self.old.table entries
+            → AreSeriesOf self.new.table (record {
+              second = (self.old.time - unwrap_or self.old.start tick) / 90000;
+              amounts = with_missing amounts (self.new.missing - self.old.missing);
+            } ∷ entries) }
+    {
+        let start = self.start.unwrap_or(tick);
+        let missing = missing_now(&self.buffer, &self.numbers);
+        let mut added = amounts;
+        added.missing = missing.saturating_sub(self.missing);
+        self.table
+            .add(self.time.saturating_sub(start) / 90_000, &added);
+        self.start = Some(start);
+        self.missing = missing;
+    }
+}

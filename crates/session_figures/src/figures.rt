@@ -1,0 +1,13 @@
+//! The figures of a session.
+use crate::table::Table;
+
+/// The figures of the steps so far.
+#[derive(Clone, Copy)]
+pub struct Figures<'a> {
+    /// From the first step to the last, in ticks of 1/90,000 s.
+    pub ticks: u64,
+    /// How many packets were sent, by their numbers.
+    pub sent: u64,
+    /// What was counted over time.
+    pub table: &'a Table,
+}

@@ -1,0 +1,2 @@
+-- What private contracts of a series cite.
+pub mod Widening

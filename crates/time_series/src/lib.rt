@@ -1,0 +1,9 @@
+//! Amounts over time, in buckets of equal width. The width doubles as time goes on, so that there are never more than
+//! 4,096 of them, in memory that is taken once. A contract sees the list of the amounts and of the seconds in which they
+//! came.
+#![tactic(auto)]
+
+mod series;
+mod widening;
+
+pub use series::{POINTS, Series};
