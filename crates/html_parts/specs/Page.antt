@@ -1,0 +1,43 @@
+-- A page that stands alone: HTML with no script and nothing to fetch. Each definition is a text with a part behind it.
+use Rattle.std.specs.Prelude.{ℕ, List, ◌++◌, codes, decimal}
+
+-- what the head says of itself
+abbrev pub head_line : List ℕ
+head_line =
+    codes "<!DOCTYPE html>\n<html lang=en><head><meta charset=utf-8><meta name=viewport content='width=device-width'>\n"
+
+-- its title, and how texts look
+abbrev pub title_line : List ℕ
+title_line =
+    codes "<title>RIST session</title><style>body{font-family:sans-serif;max-width:60em;margin:auto;padding:1em}\n"
+
+-- how the table looks
+abbrev pub table_line : List ℕ
+table_line = codes "th,td{text-align:left;vertical-align:top;padding:.2em 1em .2em 0}section{break-inside:avoid}\n"
+
+-- how charts look
+abbrev pub chart_line : List ℕ
+chart_line =
+    codes "svg{width:100%;height:8em;border:solid}polyline{fill:none;stroke:#000;vector-effect:non-scaling-stroke}\n"
+
+-- where the page begins
+abbrev pub begin_line : List ℕ
+begin_line = codes "</style></head><body><h1>RIST session</h1><table>\n"
+
+-- the head, up to where the rows of the table begin
+abbrev pub with_head : List ℕ → List ℕ
+with_head text = ((((text ++ head_line) ++ title_line) ++ table_line) ++ chart_line) ++ begin_line
+
+-- a row of the table: a name, a number in decimal digits with its unit, and the rule that it is counted by
+abbrev pub with_row : List ℕ → List ℕ → ℕ → List ℕ → List ℕ → List ℕ
+with_row text name number unit rule =
+    ((((((((text ++ codes "<tr><th>") ++ name) ++ codes "</th><td>") ++ decimal number) ++ codes " ") ++ unit)
+    ++ codes "</td><td>") ++ rule) ++ codes "</td></tr>\n"
+
+-- the end of the table
+abbrev pub with_table_end : List ℕ → List ℕ
+with_table_end text = text ++ codes "</table>\n"
+
+-- the end of the page
+abbrev pub with_foot : List ℕ → List ℕ
+with_foot text = text ++ codes "</body></html>\n"

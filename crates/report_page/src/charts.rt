@@ -1,0 +1,85 @@
+//! The charts of the page.
+ghost use Rattle.std.specs.Prelude.{◌≡◌, ◌≤◌, ◌+◌, ◌*◌, length, take, map};
+ghost use Rattle.time_series.specs.Points.{shown_points};
+ghost use Rattle.session_figures.specs.Counting.{figures_in};
+ghost use Rattle.report_page.specs.Page.{with_came_charts, with_lost_charts, with_link, with_links, with_titled_chart};
+
+use html_parts::{CHART_LEN, put_chart, put_numbered_title, put_title, total};
+use session_figures::Figures;
+use time_series::Series;
+
+/// How many octets a chart with its title has at most.
+pub const TITLED_LEN: usize = CHART_LEN + 100;
+
+/// Puts the charts of what was written, and of how it came.
+pub fn put_came_charts(out: &mut [u8], at: usize, figures: &Figures<'_>) -> usize
+    requires room { at + 3 * TITLED_LEN ≤ length out.old }
+    ensures octets { take result out.new
+        ≡ with_came_charts (take at out.old) (figures_in figures.now.ticks figures.now.sent figures.now.table.now) }
+    ensures within { result ≤ at + 3 * TITLED_LEN }
+{
+    let table = figures.table;
+    let width = table.kept.width();
+    let at = put_titled(out, at, "Written", "octets", width, &table.kept);
+    let at = put_titled(out, at, "First time", "packets", width, &table.first);
+    put_titled(out, at, "Recovered", "packets", width, &table.recovered)
+}
+
+/// Puts the charts of what was not, and of what came in vain.
+pub fn put_lost_charts(out: &mut [u8], at: usize, figures: &Figures<'_>) -> usize
+    requires room { at + 2 * TITLED_LEN ≤ length out.old }
+    ensures octets { take result out.new
+        ≡ with_lost_charts (take at out.old) (figures_in figures.now.ticks figures.now.sent figures.now.table.now) }
+    ensures within { result ≤ at + 2 * TITLED_LEN }
+{
+    let table = figures.table;
+    let width = table.kept.width();
+    let at = put_titled(out, at, "Never written", "packets", width, &table.missing);
+    put_titled(out, at, "Late", "packets", width, &table.late)
+}
+
+/// Puts the charts of the links on which any octet came.
+pub fn put_links(out: &mut [u8], at: usize, width: u64, links: &[Series]) -> usize
+    requires room { at + TITLED_LEN * length links.now ≤ length out.old }
+    ensures octets { take result out.new ≡ with_links (take at out.old) width 0 (map shown_points links.now) }
+    ensures within { result ≤ at + TITLED_LEN * length links.now }
+{
+    let mut end = at;
+    for (link, series) in links.iter().enumerate() {
+        end = put_link(out, end, width, link as u64, series);
+    }
+    end
+}
+
+// A chart with its title.
+fn put_titled(
+    out: &mut [u8],
+    at: usize,
+    name: &str,
+    unit: &str,
+    width: u64,
+    series: &Series,
+) -> usize
+    requires short { length name.now + length unit.now ≤ 40 }
+    requires room { at + TITLED_LEN ≤ length out.old }
+    ensures octets { take result out.new
+        ≡ with_titled_chart (take at out.old) name.now unit.now width (shown_points series.now) }
+    ensures within { result ≤ at + TITLED_LEN }
+{
+    let at = put_title(out, at, name);
+    put_chart(out, at, unit, width, series.points())
+}
+
+// The chart of a link, if any octet came on it.
+fn put_link(out: &mut [u8], at: usize, width: u64, link: u64, series: &Series) -> usize
+    requires room { at + TITLED_LEN ≤ length out.old }
+    ensures octets { take result out.new ≡ with_link (take at out.old) width link (shown_points series.now) }
+    ensures within { result ≤ at + TITLED_LEN }
+{
+    let points = series.points();
+    if total(points) == 0 {
+        return at;
+    }
+    let at = put_numbered_title(out, at, "Link ", link);
+    put_chart(out, at, "octets", width, points)
+}
