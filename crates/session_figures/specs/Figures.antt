@@ -1,7 +1,7 @@
 -- The figures of a session, over the history of a receiver's steps, the newest first.
 use Rattle.std.specs.Prelude.{ℕ, ◌-◌, ◌/◌, List, [], ◌∷◌, map, Option, None, Some}
 use Rattle.std.specs.Option.{unwrap_or}
-use Rattle.std.specs.List.{range_with_len}
+use Rattle.std.specs.List.{range_with_len, sum}
 use Rattle.link_channels.specs.declared.bounds.TheConstants.{MAX_LINKS}
 use Rattle.time_series.specs.Points.{Mark, capped, points_of, width_of}
 use Rattle.receiver_rules.specs.declared.limits.Limits.{Limits}
@@ -38,6 +38,16 @@ entries_of limits (step ∷ before) =
 -- one of the amounts, over time
 abbrev pub marks_by : (Amounts → ℕ) → List Entry → List Mark
 marks_by amount entries = map (λ entry. record { second = entry.second; amount = amount entry.amounts }) entries
+
+-- ---- in all
+
+-- how many packets of a history were received first time
+abbrev pub first_count : Limits → List Step → ℕ
+first_count limits history = sum (map (λ entry. entry.amounts.first) (entries_of limits history))
+
+-- how many a retransmission recovered
+abbrev pub recovered_count : Limits → List Step → ℕ
+recovered_count limits history = sum (map (λ entry. entry.amounts.recovered) (entries_of limits history))
 
 -- ---- the figures
 

@@ -6,6 +6,7 @@
 mod amounts;
 mod counter;
 mod figures;
+pub mod laws;
 mod numbers;
 mod stepping;
 mod table;

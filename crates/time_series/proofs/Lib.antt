@@ -1,1 +1,2 @@
 pub mod SeriesLemmas
+pub mod TotalLemmas

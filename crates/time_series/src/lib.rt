@@ -3,6 +3,7 @@
 //! came.
 #![tactic(auto)]
 
+pub mod laws;
 mod series;
 mod widening;
 
