@@ -1,11 +1,13 @@
-//! Worked runs over links in memory: a sending, a desk and its workers, a receiving and what is sent on. There are
-//! tests alone.
+//! Worked runs over links in memory: a sending, a desk and its workers, a receiving, one of several flows in a tunnel, and
+//! what is sent on. There are tests alone.
 #![tactic(auto)]
 
 #[cfg(test)]
 mod comparing;
 #[cfg(test)]
 mod desk;
+#[cfg(test)]
+mod flowing;
 #[cfg(test)]
 mod links;
 #[cfg(test)]

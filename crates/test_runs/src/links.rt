@@ -8,7 +8,7 @@ use std::alloc::Global;
 use std::test::Fail;
 
 /// An RTP packet of one letter: A has number 10, B 11, and so on, 10 ms apart.
-fn packet(letter: u8) -> [u8; 13] {
+pub fn packet(letter: u8) -> [u8; 13] {
     let place = letter.wrapping_sub(b'A');
     let [high, low] = (place as u16).wrapping_mul(900).to_be_bytes();
     [
