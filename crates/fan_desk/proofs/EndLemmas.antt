@@ -197,7 +197,7 @@ module _ (ports : List ℕ) (given : ℕ → Given) (places : ℕ) (ask : FanTol
   pub keyed : EndsAs came ends.Spent → IsSomeKeyed given
   keyed (SomeSpent going wanting) =
       let m : MadeRow = row_made ask.place ask.told came knows [] in
-      keyed_somewhere given places m (made_row ask.place ask.told came given places knows [] before was answered many had_many)
+      keyed_somewhere given places m (made_row ask.place ask.told came given places knows [] before was answered many had_many).each
       (λ v s seen. subst (λ (n : ℕ). v < n) many (inside_row ask.place ask.told came v s seen)) (some_spent ask.place ask.told came wanting)
 
 -- ---- each place has ended

@@ -4,3 +4,4 @@ pub mod RowLemmas
 pub mod WriteLemmas
 pub mod MadeLemmas
 pub mod EndLemmas
+pub mod KnowLemmas

@@ -1,6 +1,7 @@
 -- What a step of all places made, place by place, and whether a worker goes on after it.
-use Rattle.std.proofs.Common.{◌≡◌, ◌≢◌, ◌<◌, ℕ, zero, suc, ◌+◌, List, [], ◌∷◌, ◌++◌, length, map, slice_get, unwrap_or, Bool, true, false, ◌&&◌, ◌||◌, Option, None, Some, option_map, refl, ap, sym, ◌∙◌, subst}
+use Rattle.std.proofs.Common.{◌≡◌, ◌≢◌, ◌<◌, ℕ, zero, suc, ◌+◌, List, [], ◌∷◌, ◌++◌, length, map, slice_get, unwrap_or, Bool, true, false, ◌&&◌, ◌||◌, Option, None, Some, option_map, refl, ap, sym, ◌∙◌, subst, arith}
 use Rattle.std.specs.List.{flat_map, list_all, list_any}
+use Rattle.std.proofs.lemmas.List.{length-map}
 use Rattle.std.proofs.lemmas.Option.{slice_get_within, slice_get-map}
 use Rattle.link_channels.specs.declared.channel.Channel.{Channel}
 use Rattle.outside_net.specs.Links.{Datagram}
@@ -37,7 +38,7 @@ use Rattle.rist_fan.specs.Fan.{AllAnswer, outcome_in, step_come}
 use Rattle.rist_fan.specs.Seen.{FanStep, is_for, row_from, seen_in, told_for, what_for}
 use Rattle.rist_fan.proofs.FanLemmas.{at_some, sees_own}
 use Rattle.fan_desk.specs.Rows.{is_stopped}
-use Rattle.fan_desk.specs.Made.{GoesOn, HasPairs, IsDueAt, IsLastBy, IsMadeAt, IsSomeKeyed, MadeRow, all_outs, event_for, input_for, is_wanting, outs_of_came}
+use Rattle.fan_desk.specs.Made.{GoesOn, HasPairs, IsDueAt, IsLastBy, IsMadeAt, IsMadeRow, IsSomeKeyed, MadeRow, all_outs, event_for, input_for, is_wanting, outs_of_came}
 
 -- ---- what is told at a place
 
@@ -104,6 +105,11 @@ seen_at place told came v c at =
     sym (newest_added (seen_in v (step_come place told came)))
     ∙ (ap newest (sees_own place told (map outcome_in came) [] v (outcome_in c) (slice_get-map outcome_in came v ∙ ap (option_map outcome_in) at))
     ∙ newest_added (step_after (told_for (is_for place v) told) (outcome_in c)))
+
+-- a row has as many members as there are outcomes
+row_length : (place : Option ℕ) (told : Told) (from : ℕ) (outs : List Outcome) → length (row_from place told from outs) ≡ length outs
+row_length place told from [] = refl
+row_length place told from (o ∷ outs) = let more = row_length place told (from + 1) outs in omega (arith, more)
 
 -- what a step that a place sees came from
 record CameFrom (came : List Came) (v : ℕ) (s : Step) : Type 0 where
@@ -263,10 +269,10 @@ module _ (place : Option ℕ) (told : Told) (came : List Came) where
   outs_are knows went = flat_mapped outs_of_came came
 
   -- each place made what is due there
-  pub made_row : (given : ℕ → Given) (places : ℕ) (knows : Channel → Bool) (went : List Datagram) (before : List FanStep) (was : List Came) → AllAnswer given before place told was came
+  each_made : (given : ℕ → Given) (places : ℕ) (knows : Channel → Bool) (before : List FanStep) (was : List Came) → AllAnswer given before place told was came
       → length came ≡ places → length was ≡ places
       → (v : ℕ) → v < places → IsMadeAt (given v) (is_for place v) (told_plan knows told) (seen_in v (step_come place told came)) (unwrap_or (slice_get (map outs_of_came came) v) [])
-  made_row given places knows went before was answered many had_many v low =
+  each_made given places knows before was answered many had_many v low =
       let now = at_some came v (subst (λ (n : ℕ). v < n) (sym many) low) in
       let had = at_some was v (subst (λ (n : ℕ). v < n) (sym had_many) low) in
       let own = is_for place v in
@@ -274,6 +280,11 @@ module _ (place : Option ℕ) (told : Told) (came : List Came) where
       subst (λ (o : Option Step). IsMadeAt (given v) own plan o (unwrap_or (slice_get (map outs_of_came came) v) [])) (sym (seen_at place told came v now.0 now.1))
       (subst (λ (o : Option (List OutOf)). IsMadeAt (given v) own plan (step_after (told_for own told) (outcome_in now.0)) (unwrap_or o [])) (sym (slice_get-map outs_of_came came v ∙ ap (option_map outs_of_came) now.1))
       (made_at (given v) own knows told _ had.0.outs now.0.outs now.0.answer (answered v had.0 now.0 had.1 now.1)))
+
+  pub made_row : (given : ℕ → Given) (places : ℕ) (knows : Channel → Bool) (went : List Datagram) (before : List FanStep) (was : List Came) → AllAnswer given before place told was came
+      → length came ≡ places → length was ≡ places → IsMadeRow given places (row_made knows went)
+  made_row given places knows went before was answered many had_many =
+      record { long = row_length place told 0 (map outcome_in came) ∙ (length-map came outcome_in ∙ many); each = each_made given places knows before was answered many had_many }
 
 -- pairs are wanting only where there is a sealer
 pub keyed_somewhere : (given : ℕ → Given) (places : ℕ) (m : MadeRow) → ((v : ℕ) → v < places → IsMadeAt (given v) (is_for m.place v) m.planned (seen_in v m.row) (unwrap_or (slice_get m.outs v) []))

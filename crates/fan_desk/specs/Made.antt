@@ -106,10 +106,11 @@ abbrev pub IsMadeAt : Given → Bool → Planned → Option Step → List OutOf 
 IsMadeAt given own planned None outs = outs ≡ []
 IsMadeAt given own planned (Some s) outs = IsDueAt given own planned s outs
 
--- at each of so many places
-abbrev pub IsMadeRow : (ℕ → Given) → ℕ → MadeRow → Type 0
-IsMadeRow given places m =
-    (v : ℕ) → v < places → IsMadeAt (given v) (is_for m.place v) m.planned (seen_in v m.row) (outs_at v m)
+-- a row has so many places, and so at each
+pub record IsMadeRow (given : ℕ → Given) (places : ℕ) (m : MadeRow) : Type 0 where
+  pub long : length m.row.steps ≡ places
+  pub each : (v : ℕ) → v < places
+      → IsMadeAt (given v) (is_for m.place v) m.planned (seen_in v m.row) (outs_at v m)
 
 -- some place goes on
 pub record GoesOn (row : FanStep) : Type 0 where

@@ -1,5 +1,5 @@
 -- What a contract sees of the passes of a desk of several flows.
-use Rattle.std.specs.Prelude.{◌≡◌, ◌≢◌, ℕ, List, reverse, Option, Some}
+use Rattle.std.specs.Prelude.{◌≡◌, ◌≢◌, ◌<◌, ◌⊎◌, ℕ, List, [], ◌∷◌, reverse, slice_get, Option, None, Some}
 use Rattle.reorder_buffer.specs.declared.phase.Phase.TheVariants.{Open}
 use Rattle.rist_desk.specs.declared.step.Step.{Step}
 use Rattle.rist_desk.specs.Legal.{phase_of}
@@ -26,6 +26,15 @@ own_list v pass = Some (reverse (seen v (entries_with pass)))
 -- by the turns that it has seen, a write of the sink at a place has failed
 abbrev pub HasSeenFault : {X : Type 0} → ℕ → Pass FanStep X → Type 0
 HasSeenFault v pass = phase_of (seen v (entries (turns_seen pass))) ≢ Open
+
+-- in some of these rows a place made no step
+abbrev pub MadeNone : ℕ → List FanStep → Type 0
+MadeNone v [] = ⊥
+MadeNone v (row ∷ rows) = (slice_get row.steps v ≡ Some None) ⊎ MadeNone v rows
+
+-- where one of so many places made no step in a row of the pass, the pass has seen that a write had failed there
+abbrev pub KnowsEnds : {X : Type 0} → ℕ → Pass FanStep X → Type 0
+KnowsEnds places pass = (v : ℕ) → v < places → MadeNone v (entries_with pass) → HasSeenFault v pass
 
 module _ {N K : Type 0} where
   -- how many passes a desk has

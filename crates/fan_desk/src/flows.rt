@@ -16,7 +16,7 @@ impl<N: FanOrigin, K: Sink + Drop> Flows<RowPass<N, K>, ()> for TunnelDesk<N, K>
     ghost use Rattle.std.specs.Prelude.{◌≡◌, ◌<◌, ℕ, length};
     ghost use Rattle.turn_lock.specs.Passes.{turns_left};
     ghost use Rattle.rist_fan.specs.Seen.{FanStep};
-    ghost use Rattle.fan_desk.specs.Own.{HasSeenFault, IsOf, own_rows};
+    ghost use Rattle.fan_desk.specs.Own.{HasSeenFault, IsOf, KnowsEnds, own_rows};
     ghost use Rattle.fan_desk.specs.Made.{IsSomeKeyed, MadeRow, RowPlan, several};
 
     ghost Kept = { FanStep };
@@ -29,7 +29,8 @@ impl<N: FanOrigin, K: Sink + Drop> Flows<RowPass<N, K>, ()> for TunnelDesk<N, K>
 
     ghost tells = { record { list = λ own. own_rows own.pass; Lacks = λ own. ⊥; Keyed = IsSomeKeyed N.given } };
 
-    ghost owns = { λ tunnel link own. IsOf tunnel link own.pass × (length own.came.items ≡ N.places) };
+    ghost owns = { λ tunnel link own. IsOf tunnel link own.pass × (length own.came.items ≡ N.places)
+        × KnowsEnds N.places own.pass };
 
     ghost good_for = { λ own. turns_left own.pass };
 

@@ -7,7 +7,7 @@ ghost use Rattle.turn_lock.specs.Passes.{Stepped, IsClosed, turns_left};
 ghost use Rattle.rist_fan.specs.declared.flow.Came.{Came};
 ghost use Rattle.rist_fan.specs.Fan.{AreNew, flows_in};
 ghost use Rattle.fan_desk.specs.Rows.{Answers, StandAs, row_added};
-ghost use Rattle.fan_desk.specs.Own.{AreFreshFor, AreAllOf, HasSeenFault, IsOf, passes_in};
+ghost use Rattle.fan_desk.specs.Own.{AreFreshFor, AreAllOf, HasSeenFault, IsOf, KnowsEnds, passes_in};
 
 use crate::desk::FanDesk;
 use crate::fan_step::FanStep;
@@ -74,6 +74,8 @@ impl<N: FanOrigin, K: Sink + Drop> FanDesk<N, K> {
         // A place whose write failed before, by the turns that the pass had seen, makes no step.
         ensures failed { (v : ℕ) (c : Came) → slice_get came.new.items v ≡ Some c → HasSeenFault v pass.old
             → c.answer ≡ Stopped }
+        // One that makes no step in a row of the pass is seen to have ended.
+        ensures ends { KnowsEnds N.places pass.old → KnowsEnds N.places pass.new }
         // One that found a failed write, or in which one failed, is seen to have ended.
         ensures broken { (v : ℕ) (c : Came) → slice_get came.new.items v ≡ Some c → is_cut_off c.answer ≡ true
             → HasSeenFault v pass.new }

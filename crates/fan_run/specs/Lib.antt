@@ -1,4 +1,5 @@
 pub mod Passes
 pub mod Concluded
+pub mod Brought
 pub mod Run
 pub mod Inside

@@ -1,5 +1,5 @@
 -- What a run over several flows leaves, by what its objects tell.
-use Rattle.std.specs.Prelude.{◌≡◌, ◌⊎◌, ℕ, List, [], map, length, slice_get, unwrap_or, Bool, true, Option, Some, None}
+use Rattle.std.specs.Prelude.{◌≡◌, ◌⊎◌, ℕ, List, [], map, length, slice_get, unwrap_or, Bool, true, false, Option, Some, None}
 use Rattle.std.specs.List.{All, list_any}
 use Rattle.outside_net.specs.Links.{LinkTells}
 use Rattle.rist_wire.specs.declared.session.Session.{Session}
@@ -7,7 +7,8 @@ use Rattle.rist_desk.specs.declared.ended.Ended.TheVariants as ends
 use Rattle.rist_desk.specs.declared.worker.ServingLimits.{ServingLimits}
 use Rattle.rist_desk.specs.declared.worker.Worker.{Worker}
 use Rattle.rist_desk.specs.Desk.{Given, is_cut_off}
-use Rattle.rist_desk.specs.Serving.{OwnTells, ServesWith}
+use Rattle.rist_desk.specs.Serving.{IsFeed, OwnTells, ServesWith}
+use Rattle.rist_desk.specs.Turns.{Feed}
 use Rattle.rist_fan.specs.declared.flow.Came.{Came}
 use Rattle.rist_fan.specs.declared.flow.Flow.{Flow}
 use Rattle.rist_fan.specs.Seen.{FanStep}
@@ -19,7 +20,8 @@ use Rattle.desk_run.specs.declared.ending.Ending.{Ending}
 use Rattle.desk_run.specs.Run.{TimedLinks}
 use Rattle.desk_run.specs.Turns.{FitsAfter, ending_by}
 use Rattle.desk_run.specs.Workers.{clock_of, link_of}
-use Rattle.fan_run.specs.Concluded.{HaveConcluded}
+use Rattle.fan_run.specs.Brought.{AreBroughtAt}
+use Rattle.fan_run.specs.Concluded.{HaveConcluded, seen_by}
 
 -- what several flows were made with: of each of so many places its receiver and its sink, and its port
 pub record FlowsGiven : Type 0 where
@@ -89,6 +91,13 @@ pub record ReceivesFlows {K L C : Type 0} (moments : C → Option (ℕ → ℕ))
   pub broken : (link : ℕ) (w : Worker L C ToldRows) → slice_get are link ≡ Some w
       → (w.end ≡ Some ends.Stopped) ⊎ (w.end ≡ Some ends.WriteFault)
       → (v : ℕ) (c : Came) → slice_get came v ≡ Some c → is_cut_off c.answer ≡ true
+  -- where no write of a place's sink failed, the own steps of each worker, as the place saw them, are what its link
+  -- brought there
+  pub brought : (v : ℕ) (c : Came) → slice_get came v ≡ Some c → is_cut_off c.answer ≡ false
+      → (link : ℕ) (before after : Worker L C ToldRows) → slice_get were link ≡ Some before
+      → slice_get are link ≡ Some after → (f : Feed)
+      → IsFeed f session link limits (moments before.clock) (tells.reads before.link) (tells.knows before.link)
+      → AreBroughtAt v flows.ports f (seen_by v (unwrap_or after.trace.rows []))
   -- WriteFault where a write of some place's sink failed, and else the first ending that fits the workers
   pub after : Ending
   pub fits : FitsAfter are after

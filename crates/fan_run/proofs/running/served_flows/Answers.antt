@@ -57,6 +57,7 @@ returns-clause-work g c = λ session of_session.
       over = λ i d less why.
           let leaves = c.serve_flows.ensures.own i d (within i less) in
           by_end leaves.stopped leaves.fault why;
+      knows = λ i d less. (c.serve_flows.ensures.own i d (within i less)).own.2;
       fits = subst (λ l. FitsAfter l c.ending_after-after.result) (c.as_slice.ensures.value ∙ front) c.ending_after-after.ensures.fits;
     } in
     let back = c.passes_of.ensures.passes ∙ ap (map pass_of) (c.unseated_with.ensures.own ∙ ap (map trace_of) front) in

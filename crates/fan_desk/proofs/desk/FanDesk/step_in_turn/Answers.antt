@@ -3,6 +3,7 @@ use Rattle.std.proofs.Common.{◌∙◌}
 use Rattle.turn_lock.specs.Passes.{Stepped}
 use Rattle.fan_desk.specs.declared.told.FanTold.{FanTold}
 use Rattle.fan_desk.specs.Rows.{Answers, row_added}
+use Rattle.fan_desk.proofs.KnowLemmas.{knows_more}
 use Rattle.fan_desk.proofs.OwnLemmas.{cut_seen, ended_stays, still_of}
 use Rattle.fan_desk.proofs.desk.FanDesk.step_in_turn.Goals as goal
 
@@ -20,6 +21,7 @@ returns g c =
       room = s.answered.places ∙ c.requires.room;
       own = still_of c.args.self.now g.N.FanOrigin.given ask was is old new c.requires.own c.step.ensures.own stepped;
       stepped = stepped;
+      ends = knows_more g.N.FanOrigin.given g.N.FanOrigin.places ask was is old new stepped (s.answered.places ∙ c.requires.room);
       failed = ended_stays g.N.FanOrigin.given ask was is old new stepped;
       broken = cut_seen g.N.FanOrigin.given ask was is old new stepped;
     }
