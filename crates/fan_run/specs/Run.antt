@@ -1,5 +1,6 @@
 -- What a run over several flows leaves, by what its objects tell.
-use Rattle.std.specs.Prelude.{◌≡◌, ◌⊎◌, ℕ, List, [], map, length, slice_get, unwrap_or, Bool, true, false, Option, Some, None}
+use Rattle.std.specs.Prelude.{◌≡◌, ◌⊎◌, ℕ, List, [], map, length, slice_get, unwrap_or, Bool, true, false, Option}
+use Rattle.std.specs.Prelude.{Some, None}
 use Rattle.std.specs.List.{All, list_any}
 use Rattle.outside_net.specs.Links.{LinkTells}
 use Rattle.rist_wire.specs.declared.session.Session.{Session}
