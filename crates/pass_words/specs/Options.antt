@@ -27,8 +27,9 @@ file_word_of Incoming = codes "--in-pass-file"
 abbrev pub has_option : PassOption → Word → Bool
 has_option Own command =
     bytes_eq command (codes "replay") || (bytes_eq command (codes "show") || (bytes_eq command (codes "count")
-    || (bytes_eq command (codes "pack") || (bytes_eq command (codes "split") || (bytes_eq command (codes "send")
-    || (bytes_eq command (codes "recv") || bytes_eq command (codes "gate")))))))
+    || (bytes_eq command (codes "report") || (bytes_eq command (codes "pack") || (bytes_eq command (codes "split")
+    || (bytes_eq command (codes "send") || (bytes_eq command (codes "recv") || (bytes_eq command (codes "fan")
+    || bytes_eq command (codes "gate")))))))))
 has_option Incoming command = bytes_eq command (codes "gate")
 
 -- what stands before and behind the first `=` of a word, if it has one

@@ -85,10 +85,12 @@ fn has_option(option: PassOption, command: &str) -> bool
             command == "replay"
                 || command == "show"
                 || command == "count"
+                || command == "report"
                 || command == "pack"
                 || command == "split"
                 || command == "send"
                 || command == "recv"
+                || command == "fan"
                 || command == "gate"
         }
         PassOption::Incoming => command == "gate",

@@ -6,10 +6,14 @@ use std::fmt::Write;
 use std::test::Fail;
 
 /// Words, and what names their file: its name and the index of the option; nothing; or why they name none.
-static NAMED: [(&str, Result<Option<(&str, usize)>, PassFault>); 14] = [
+static NAMED: [(&str, Result<Option<(&str, usize)>, PassFault>); 15] = [
     ("rist recv a 1.2.3.4:5", Ok(None)),
     (
         "rist recv a 1.2.3.4:5 --pass-file key",
+        Ok(Some(("key", 4))),
+    ),
+    (
+        "rist fan 1968=a 1.2.3.4:5 --pass-file key",
         Ok(Some(("key", 4))),
     ),
     (

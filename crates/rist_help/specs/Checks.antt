@@ -25,9 +25,9 @@ use Rattle.rist_words.specs.Outs.{outs_of, ports}
 -- an option; that the session of a gateway's inputs has its profile; that the first sequence number, the two options of
 -- a pcap file and the kind of requests read; that there are one to sixteen links, and each is one; that some of a
 -- gateway's receive and not all, and each is one in the profile of its end; that each link that sends has a weight
--- where they share; that the outputs of a split read; that the passphrase, the tunnel and the two options of a pcap file
--- read in the Main Profile, for a command that is always in it; that a name and a number that may be left out read; and
--- that a file for statistics is named only where these are told
+-- where they share; that the outputs of a tunnel's flows read; that the passphrase, the tunnel, the two options of a pcap
+-- file and the links read in the Main Profile, for a command that is always in it; that a name and a number that may be
+-- left out read; and that a file for statistics is named only where these are told
 pub data Check : Type 0 where
   Name : Text → Check
   NumberAt : Text → Numbers → Check
@@ -49,6 +49,7 @@ pub data Check : Type 0 where
   MainPass : Text → Check
   MainTunnel : Text → Check
   MainPcap : Check
+  MainLinks : Check
   NameIf : Text → Check
   NumberIf : Text → Numbers → Check
   Watching : Check
@@ -75,6 +76,7 @@ shown_test tests.Outs = Outs
 shown_test (tests.MainPass option) = MainPass option.now
 shown_test (tests.MainTunnel option) = MainTunnel option.now
 shown_test tests.MainPcap = MainPcap
+shown_test tests.MainLinks = MainLinks
 shown_test (tests.NameIf option) = NameIf option.now
 shown_test (tests.NumberIf option numbers) = NumberIf option.now numbers
 shown_test tests.Watching = Watching
@@ -138,6 +140,7 @@ does_fail rows Outs = is_none (outs_of (first_of (codes "outs") rows))
 does_fail rows (MainPass option) = is_none (phrase_of Main (first_of option rows))
 does_fail rows (MainTunnel option) = is_none (tunnel_of Main (first_of option rows))
 does_fail rows MainPcap = is_none (pcap_of Main rows)
+does_fail rows MainLinks = is_none (links_of Main (all_of (codes "link") rows))
 does_fail rows (NameIf option) = is_none (name_if (first_of option rows))
 does_fail rows (NumberIf option numbers) = is_none (number_if numbers (first_of option rows))
 does_fail rows Watching = is_none (watching_of rows)
@@ -161,7 +164,7 @@ session_checks = ProfileWord (codes "profile") ∷ checks_named session_names
 abbrev pub incoming_checks : List Check
 incoming_checks = ProfileWord (codes "in-profile") ∷ Incoming ∷ checks_named incoming_names
 
--- those of the three options that a replay, a split and a receiver have
+-- those of the three options that a replay, a report, a split and a receiver have
 abbrev pub buffer_checks : List Check
 buffer_checks = Number (codes "delay") delays ∷ Number (codes "span") spans ∷ Number (codes "restart") restarts ∷ []
 
@@ -171,12 +174,15 @@ stream_checks =
     MainFlag (codes "profile") (codes "nulls") ∷ MainFlag (codes "profile") (codes "wide") ∷ Number (codes "flow") flows
     ∷ First ∷ []
 
--- those of a receiver's requests, and of its run
-abbrev pub receiver_checks : List Check
-receiver_checks =
+-- those of a receiver's requests, and of its run but for the steps that it keeps
+abbrev pub run_checks : List Check
+run_checks =
     Number (codes "reorder") reorders ∷ Number (codes "least") retry_times ∷ Number (codes "tries") retry_counts ∷ Nack
-    ∷ Number (codes "own") own_ssrcs ∷ Number (codes "turns") turn_counts ∷ Number (codes "idle") idle_times
-    ∷ Number (codes "keep") kept_counts ∷ []
+    ∷ Number (codes "own") own_ssrcs ∷ Number (codes "turns") turn_counts ∷ Number (codes "idle") idle_times ∷ []
+
+-- and with them
+abbrev pub receiver_checks : List Check
+receiver_checks = run_checks ++ (Number (codes "keep") kept_counts ∷ [])
 
 -- those of a store
 abbrev pub store_checks : List Check
@@ -202,6 +208,8 @@ checks_of command =
     else (if bytes_eq command (codes "show") then Name (codes "capture") ∷ session_checks ++ (Pcap ∷ [])
     else (if bytes_eq command (codes "count") then Name (codes "capture") ∷ session_checks ++ buffer_checks
     ++ (Pcap ∷ [])
+    else (if bytes_eq command (codes "report") then Name (codes "capture") ∷ Name (codes "out") ∷ session_checks
+    ++ buffer_checks ++ (Pcap ∷ [])
     else (if bytes_eq command (codes "pack") then Name (codes "source") ∷ Name (codes "capture") ∷ session_checks
     ++ stream_checks ++ (Number (codes "gap") gaps ∷ [])
     else (if bytes_eq command (codes "split") then Name (codes "capture") ∷ Outs ∷ tunnel_checks ++ buffer_checks
@@ -213,9 +221,11 @@ checks_of command =
     ++ stats_checks
     else (if bytes_eq command (codes "recv") then Name (codes "out") ∷ session_checks ++ (Links ∷ []) ++ buffer_checks
     ++ receiver_checks ++ watching_checks
+    else (if bytes_eq command (codes "fan") then Outs ∷ tunnel_checks ++ (MainLinks ∷ []) ++ buffer_checks
+    ++ run_checks ++ watching_checks
     else (if bytes_eq command (codes "gate") then session_checks ++ incoming_checks ++ (Inputs ∷ GateLinks ∷ [])
     ++ buffer_checks ++ receiver_checks ++ stream_checks
     ++ store_checks ++ (GateShare ∷ []) ++ watching_checks
     else NumberAt (codes "number") drill_numbers ∷ NumberAt (codes "count") drill_counts
     ∷ NumberAt (codes "links") drill_links
-    ∷ NumberAt (codes "loss") drill_losses ∷ [])))))))
+    ∷ NumberAt (codes "loss") drill_losses ∷ [])))))))))

@@ -4,10 +4,12 @@ use Rattle.std.specs.List.{concat}
 use Rattle.clap.specs.Words.{Text}
 use Rattle.rist_help.specs.declared.asking.Ask.{Ask}
 use Rattle.rist_help.specs.declared.asking.Ask.TheVariants.{Help, HelpOf, Version}
-use Rattle.rist_help.specs.declared.asking.Topic.TheVariants.{Replay, Show, Count, Pack, Split, Send, Recv, Gate, Drill}
+use Rattle.rist_help.specs.declared.asking.Topic.TheVariants.{Replay, Show, Count, Report, Pack, Split, Send, Recv}
+use Rattle.rist_help.specs.declared.asking.Topic.TheVariants.{Fan, Gate, Drill}
 use Rattle.rist_help.specs.declared.help.TheConstants.{VERSION_PIECES, PROGRAM_PIECES, REPLAY_PIECES, SHOW_PIECES}
-use Rattle.rist_help.specs.declared.help.TheConstants.{COUNT_PIECES, PACK_PIECES, SPLIT_PIECES, SEND_PIECES}
-use Rattle.rist_help.specs.declared.help.TheConstants.{RECV_PIECES, GATE_PIECES, DRILL_PIECES}
+use Rattle.rist_help.specs.declared.help.TheConstants.{COUNT_PIECES, REPORT_PIECES, PACK_PIECES}
+use Rattle.rist_help.specs.declared.help.TheConstants.{SPLIT_PIECES, SEND_PIECES, RECV_PIECES, FAN_PIECES}
+use Rattle.rist_help.specs.declared.help.TheConstants.{GATE_PIECES, DRILL_PIECES}
 
 -- the pieces of each text: the version; how the program is called; and of a command its arguments and its options, with
 -- their ranges and defaults
@@ -17,10 +19,12 @@ pieces_of Help = map (λ piece. piece.now) PROGRAM_PIECES
 pieces_of (HelpOf Replay) = map (λ piece. piece.now) REPLAY_PIECES
 pieces_of (HelpOf Show) = map (λ piece. piece.now) SHOW_PIECES
 pieces_of (HelpOf Count) = map (λ piece. piece.now) COUNT_PIECES
+pieces_of (HelpOf Report) = map (λ piece. piece.now) REPORT_PIECES
 pieces_of (HelpOf Pack) = map (λ piece. piece.now) PACK_PIECES
 pieces_of (HelpOf Split) = map (λ piece. piece.now) SPLIT_PIECES
 pieces_of (HelpOf Send) = map (λ piece. piece.now) SEND_PIECES
 pieces_of (HelpOf Recv) = map (λ piece. piece.now) RECV_PIECES
+pieces_of (HelpOf Fan) = map (λ piece. piece.now) FAN_PIECES
 pieces_of (HelpOf Gate) = map (λ piece. piece.now) GATE_PIECES
 pieces_of (HelpOf Drill) = map (λ piece. piece.now) DRILL_PIECES
 

@@ -1,5 +1,5 @@
 -- The numbers that the help names are those by which the words are taken.
-use Rattle.std.specs.Prelude.{ℕ, ◌+◌, ◌-◌, ◌*◌, List, [], ◌∷◌, Option, None, Some, unwrap_or, if◌then◌else◌, true, false}
+use Rattle.std.specs.Prelude.{ℕ, ◌+◌, ◌-◌, ◌*◌, List, [], ◌∷◌, ◌++◌, Option, None, Some, unwrap_or, if◌then◌else◌, true, false}
 use Rattle.std.specs.Char.{is_ascii_digit}
 use Rattle.clap.specs.Words.{Text}
 use Rattle.rist_words.specs.declared.values.Numbers.{Numbers}
@@ -9,11 +9,14 @@ use Rattle.rist_words.specs.declared.reading.TheConstants.{GAP, LEAD, STORE, HOL
 use Rattle.rist_words.specs.declared.session.TheConstants.{PORT, BITS, FLOW}
 use Rattle.rist_words.specs.declared.watching.TheConstants.{STATS}
 use Rattle.rist_words.specs.declared.drilling.TheConstants.{NUMBER, COUNT, LINKS, LOSS}
+use Rattle.link_channels.specs.declared.profile.Profile.TheVariants.{Main}
 use Rattle.rist_words.specs.CommandLine.{firsts}
+use Rattle.rist_words.specs.Links.{link_ports, link_weights}
 use Rattle.rist_help.specs.declared.help.TheConstants.{DELAY_ROW, SPAN_ROW, RESTART_ROW, REORDER_ROW, LEAST_ROW}
 use Rattle.rist_help.specs.declared.help.TheConstants.{TRIES_ROW, OWN_ROW, TURNS_ROW, IDLE_ROW, KEEP_ROW, GAP_ROW}
 use Rattle.rist_help.specs.declared.help.TheConstants.{LEAD_ROW, STORE_ROW, HOLD_ROW, LINGER_ROW, PORT_ROW, BITS_ROW}
 use Rattle.rist_help.specs.declared.help.TheConstants.{FLOW_ROW, FIRST_ROW, STATS_ROW, IN_PORT_ROW, IN_BITS_ROW, DRILL}
+use Rattle.rist_help.specs.declared.help.TheConstants.{SHARE_ROW, UDP_ROW, SPLIT, SEND, RECV, FAN, GATE}
 
 -- the number that ends in one more decimal digit
 abbrev pub with_digit : Option ℕ → ℕ → ℕ
@@ -72,15 +75,27 @@ named_ranges =
     ∷ record { row = IN_BITS_ROW.now; numbers = ranged BITS }
     ∷ []
 
+-- a range
+abbrev pub between : Numbers → List ℕ
+between n = n.least ∷ n.most ∷ []
+
 -- The other rows with ranges: the first number's most is another with numbers of 32 bits, statistics are off where no
--- interval is given, and the arguments of a simulated run have no defaults. Of a thousand datagrams some are lost.
+-- interval is given, weights and the ports of links, of a pcap file and of a tunnel's flows have no default, nor have the
+-- arguments of a simulated run. Of a thousand datagrams some are lost.
 abbrev pub named_bounds : List Named
 named_bounds =
     record {
       row = FIRST_ROW.now;
       numbers = (firsts false).least ∷ (firsts false).most ∷ ranged (firsts true);
     }
-    ∷ record { row = STATS_ROW.now; numbers = STATS.least ∷ STATS.most ∷ [] }
+    ∷ record { row = STATS_ROW.now; numbers = between STATS }
+    ∷ record { row = SHARE_ROW.now; numbers = between link_weights }
+    ∷ record { row = UDP_ROW.now; numbers = between (link_ports Main) }
+    ∷ record { row = SEND.now; numbers = between (link_ports Main) }
+    ∷ record { row = RECV.now; numbers = between (link_ports Main) }
+    ∷ record { row = GATE.now; numbers = between (link_ports Main) }
+    ∷ record { row = SPLIT.now; numbers = between PORT }
+    ∷ record { row = FAN.now; numbers = between PORT ++ between (link_ports Main) }
     ∷ record {
       row = DRILL.now;
       numbers = NUMBER.least ∷ NUMBER.most ∷ COUNT.least ∷ COUNT.most ∷ LINKS.least ∷ LINKS.most

@@ -11,6 +11,8 @@ pub enum Topic {
     Show,
     /// `count`
     Count,
+    /// `report`
+    Report,
     /// `pack`
     Pack,
     /// `split`
@@ -19,6 +21,8 @@ pub enum Topic {
     Send,
     /// `recv`
     Recv,
+    /// `fan`
+    Fan,
     /// `gate`
     Gate,
     /// `drill`
@@ -79,6 +83,8 @@ pub fn topic_named(name: &str) -> Option<Topic>
         Some(Topic::Show)
     } else if name == "count" {
         Some(Topic::Count)
+    } else if name == "report" {
+        Some(Topic::Report)
     } else if name == "pack" {
         Some(Topic::Pack)
     } else if name == "split" {
@@ -87,6 +93,8 @@ pub fn topic_named(name: &str) -> Option<Topic>
         Some(Topic::Send)
     } else if name == "recv" {
         Some(Topic::Recv)
+    } else if name == "fan" {
+        Some(Topic::Fan)
     } else if name == "gate" {
         Some(Topic::Gate)
     } else if name == "drill" {

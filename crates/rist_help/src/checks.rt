@@ -1,11 +1,11 @@
 //! The tests that a command's values have to pass, in their order.
 ghost use Rattle.std.specs.Prelude.{◌≡◌, ◌≤◌, IfOk, IfSome, codes, is_none, length, map, option_map, true};
 ghost use Rattle.std.specs.List.{list_all};
-ghost use Rattle.clap.specs.Words.{first_of, found_of, rows_of};
-ghost use Rattle.rist_words.specs.Links.{shares_of};
+ghost use Rattle.clap.specs.Words.{all_of, first_of, found_of, rows_of};
+ghost use Rattle.rist_words.specs.Links.{links_of, shares_of};
 ghost use Rattle.rist_help.specs.Checks.{checks_of, does_fail, first_failing, gate_links_in, incoming_in, is_sound};
 ghost use Rattle.rist_help.specs.Checks.{profile_by, profile_in, shown_test};
-ghost use Rattle.rist_help.specs.Checks.{First, GateLinks, GateShare, Incoming, Inputs, Links, Outs, SendShare};
+ghost use Rattle.rist_help.specs.Checks.{First, GateLinks, GateShare, Incoming, Inputs, Outs, SendShare};
 
 use clap::ArgMatches;
 use link_channels::Profile;
@@ -68,6 +68,8 @@ pub enum Test {
     MainTunnel(&'static str),
     /// `--pcap` and `--udp` are given both or neither, in a command that is always in the Main Profile.
     MainPcap,
+    /// There are one to sixteen links, and each is one, in a command that is always in the Main Profile.
+    MainLinks,
     /// The name of an option isn't empty, where it is given.
     NameIf(&'static str),
     /// The number of an option is one that it takes, where it is given.
@@ -76,6 +78,7 @@ pub enum Test {
     Watching,
 }
 
+/// Those of a replay, and of a report.
 static REPLAY_TESTS: [Test; 12] = [
     Test::Name("capture"),
     Test::Name("out"),
@@ -195,6 +198,28 @@ static RECV_TESTS: [Test; 23] = [
     Test::Watching,
 ];
 
+static FAN_TESTS: [Test; 19] = [
+    Test::Outs,
+    Test::MainPass("pass"),
+    Test::Number("bits", BITS),
+    Test::MainTunnel("tunnel"),
+    Test::MainLinks,
+    Test::Number("delay", DELAY),
+    Test::Number("span", SPAN),
+    Test::Number("restart", RESTART),
+    Test::Number("reorder", REORDER),
+    Test::Number("least", LEAST),
+    Test::Number("tries", TRIES),
+    Test::Nack,
+    Test::Number("own", OWN),
+    Test::Number("turns", TURNS),
+    Test::Number("idle", IDLE),
+    Test::NameIf("record"),
+    Test::NumberIf("stats", STATS),
+    Test::NameIf("stats-file"),
+    Test::Watching,
+];
+
 static GATE_TESTS: [Test; 37] = [
     Test::Profile("profile"),
     Test::Number("port", PORT),
@@ -253,6 +278,8 @@ pub fn tests_of(command: &str) -> &'static [Test]
         &SHOW_TESTS
     } else if command == "count" {
         &COUNT_TESTS
+    } else if command == "report" {
+        &REPLAY_TESTS
     } else if command == "pack" {
         &PACK_TESTS
     } else if command == "split" {
@@ -261,6 +288,8 @@ pub fn tests_of(command: &str) -> &'static [Test]
         &SEND_TESTS
     } else if command == "recv" {
         &RECV_TESTS
+    } else if command == "fan" {
+        &FAN_TESTS
     } else if command == "gate" {
         &GATE_TESTS
     } else {
@@ -303,7 +332,7 @@ fn does_fail(alloc: Global, values: &ArgMatches<'_>, test: Test) -> Result<bool,
         Test::First => Ok(fails_first(values)),
         Test::Pcap => Ok(pcap(values, profile_in(values)).is_none()),
         Test::Nack => Ok(nack(values, "nack").is_none()),
-        Test::Links => fails_links(alloc, values),
+        Test::Links => fails_links(alloc, values, profile_in(values)),
         Test::Inputs => Ok(fails_inputs(values)),
         Test::GateLinks => fails_gate_links(alloc, values),
         Test::SendShare => fails_send_share(alloc, values),
@@ -312,6 +341,7 @@ fn does_fail(alloc: Global, values: &ArgMatches<'_>, test: Test) -> Result<bool,
         Test::MainPass(option) => Ok(phrase(values, option, Profile::Main).is_none()),
         Test::MainTunnel(option) => Ok(tunnel(values, option, Profile::Main).is_none()),
         Test::MainPcap => Ok(pcap(values, Profile::Main).is_none()),
+        Test::MainLinks => fails_links(alloc, values, Profile::Main),
         Test::NameIf(option) => Ok(name_if(values, option).is_none()),
         Test::NumberIf(option, numbers) => Ok(number_if(values, option, numbers).is_none()),
         Test::Watching => Ok(watching(values).is_none()),
@@ -358,10 +388,12 @@ fn fails_first(values: &ArgMatches<'_>) -> bool
     number(values, "first", firsts(wide)).is_none()
 }
 
-fn fails_links(alloc: Global, values: &ArgMatches<'_>) -> Result<bool, NoMemory>
-    ensures { IfOk result (λ fails. fails ≡ does_fail (rows_of (found_of values.now)) Links) }
+/// Whether the links fail in a profile.
+fn fails_links(alloc: Global, values: &ArgMatches<'_>, profile: Profile) -> Result<bool, NoMemory>
+    ensures { IfOk result (λ fails. fails
+        ≡ is_none (links_of profile (all_of (codes "link") (rows_of (found_of values.now))))) }
 {
-    match links(alloc, values, profile_in(values)) {
+    match links(alloc, values, profile) {
         Ok(_) => Ok(false),
         Err(Refused::Usage) => Ok(true),
         Err(Refused::Memory) => Err(NoMemory),

@@ -118,7 +118,7 @@ fn push_fault(
         Test::First => push_first(text, values),
         Test::Pcap => push_pcap(text, values, profile_in(values)),
         Test::Nack => push_option(text, "nack", given(values, "nack"), "range or mask"),
-        Test::Links => push_links(text, values),
+        Test::Links => push_links(text, values, profile_in(values)),
         Test::Inputs => push_inputs(text, values),
         Test::GateLinks => push_gate_links(text, values),
         Test::SendShare | Test::GateShare => push_share(text, values),
@@ -126,6 +126,7 @@ fn push_fault(
         Test::MainPass(option) => push_pass(text, option),
         Test::MainTunnel(option) => push_tunnel(text, values, option),
         Test::MainPcap => push_pcap(text, values, Profile::Main),
+        Test::MainLinks => push_links(text, values, Profile::Main),
         Test::NameIf(option) => push_option(text, option, None, "a name isn't empty"),
         Test::NumberIf(option, numbers) => {
             push_number(text, option, given(values, option), numbers)
@@ -273,8 +274,11 @@ fn push_pcap(text: &mut String, values: &ArgMatches<'_>, profile: Profile) -> Re
 }
 
 /// The first word that is no link, or that there are too many.
-fn push_links(text: &mut String, values: &ArgMatches<'_>) -> Result<(), NoMemory> {
-    let profile = profile_in(values);
+fn push_links(
+    text: &mut String,
+    values: &ArgMatches<'_>,
+    profile: Profile,
+) -> Result<(), NoMemory> {
     match all_given(values, "link") {
         Some(words) => match first_wrong(profile, words) {
             Some(word) => push_link(text, word),
@@ -344,7 +348,7 @@ fn push_outs(alloc: Global, text: &mut String, values: &ArgMatches<'_>) -> Resul
     }
 }
 
-/// Why a text is no outputs of a split.
+/// Why a text is no outputs of a tunnel's flows.
 fn fault_of_outs(alloc: Global, word: &str) -> Result<&'static str, NoMemory> {
     let (ports, _names) = match outs_in(alloc, word) {
         Ok(outs) => outs,

@@ -16,10 +16,12 @@ Receives, sends and examines RIST streams (VSF TR-06-1, and a tunnel after VSF T
   rist replay CAPTURE OUT     write the payloads of a capture as a receiver plays them out
   rist show CAPTURE           write the records of a capture to -, each as a line of JSON
   rist count CAPTURE          count what a receiver would make of the records of a capture
+  rist report CAPTURE OUT     write a page of what a receiver would make of a capture, over time
   rist pack SOURCE CAPTURE    write a capture of the media datagrams that carry a stream
   rist split CAPTURE OUTS     write each flow of a captured tunnel to an output of its own
   rist send SOURCE LINK..     send a stream on links
   rist recv OUT LINK..        write a stream as it is received on links
+  rist fan OUTS LINK..        write each flow of a tunnel, as it is received on links, to an output of its own
   rist gate LINK..            receive on the first links, and send on over the others
   rist drill NUMBER COUNT LINKS LOSS
                               simulate a sender, a network and a receiver, and sum up
@@ -58,6 +60,14 @@ is refused. Each count is a line on the standard output.
 
 ";
 
+const REPORT: &str = "\
+usage: rist report CAPTURE OUT [OPTION..]
+
+Writes a page to OUT that says what a receiver would make of the records of CAPTURE, in all and over time:
+sent, received the first time, recovered, missing, and by link. It is HTML that stands alone.
+
+";
+
 const PACK: &str = "\
 usage: rist pack SOURCE CAPTURE [OPTION..]
 
@@ -88,6 +98,17 @@ usage: rist recv OUT LINK.. [OPTION..]
 
 Writes a stream to OUT as it is received on one to sixteen links. A LINK is an address and a port to
 be bound, a.b.c.d:port; the port is 1 to 65535, in the Simple Profile even: control comes to the next.
+
+";
+
+const FAN: &str = "\
+usage: rist fan OUTS LINK.. [OPTION..]
+
+Writes each of several flows that come in one tunnel to an output of its own, as they are received on one
+to sixteen links. The datagrams are of the Main Profile, and the flows differ in their ports. OUTS is
+V=NAME,V=NAME.. with one to eight outputs: V is the even port, 2 to 65534, that the datagrams of the flow
+name, and each is given once; a NAME has no comma, and no two are the same. A LINK is an address and a
+port to be bound, a.b.c.d:port; the port is 1 to 65535.
 
 ";
 
@@ -328,6 +349,21 @@ static COUNT_PIECES: [&str; 12] = [
     TUNNEL_ROW,
 ];
 
+static REPORT_PIECES: [&str; 12] = [
+    REPORT,
+    DELAY_ROW,
+    SPAN_ROW,
+    RESTART_ROW,
+    DRIFT_ROW,
+    PCAP_ROW,
+    UDP_ROW,
+    PROFILE_ROW,
+    PORT_ROW,
+    PASS_ROW,
+    BITS_ROW,
+    TUNNEL_ROW,
+];
+
 static PACK_PIECES: [&str; 12] = [
     PACK,
     FLOW_ROW,
@@ -403,6 +439,27 @@ static RECV_PIECES: [&str; 21] = [
     TUNNEL_ROW,
 ];
 
+static FAN_PIECES: [&str; 18] = [
+    FAN,
+    DELAY_ROW,
+    SPAN_ROW,
+    RESTART_ROW,
+    DRIFT_ROW,
+    REORDER_ROW,
+    LEAST_ROW,
+    TRIES_ROW,
+    NACK_ROW,
+    OWN_ROW,
+    TURNS_ROW,
+    IDLE_ROW,
+    RECORD_ROW,
+    STATS_ROW,
+    FULL_ROW,
+    PASS_ROW,
+    BITS_ROW,
+    TUNNEL_ROW,
+];
+
 static GATE_PIECES: [&str; 36] = [
     GATE,
     IN_ROW,
@@ -462,10 +519,12 @@ fn pieces_of_topic(topic: Topic) -> &'static [&'static str]
         Topic::Replay => &REPLAY_PIECES,
         Topic::Show => &SHOW_PIECES,
         Topic::Count => &COUNT_PIECES,
+        Topic::Report => &REPORT_PIECES,
         Topic::Pack => &PACK_PIECES,
         Topic::Split => &SPLIT_PIECES,
         Topic::Send => &SEND_PIECES,
         Topic::Recv => &RECV_PIECES,
+        Topic::Fan => &FAN_PIECES,
         Topic::Gate => &GATE_PIECES,
         Topic::Drill => &DRILL_PIECES,
     }

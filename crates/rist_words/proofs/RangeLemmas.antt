@@ -1,20 +1,20 @@
 -- Each reading of a line gives a value in its range.
-use Rattle.std.proofs.Common.{◌≡◌, List, [], ◌∷◌, Bool, true, false, cond, Option, Some, None, refl, subst, arith, length}
+use Rattle.std.proofs.Common.{◌≡◌, ℕ, List, [], ◌∷◌, Bool, true, false, cond, Option, Some, None, refl, subst, arith, length}
 use Rattle.std.specs.Prelude.{option_map, codes, slice_index}
 use Rattle.link_channels.specs.declared.profile.Profile.TheVariants.{Main}
 use Rattle.std.specs.Str.{bytes_eq}
 use Rattle.clap.specs.Words.{Kinds, Row, Text, all_of, first_of}
 use Rattle.rist_words.specs.Commands.{faults_of, command_in}
 use Rattle.rist_words.specs.Values.{is_set, number_at, number_of, name_of}
-use Rattle.rist_words.specs.CommandLine.{CommandLine, Replay, Show, Count, Pack, Split, Send, Recv, Gate, Drill, ReplayCommand, ShowCommand, CountCommand, PackCommand, SplitCommand, SendCommand, RecvCommand, GateCommand, DrillCommand}
+use Rattle.rist_words.specs.CommandLine.{CommandLine, Replay, Show, Count, Report, Pack, Split, Send, Recv, Fan, Gate, Drill, ReplayCommand, ShowCommand, CountCommand, PackCommand, SplitCommand, SendCommand, RecvCommand, FanCommand, GateCommand, DrillCommand}
 use Rattle.rist_words.specs.CommandLine.{delays, spans, restarts, gaps, leads, stores, holds, lingers, turn_counts, incoming_of, session_of, tunnel_session_of, pcap_of, stream_of, receiver_of, serving_of, watching_of}
 use Rattle.rist_words.specs.CommandLine.{drill_numbers, drill_counts, drill_links, drill_losses}
-use Rattle.rist_words.specs.CommandLine.{replay_of, show_of, count_of, pack_of, split_of, send_of, recv_of, gate_of, drill_of, command_line, taken_line, line_of}
+use Rattle.rist_words.specs.CommandLine.{replay_of, show_of, count_of, pack_of, split_of, send_of, recv_of, fan_of, gate_of, drill_of, command_line, taken_line, line_of}
 use Rattle.rist_words.specs.Links.{gate_links_of, links_of, shares_of}
 use Rattle.rist_words.specs.Outs.{outs_of}
-use Rattle.rist_words.specs.Ranges.{IsInReplay, IsInShow, IsInCount, IsInPack, IsInSplit, IsInSend, IsInRecv, IsInGate, IsInDrill, IsInRange}
+use Rattle.rist_words.specs.Ranges.{IsInReplay, IsInShow, IsInCount, IsInPack, IsInSplit, IsInSend, IsInRecv, IsInFan, IsInGate, IsInDrill, IsInRange, AreOutputs}
 use Rattle.rist_words.proofs.PartRanges.{reads, same_some, number_range, position_range, session_range, incoming_range, tunnel_session_range, udp_range, option_range, stream_range, links_range, share_range, receiver_range, serving_range, watching_range, gate_links_range}
-use Rattle.rist_words.proofs.OutLemmas.{split_outs_range}
+use Rattle.rist_words.proofs.OutLemmas.{AreSplitOuts, split_outs_range}
 use Rattle.rist_words.proofs.PartRanges.{default_gap, default_lead, default_store, default_hold, default_linger, default_turns}
 
 replay_range : (rows : List Row) (c : ReplayCommand) → replay_of rows ≡ Some c → IsInReplay c
@@ -85,6 +85,19 @@ pack_range rows c e =
       gap = g.most;
     })
 
+outputs : (outs : List ℕ × List Text) → AreSplitOuts outs → AreOutputs outs.0 outs.1
+outputs outs o = record {
+  some = o.some;
+  few = o.are.few;
+  count = o.are.count;
+  even = λ k inside. (o.are.numbers k inside).multiple;
+  low = λ k inside. (o.are.numbers k inside).least;
+  high = λ k inside. (o.are.numbers k inside).most;
+  different = o.different;
+  named = o.are.named;
+  apart = o.apart;
+}
+
 split_range : (rows : List Row) (c : SplitCommand) → split_of rows ≡ Some c → IsInSplit c
 split_range rows c e =
     let capture = reads (name_of (first_of (codes "capture") rows)) _ c e in
@@ -102,15 +115,7 @@ split_range rows c e =
     subst IsInSplit (same_some _ _ pcap.rest) (record {
       session = t.0;
       main = t.1;
-      some = o.some;
-      few = o.are.few;
-      count = o.are.count;
-      even = λ k inside. (o.are.numbers k inside).multiple;
-      low = λ k inside. (o.are.numbers k inside).least;
-      high = λ k inside. (o.are.numbers k inside).most;
-      different = o.different;
-      named = o.are.named;
-      apart = o.apart;
+      outs = outputs outs.value o;
       some_delay = d.least;
       delay = d.most;
       some_span = s.least;
@@ -177,6 +182,28 @@ recv_range rows c e =
       watching = watching_range rows watching.value watching.is;
     })
 
+fan_range : (rows : List Row) (c : FanCommand) → fan_of rows ≡ Some c → IsInFan c
+fan_range rows c e =
+    let outs = reads (outs_of (first_of (codes "outs") rows)) _ c e in
+    let session = reads (tunnel_session_of (slice_index outs.value.0 0) rows) _ c outs.rest in
+    let links = reads (links_of Main (all_of (codes "link") rows)) _ c session.rest in
+    let receiver = reads (receiver_of rows) _ c links.rest in
+    let serving = reads (serving_of rows) _ c receiver.rest in
+    let watching = reads (watching_of rows) _ c serving.rest in
+    let o = split_outs_range (first_of (codes "outs") rows) outs.value outs.is in
+    let t = tunnel_session_range (slice_index outs.value.0 0) rows session.value (o.are.numbers 0 (omega (arith, o.some))) session.is in
+    let l = links_range Main (all_of (codes "link") rows) links.value links.is in
+    subst IsInFan (same_some _ _ watching.rest) (record {
+      session = t.0;
+      main = t.1;
+      outs = outputs outs.value o;
+      some_link = l.0;
+      links = l.1;
+      receiver = receiver_range rows receiver.value receiver.is;
+      serving = serving_range rows serving.value serving.is;
+      watching = watching_range rows watching.value watching.is;
+    })
+
 gate_range : (rows : List Row) (c : GateCommand) → gate_of rows ≡ Some c → IsInGate c
 gate_range rows c e =
     let session = reads (session_of rows) _ c e in
@@ -234,24 +261,27 @@ mapped f P (Some a) c each to e = subst IsInRange (same_some (f a) c e) (to a (e
 
 command_range : (name : Text) (rows : List Row) (c : CommandLine) → command_line name rows ≡ Some c → IsInRange c
 command_range name rows c e =
-    by_name (bytes_eq name (codes "replay")) (bytes_eq name (codes "show")) (bytes_eq name (codes "count")) (bytes_eq name (codes "pack"))
-    (bytes_eq name (codes "split")) (bytes_eq name (codes "send")) (bytes_eq name (codes "recv")) (bytes_eq name (codes "gate")) (bytes_eq name (codes "drill")) e
+    by_name (bytes_eq name (codes "replay")) (bytes_eq name (codes "show")) (bytes_eq name (codes "count")) (bytes_eq name (codes "report")) (bytes_eq name (codes "pack"))
+    (bytes_eq name (codes "split")) (bytes_eq name (codes "send")) (bytes_eq name (codes "recv")) (bytes_eq name (codes "fan")) (bytes_eq name (codes "gate")) (bytes_eq name (codes "drill")) e
   where
-    by_name : (a b n d l s r g w : Bool)
+    by_name : (a b n t d l s r f g w : Bool)
         → cond a (option_map Replay (replay_of rows)) (cond b (option_map Show (show_of rows)) (cond n (option_map Count (count_of rows))
-        (cond d (option_map Pack (pack_of rows)) (cond l (option_map Split (split_of rows)) (cond s (option_map Send (send_of rows)) (cond r (option_map Recv (recv_of rows))
-        (cond g (option_map Gate (gate_of rows)) (cond w (option_map Drill (drill_of rows)) None)))))))) ≡ Some c
+        (cond t (option_map Report (replay_of rows)) (cond d (option_map Pack (pack_of rows)) (cond l (option_map Split (split_of rows))
+        (cond s (option_map Send (send_of rows)) (cond r (option_map Recv (recv_of rows)) (cond f (option_map Fan (fan_of rows))
+        (cond g (option_map Gate (gate_of rows)) (cond w (option_map Drill (drill_of rows)) None)))))))))) ≡ Some c
         → IsInRange c
-    by_name true b n d l s r g w p = mapped Replay IsInReplay (replay_of rows) c (replay_range rows) (λ a i. i) p
-    by_name false true n d l s r g w p = mapped Show IsInShow (show_of rows) c (show_range rows) (λ a i. i) p
-    by_name false false true d l s r g w p = mapped Count IsInCount (count_of rows) c (count_range rows) (λ a i. i) p
-    by_name false false false true l s r g w p = mapped Pack IsInPack (pack_of rows) c (pack_range rows) (λ a i. i) p
-    by_name false false false false true s r g w p = mapped Split IsInSplit (split_of rows) c (split_range rows) (λ a i. i) p
-    by_name false false false false false true r g w p = mapped Send IsInSend (send_of rows) c (send_range rows) (λ a i. i) p
-    by_name false false false false false false true g w p = mapped Recv IsInRecv (recv_of rows) c (recv_range rows) (λ a i. i) p
-    by_name false false false false false false false true w p = mapped Gate IsInGate (gate_of rows) c (gate_range rows) (λ a i. i) p
-    by_name false false false false false false false false true p = mapped Drill IsInDrill (drill_of rows) c (drill_range rows) (λ a i. i) p
-    by_name false false false false false false false false false p = cc
+    by_name true b n t d l s r f g w p = mapped Replay IsInReplay (replay_of rows) c (replay_range rows) (λ a i. i) p
+    by_name false true n t d l s r f g w p = mapped Show IsInShow (show_of rows) c (show_range rows) (λ a i. i) p
+    by_name false false true t d l s r f g w p = mapped Count IsInCount (count_of rows) c (count_range rows) (λ a i. i) p
+    by_name false false false true d l s r f g w p = mapped Report IsInReplay (replay_of rows) c (replay_range rows) (λ a i. i) p
+    by_name false false false false true l s r f g w p = mapped Pack IsInPack (pack_of rows) c (pack_range rows) (λ a i. i) p
+    by_name false false false false false true s r f g w p = mapped Split IsInSplit (split_of rows) c (split_range rows) (λ a i. i) p
+    by_name false false false false false false true r f g w p = mapped Send IsInSend (send_of rows) c (send_range rows) (λ a i. i) p
+    by_name false false false false false false false true f g w p = mapped Recv IsInRecv (recv_of rows) c (recv_range rows) (λ a i. i) p
+    by_name false false false false false false false false true g w p = mapped Fan IsInFan (fan_of rows) c (fan_range rows) (λ a i. i) p
+    by_name false false false false false false false false false true w p = mapped Gate IsInGate (gate_of rows) c (gate_range rows) (λ a i. i) p
+    by_name false false false false false false false false false false true p = mapped Drill IsInDrill (drill_of rows) c (drill_range rows) (λ a i. i) p
+    by_name false false false false false false false false false false false p = cc
 
 taken_range : (kinds : Kinds) (named : Option (Text × List Row)) (c : CommandLine) → taken_line kinds named ≡ Some c → IsInRange c
 taken_range [] None c e = cc

@@ -5,7 +5,7 @@ use Rattle.gre_tunnel.specs.declared.tunnel.Tunnel.TheVariants.{Librist, Own}
 use Rattle.link_channels.specs.declared.profile.Profile.TheVariants.{Main, Simple}
 use Rattle.rist_words.specs.Commands.{command_in, faults_of}
 use Rattle.request_rules.specs.declared.policy.NackKind.TheVariants.{Mask, Range}
-use Rattle.rist_words.specs.CommandLine.{Count, Drill, Gate, Pack, Receiver, Recv, Replay, Send, Serving, Session, Show, Split, Stream, Watching, line_of}
+use Rattle.rist_words.specs.CommandLine.{Count, Drill, Fan, Gate, Pack, Receiver, Recv, Replay, Report, Send, Serving, Session, Show, Split, Stream, Watching, line_of}
 
 -- a session without options
 abbrev plain : Session
@@ -76,6 +76,15 @@ counting : line_of (codes "rist" ∷ codes "count" ∷ codes "a" ∷ codes "--sp
     ≡ Some (Count (record { capture = codes "a"; session = plain; delay = 1000; span = 8; restart = 500; drift = false; pcap = None }))
 unfolding clap_on_literals faults_of command_in
 counting = refl
+
+reporting : line_of (codes "rist" ∷ codes "report" ∷ codes "a" ∷ codes "b.html" ∷ codes "--delay=200" ∷ [])
+    ≡ Some (Report (record { capture = codes "a"; out = codes "b.html"; session = plain; delay = 200; span = 2048; restart = 0; drift = false; pcap = None }))
+unfolding clap_on_literals faults_of command_in
+reporting = refl
+
+report_without_a_page : line_of (codes "rist" ∷ codes "report" ∷ codes "a" ∷ []) ≡ None
+unfolding clap_on_literals faults_of command_in
+report_without_a_page = refl
 
 drifting : line_of (codes "rist" ∷ codes "replay" ∷ codes "--drift" ∷ codes "a" ∷ codes "-" ∷ [])
     ≡ Some (Replay (record { capture = codes "a"; out = codes "-"; session = plain; delay = 1000; span = 2048; restart = 0; drift = true; pcap = None }))
@@ -240,6 +249,31 @@ file_without_statistics = refl
 recorded_sending : line_of (codes "rist" ∷ codes "send" ∷ codes "-" ∷ codes "127.0.0.1:5000" ∷ codes "--record=a" ∷ []) ≡ None
 unfolding clap_on_literals faults_of command_in
 recorded_sending = refl
+
+fanned : line_of (codes "rist" ∷ codes "fan" ∷ codes "1970=b,1968=c" ∷ codes "127.0.0.1:5000" ∷ codes "--full" ∷ codes "127.0.0.1:5003" ∷ codes "--idle=5" ∷ codes "--pass=p" ∷ codes "--drift" ∷ [])
+    ≡ Some (Fan (record {
+      ports = 1970 ∷ 1968 ∷ [];
+      names = codes "b" ∷ codes "c" ∷ [];
+      links = record { address = 127 ∷ 0 ∷ 0 ∷ 1 ∷ []; port = 5000 } ∷ record { address = 127 ∷ 0 ∷ 0 ∷ 1 ∷ []; port = 5003 } ∷ [];
+      session = record plain { profile = Main; port = 1970; pass = Some (codes "p"); full = true };
+      receiver = record plain_receiver { drift = true };
+      serving = record plain_serving { idle = 5 };
+      watching = unwatched;
+    }))
+unfolding clap_on_literals faults_of command_in
+fanned = refl
+
+fan_with_a_profile : line_of (codes "rist" ∷ codes "fan" ∷ codes "1968=b" ∷ codes "127.0.0.1:5000" ∷ codes "--profile=main" ∷ []) ≡ None
+unfolding clap_on_literals faults_of command_in
+fan_with_a_profile = refl
+
+fan_that_keeps_steps : line_of (codes "rist" ∷ codes "fan" ∷ codes "1968=b" ∷ codes "127.0.0.1:5000" ∷ codes "--keep=1" ∷ []) ≡ None
+unfolding clap_on_literals faults_of command_in
+fan_that_keeps_steps = refl
+
+fan_without_a_link : line_of (codes "rist" ∷ codes "fan" ∷ codes "1968=b" ∷ []) ≡ None
+unfolding clap_on_literals faults_of command_in
+fan_without_a_link = refl
 
 gateway : line_of (codes "rist" ∷ codes "gate" ∷ codes "127.0.0.1:5000" ∷ codes "127.0.0.1:5002" ∷ codes "--share=3" ∷ [])
     ≡ Some (Gate (record {

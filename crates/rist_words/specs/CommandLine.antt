@@ -144,6 +144,17 @@ pub record RecvCommand : Type 0 where
   pub serving : Serving
   pub watching : Watching
 
+-- several flows that come in one tunnel, received on links: the port and the name of each output, in their order; the
+-- session that all have but for the port, which is that of the first output; and of a receiving the rest
+pub record FanCommand : Type 0 where
+  pub ports : List ℕ
+  pub names : List Text
+  pub links : List LinkSpec
+  pub session : Session
+  pub receiver : Receiver
+  pub serving : Serving
+  pub watching : Watching
+
 -- a stream received on some links and sent on others: the session of the links that are received on, and that of the
 -- others; what the receiver is set to and its run; and as of a sending the stream, the store, the hold time and the
 -- weights of the links that send
@@ -173,10 +184,12 @@ pub data CommandLine : Type 0 where
   Replay : ReplayCommand → CommandLine
   Show : ShowCommand → CommandLine
   Count : CountCommand → CommandLine
+  Report : ReplayCommand → CommandLine
   Pack : PackCommand → CommandLine
   Split : SplitCommand → CommandLine
   Send : SendCommand → CommandLine
   Recv : RecvCommand → CommandLine
+  Fan : FanCommand → CommandLine
   Gate : GateCommand → CommandLine
   Drill : DrillCommand → CommandLine
 
@@ -310,7 +323,8 @@ incoming_of session rows =
     if is_some (first_of incoming_names.profile rows) then session_named incoming_names false rows
     else (if are_unset incoming_names rows then Some session else None)
 
--- the session of a command that is always in the Main Profile, at this port
+-- The session of a command that is always in the Main Profile, at this port. One that makes no datagrams has no flag for
+-- full ones.
 abbrev pub tunnel_session_of : ℕ → List Row → Option Session
 tunnel_session_of port rows = do
   pass ← phrase_of Main (first_of session_names.pass rows)
@@ -321,7 +335,7 @@ tunnel_session_of port rows = do
     port = port;
     pass = pass;
     bits = bits;
-    full = false;
+    full = is_set (first_of session_names.full rows);
     tunnel = tunnel;
     echo = echo_of tunnel false;
   })
@@ -337,7 +351,7 @@ pcap_with profile true (Some text) = option_map (λ port. Some port) (number_in 
 abbrev pub pcap_of : Profile → List Row → Option (Option ℕ)
 pcap_of profile rows = pcap_with profile (is_set (first_of (codes "pcap") rows)) (first_of (codes "udp") rows)
 
--- the values of a replay
+-- the values of a replay, or of a report
 abbrev pub replay_of : List Row → Option ReplayCommand
 replay_of rows = do
   capture ← name_of (first_of (codes "capture") rows)
@@ -533,6 +547,25 @@ recv_of rows = do
     watching = watching;
   })
 
+-- the values of a receiving of several flows
+abbrev pub fan_of : List Row → Option FanCommand
+fan_of rows = do
+  outs ← outs_of (first_of (codes "outs") rows)
+  session ← tunnel_session_of (slice_index outs.0 0) rows
+  links ← links_of Main (all_of (codes "link") rows)
+  receiver ← receiver_of rows
+  serving ← serving_of rows
+  watching ← watching_of rows
+  Some (record {
+    ports = outs.0;
+    names = outs.1;
+    links = links;
+    session = session;
+    receiver = receiver;
+    serving = serving;
+    watching = watching;
+  })
+
 -- the values of a gateway
 abbrev pub gate_of : List Row → Option GateCommand
 gate_of rows = do
@@ -575,12 +608,14 @@ command_line name rows =
     if bytes_eq name (codes "replay") then option_map Replay (replay_of rows)
     else (if bytes_eq name (codes "show") then option_map Show (show_of rows)
     else (if bytes_eq name (codes "count") then option_map Count (count_of rows)
+    else (if bytes_eq name (codes "report") then option_map Report (replay_of rows)
     else (if bytes_eq name (codes "pack") then option_map Pack (pack_of rows)
     else (if bytes_eq name (codes "split") then option_map Split (split_of rows)
     else (if bytes_eq name (codes "send") then option_map Send (send_of rows)
     else (if bytes_eq name (codes "recv") then option_map Recv (recv_of rows)
+    else (if bytes_eq name (codes "fan") then option_map Fan (fan_of rows)
     else (if bytes_eq name (codes "gate") then option_map Gate (gate_of rows)
-    else (if bytes_eq name (codes "drill") then option_map Drill (drill_of rows) else None))))))))
+    else (if bytes_eq name (codes "drill") then option_map Drill (drill_of rows) else None))))))))))
 
 -- with nothing against the words, the line of the command that they name
 abbrev pub taken_line : Kinds → Option (Text × List Row) → Option CommandLine

@@ -79,6 +79,13 @@ count_app =
     with_arguments (session_app (codes "count")) (codes "delay" ∷ codes "span" ∷ codes "restart" ∷ codes "udp" ∷ [])
     (codes "pcap" ∷ codes "drift" ∷ []) (codes "capture" ∷ [])
 
+-- a report, with the options and the flags of a replay
+abbrev pub report_app : App
+report_app =
+    with_arguments (session_app (codes "report")) (codes "delay" ∷ codes "span" ∷ codes "restart" ∷ codes "udp" ∷ [])
+    (codes "pcap" ∷ codes "drift" ∷ [])
+    (codes "capture" ∷ codes "out" ∷ [])
+
 -- a packing: its options, its flags and its positions
 abbrev pub pack_app : App
 pack_app =
@@ -86,11 +93,14 @@ pack_app =
     (codes "nulls" ∷ codes "wide" ∷ codes "full" ∷ [])
     (codes "source" ∷ codes "capture" ∷ [])
 
--- a split, which is always in the Main Profile and has the ports of its outputs: its options, its flags and its
--- positions
+-- a command that is always in the Main Profile, and has the ports of its outputs
+abbrev pub tunnel_app : Text → App
+tunnel_app name = with_rules Valued (new_app name) (codes "pass" ∷ codes "bits" ∷ codes "tunnel" ∷ [])
+
+-- a split of a tunnel: its options, its flags and its positions
 abbrev pub split_app : App
 split_app =
-    with_arguments (with_rules Valued (new_app (codes "split")) (codes "pass" ∷ codes "bits" ∷ codes "tunnel" ∷ []))
+    with_arguments (tunnel_app (codes "split"))
     (codes "delay" ∷ codes "span" ∷ codes "restart" ∷ codes "udp" ∷ []) (codes "pcap" ∷ codes "drift" ∷ [])
     (codes "capture" ∷ codes "outs" ∷ [])
 
@@ -101,18 +111,29 @@ send_app = with_rules Positions (with_arguments (session_app (codes "send"))
     ∷ codes "linger" ∷ codes "turns" ∷ codes "stats" ∷ codes "stats-file" ∷ [])
     (codes "nulls" ∷ codes "wide" ∷ codes "full" ∷ codes "echo" ∷ []) (codes "source" ∷ [])) (codes "link" ∷ [])
 
--- the options of a receiver and of its run
-abbrev pub receiver_options : List Text
-receiver_options =
+-- the options of a receiver and of its run, but for that of steps that are kept
+abbrev pub tunnel_receiver_options : List Text
+tunnel_receiver_options =
     codes "delay" ∷ codes "span" ∷ codes "restart" ∷ codes "reorder" ∷ codes "least" ∷ codes "tries" ∷ codes "nack"
     ∷ codes "own" ∷ codes "turns"
-    ∷ codes "idle" ∷ codes "keep" ∷ codes "record" ∷ codes "stats" ∷ codes "stats-file" ∷ []
+    ∷ codes "idle" ∷ codes "record" ∷ codes "stats" ∷ codes "stats-file" ∷ []
+
+-- and with it
+abbrev pub receiver_options : List Text
+receiver_options = codes "keep" ∷ tunnel_receiver_options
 
 -- a receiving: its options, its flags and its positions, of which the last takes one link or more
 abbrev pub recv_app : App
 recv_app =
     with_rules Positions (with_arguments (session_app (codes "recv")) receiver_options
     (codes "full" ∷ codes "drift" ∷ []) (codes "out" ∷ [])) (codes "link" ∷ [])
+
+-- a receiving of several flows that come in one tunnel: its options, its flags and its positions, of which the last takes
+-- one link or more
+abbrev pub fan_app : App
+fan_app =
+    with_rules Positions (with_arguments (tunnel_app (codes "fan")) tunnel_receiver_options
+    (codes "full" ∷ codes "drift" ∷ []) (codes "outs" ∷ [])) (codes "link" ∷ [])
 
 -- a gateway: a receiver's options, its own, its flags and its links. The session of the links that are received on has
 -- options and a flag of its own
@@ -132,15 +153,15 @@ drill_app =
 -- the commands over files
 abbrev pub files_app : App
 files_app =
-    with_subcommand (with_subcommand
+    with_subcommand (with_subcommand (with_subcommand
     (with_subcommand (with_subcommand (with_subcommand (new_app (codes "rist")) replay_app.top) show_app.top)
-    count_app.top) pack_app.top) split_app.top
+    count_app.top) report_app.top) pack_app.top) split_app.top
 
 -- the program: those, the commands over links, and the simulated run
 abbrev pub rist_app : App
 rist_app =
-    with_subcommand (with_subcommand (with_subcommand (with_subcommand files_app send_app.top) recv_app.top)
-    gate_app.top) drill_app.top
+    with_subcommand (with_subcommand (with_subcommand (with_subcommand (with_subcommand files_app send_app.top)
+    recv_app.top) fan_app.top) gate_app.top) drill_app.top
 
 -- what stands against taking the words, the program's name first; where nothing does, they are taken
 unfoldable pub faults_of : List Text → Kinds

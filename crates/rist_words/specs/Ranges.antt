@@ -1,15 +1,18 @@
 -- The ranges and combinations of a line's values (this profile).
-use Rattle.std.specs.Prelude.{◌≡◌, ◌⊎◌, ℕ, [], ◌+◌, ◌%◌, ◌^◌, ◌<◌, ◌≤◌, false, None, IfSome, length, slice_index}
+use Rattle.std.specs.Prelude.{◌≡◌, ◌⊎◌, ℕ, List, [], ◌+◌, ◌%◌, ◌^◌, ◌<◌, ◌≤◌, false, None, IfSome, length, slice_index}
 use Rattle.link_channels.specs.declared.bounds.TheConstants.{MAX_LINKS}
 use Rattle.std.specs.Prelude.{slice_index_or}
 use Rattle.std.specs.List.{All}
 use Rattle.gre_tunnel.specs.declared.tunnel.Tunnel.TheVariants.{Own}
 use Rattle.link_channels.specs.declared.profile.Profile.{Profile}
 use Rattle.link_channels.specs.declared.profile.Profile.TheVariants.{Simple, Main}
-use Rattle.rist_words.specs.CommandLine.{CommandLine, Replay, Show, Count, Pack, Split, Send, Recv, Gate, Drill}
+use Rattle.clap.specs.Words.{Text}
+use Rattle.rist_words.specs.CommandLine.{CommandLine, Replay, Show, Count, Report, Pack, Split, Send, Recv, Fan, Gate}
+use Rattle.rist_words.specs.CommandLine.{Drill}
 use Rattle.rist_words.specs.CommandLine.{Session, Stream, Receiver, Serving, Watching, ReplayCommand, ShowCommand}
 use Rattle.rist_words.specs.CommandLine.{CountCommand}
-use Rattle.rist_words.specs.CommandLine.{PackCommand, SplitCommand, SendCommand, RecvCommand, GateCommand, DrillCommand}
+use Rattle.rist_words.specs.CommandLine.{PackCommand, SplitCommand, SendCommand, RecvCommand, FanCommand, GateCommand}
+use Rattle.rist_words.specs.CommandLine.{DrillCommand}
 use Rattle.rist_words.specs.CommandLine.{delays, spans, restarts, gaps, leads, stores, holds, lingers, turn_counts}
 use Rattle.rist_words.specs.CommandLine.{reorders, retry_times, retry_counts, idle_times, kept_counts, stats_times}
 use Rattle.rist_words.specs.CommandLine.{drill_counts, drill_links, drill_losses}
@@ -74,22 +77,25 @@ pub record IsInPack (c : PackCommand) : Type 0 where
   pub some_gap : gaps.least ≤ c.gap
   pub gap : c.gap ≤ gaps.most
 
--- one to eight outputs, of even ports and of names that aren't empty, no two of either the same; a session of the Main
--- Profile, and of a replay what a split has too
+-- one to eight outputs, of even ports and of names that aren't empty, no two of either the same
+pub record AreOutputs (numbers : List ℕ) (names : List Text) : Type 0 where
+  pub some : 1 ≤ length numbers
+  pub few : length numbers ≤ 8
+  pub count : length names ≡ length numbers
+  pub even : (k : ℕ) → k < length numbers → slice_index numbers k % 2 ≡ 0
+  pub low : (k : ℕ) → k < length numbers → ports.least ≤ slice_index numbers k
+  pub high : (k : ℕ) → k < length numbers → slice_index numbers k ≤ ports.most
+  pub different : (j k : ℕ) → j < length numbers → k < length numbers → slice_index numbers j ≡ slice_index numbers k
+      → j ≡ k
+  pub named : (k : ℕ) → k < length names → 1 ≤ length (slice_index_or names k [])
+  pub apart : (j k : ℕ) → j < length names → k < length names → slice_index_or names j [] ≡ slice_index_or names k []
+      → j ≡ k
+
+-- outputs, a session of the Main Profile, and of a replay what a split has too
 pub record IsInSplit (c : SplitCommand) : Type 0 where
   pub session : IsInSession c.session
   pub main : c.session.profile ≡ Main
-  pub some : 1 ≤ length c.ports
-  pub few : length c.ports ≤ 8
-  pub count : length c.names ≡ length c.ports
-  pub even : (k : ℕ) → k < length c.ports → slice_index c.ports k % 2 ≡ 0
-  pub low : (k : ℕ) → k < length c.ports → ports.least ≤ slice_index c.ports k
-  pub high : (k : ℕ) → k < length c.ports → slice_index c.ports k ≤ ports.most
-  pub different : (j k : ℕ) → j < length c.ports → k < length c.ports → slice_index c.ports j ≡ slice_index c.ports k
-      → j ≡ k
-  pub named : (k : ℕ) → k < length c.names → 1 ≤ length (slice_index_or c.names k [])
-  pub apart : (j k : ℕ) → j < length c.names → k < length c.names
-      → slice_index_or c.names j [] ≡ slice_index_or c.names k [] → j ≡ k
+  pub outs : AreOutputs c.ports c.names
   pub some_delay : delays.least ≤ c.delay
   pub delay : c.delay ≤ delays.most
   pub some_span : spans.least ≤ c.span
@@ -155,6 +161,17 @@ pub record IsInRecv (c : RecvCommand) : Type 0 where
   pub serving : IsInServing c.serving
   pub watching : IsInWatching c.watching
 
+-- outputs, a session of the Main Profile, one to sixteen links, and what each receiver and the run are set to
+pub record IsInFan (c : FanCommand) : Type 0 where
+  pub session : IsInSession c.session
+  pub main : c.session.profile ≡ Main
+  pub outs : AreOutputs c.ports c.names
+  pub some_link : 1 ≤ length c.links
+  pub links : length c.links ≤ MAX_LINKS
+  pub receiver : IsInReceiver c.receiver
+  pub serving : IsInServing c.serving
+  pub watching : IsInWatching c.watching
+
 -- a link or more that receives and one or more that sends, sixteen in all at most, and a session for each; a weight for
 -- each that sends where they share; and what the receiver, its run and the sender are set to
 pub record IsInGate (c : GateCommand) : Type 0 where
@@ -186,9 +203,11 @@ abbrev pub IsInRange : CommandLine → Type 0
 IsInRange (Replay c) = IsInReplay c
 IsInRange (Show c) = IsInShow c
 IsInRange (Count c) = IsInCount c
+IsInRange (Report c) = IsInReplay c
 IsInRange (Pack c) = IsInPack c
 IsInRange (Split c) = IsInSplit c
 IsInRange (Send c) = IsInSend c
 IsInRange (Recv c) = IsInRecv c
+IsInRange (Fan c) = IsInFan c
 IsInRange (Gate c) = IsInGate c
 IsInRange (Drill c) = IsInDrill c

@@ -14,14 +14,17 @@ use Rattle.rist_words.specs.declared.lines.ReceiverWords.{ReceiverWords}
 use Rattle.rist_words.specs.declared.lines.ServingWords.{ServingWords}
 use Rattle.rist_words.specs.declared.lines.WatchingWords.{WatchingWords}
 use Rattle.rist_words.specs.declared.lines.RecvLine.{RecvLine}
+use Rattle.rist_words.specs.declared.lines.FanLine.{FanLine}
 use Rattle.rist_words.specs.declared.lines.GateLine.{GateLine}
 use Rattle.rist_words.specs.declared.lines.DrillLine.{DrillLine}
 use Rattle.rist_words.specs.declared.session.SessionOptions.{SessionOptions}
 use Rattle.rist_words.specs.Commands.{SessionNames}
-use Rattle.rist_words.specs.CommandLine.{CommandLine, Replay, Show, Count, Pack, Split, Send, Recv, Gate, Drill}
+use Rattle.rist_words.specs.CommandLine.{CommandLine, Replay, Show, Count, Report, Pack, Split, Send, Recv, Fan, Gate}
+use Rattle.rist_words.specs.CommandLine.{Drill}
 use Rattle.rist_words.specs.CommandLine.{Session, Stream, Receiver, Serving, Watching, ReplayCommand, ShowCommand}
 use Rattle.rist_words.specs.CommandLine.{CountCommand}
-use Rattle.rist_words.specs.CommandLine.{PackCommand, SplitCommand, SendCommand, RecvCommand, GateCommand, DrillCommand}
+use Rattle.rist_words.specs.CommandLine.{PackCommand, SplitCommand, SendCommand, RecvCommand, FanCommand, GateCommand}
+use Rattle.rist_words.specs.CommandLine.{DrillCommand}
 
 -- the names of a session's options
 abbrev pub shown_names : SessionOptions → SessionNames
@@ -165,6 +168,18 @@ shown_recv l =
       watching = shown_watching l.watching;
     }
 
+-- the receiving of several flows that a line says
+abbrev pub shown_fan : FanLine → FanCommand
+shown_fan l = record {
+  ports = l.ports.items;
+  names = map (λ name. name.now) l.names.items;
+  links = l.links.items;
+  session = shown_session l.session;
+  receiver = shown_receiver l.receiver;
+  serving = shown_serving l.serving;
+  watching = shown_watching l.watching;
+}
+
 -- the gateway that a line says
 abbrev pub shown_gate : GateLine → GateCommand
 shown_gate l = record {
@@ -190,9 +205,11 @@ abbrev pub shown : Line → CommandLine
 shown (lines.Replay l) = Replay (shown_replay l)
 shown (lines.Show l) = Show (shown_show l)
 shown (lines.Count l) = Count (shown_count l)
+shown (lines.Report l) = Report (shown_replay l)
 shown (lines.Pack l) = Pack (shown_pack l)
 shown (lines.Split l) = Split (shown_split l)
 shown (lines.Send l) = Send (shown_send l)
 shown (lines.Recv l) = Recv (shown_recv l)
+shown (lines.Fan l) = Fan (shown_fan l)
 shown (lines.Gate l) = Gate (shown_gate l)
 shown (lines.Drill l) = Drill (shown_drill l)

@@ -2,8 +2,8 @@
 ghost use Rattle.std.specs.Prelude.{◌≡◌, IfOk, false, map};
 ghost use Rattle.clap.specs.Words.{app_of, rule_of, with_rule, with_subcommand};
 ghost use Rattle.clap.specs.declared.Command.TheViews.{out-Command as fields_of};
-ghost use Rattle.rist_words.specs.Commands.{rule_for, with_rules, session_app, with_arguments, replay_app, show_app, count_app, pack_app, split_app};
-ghost use Rattle.rist_words.specs.Commands.{send_app, recv_app, gate_app, drill_app, files_app, rist_app};
+ghost use Rattle.rist_words.specs.Commands.{rule_for, with_rules, session_app, with_arguments, replay_app, show_app, count_app, report_app, pack_app, tunnel_app, split_app};
+ghost use Rattle.rist_words.specs.Commands.{send_app, recv_app, fan_app, gate_app, drill_app, files_app, rist_app};
 
 use clap::{Arg, ArgAction, Command};
 use std::alloc::{AllocError, Global};
@@ -13,7 +13,7 @@ static SESSION: [&str; 5] = ["profile", "port", "pass", "bits", "tunnel"];
 
 static REPLAY: [&str; 2] = ["capture", "out"];
 
-/// The options of a replay, of a counting, and of a split.
+/// The options of a replay, of a counting, of a report, and of a split.
 static REPLAY_OPTIONS: [&str; 4] = ["delay", "span", "restart", "udp"];
 
 /// The position of a showing, and of a counting.
@@ -21,7 +21,7 @@ static CAPTURE: [&str; 1] = ["capture"];
 
 static SHOW_OPTIONS: [&str; 1] = ["udp"];
 
-/// The flags of a replay, of a counting, and of a split.
+/// The flags of a replay, of a counting, of a report, and of a split.
 static REPLAY_FLAGS: [&str; 2] = ["pcap", "drift"];
 
 /// The flag of a showing.
@@ -31,7 +31,7 @@ static PACK: [&str; 2] = ["source", "capture"];
 
 static PACK_OPTIONS: [&str; 3] = ["flow", "first", "gap"];
 
-/// The options of a split by which its session is given.
+/// The options of a command for a tunnel by which its session is given.
 static TUNNEL: [&str; 3] = ["pass", "bits", "tunnel"];
 
 static SPLIT: [&str; 2] = ["capture", "outs"];
@@ -63,11 +63,14 @@ static PACK_FLAGS: [&str; 3] = ["nulls", "wide", "full"];
 
 static RECV: [&str; 1] = ["out"];
 
-/// The flags of a receiving, which makes datagrams of control.
+static FAN: [&str; 1] = ["outs"];
+
+/// The flags of a receiving of one flow or several, which makes datagrams of control.
 static RECV_FLAGS: [&str; 2] = ["full", "drift"];
 
-/// The options of each command that receives.
+/// The options of each command that receives one flow.
 static RECEIVER_OPTIONS: [&str; 14] = [
+    "keep",
     "delay",
     "span",
     "restart",
@@ -78,7 +81,23 @@ static RECEIVER_OPTIONS: [&str; 14] = [
     "own",
     "turns",
     "idle",
-    "keep",
+    "record",
+    "stats",
+    "stats-file",
+];
+
+/// Those of one that receives several, which keeps no steps.
+static FAN_OPTIONS: [&str; 13] = [
+    "delay",
+    "span",
+    "restart",
+    "reorder",
+    "least",
+    "tries",
+    "nack",
+    "own",
+    "turns",
+    "idle",
     "record",
     "stats",
     "stats-file",
@@ -124,6 +143,7 @@ pub fn program<'a>(alloc: Global) -> Result<Command<'a>, AllocError>
     let program = over_files(alloc)?;
     let program = below(program, send(alloc)?)?;
     let program = below(program, recv(alloc)?)?;
+    let program = below(program, fan(alloc)?)?;
     let program = below(program, gate(alloc)?)?;
     Ok(below(program, drill(alloc)?)?)
 }
@@ -136,6 +156,7 @@ fn over_files<'a>(alloc: Global) -> Result<Command<'a>, AllocError>
     let program = below(program, replay(alloc)?)?;
     let program = below(program, show(alloc)?)?;
     let program = below(program, count(alloc)?)?;
+    let program = below(program, report(alloc)?)?;
     let program = below(program, pack(alloc)?)?;
     Ok(below(program, split(alloc)?)?)
 }
@@ -167,6 +188,15 @@ fn count<'a>(alloc: Global) -> Result<Command<'a>, AllocError>
     with_arguments(alloc, count, &REPLAY_OPTIONS, &REPLAY_FLAGS, &CAPTURE)
 }
 
+/// The command of a report.
+fn report<'a>(alloc: Global) -> Result<Command<'a>, AllocError>
+    ensures app { IfOk result (λ r. app_of r ≡ report_app) }
+    ensures local { IfOk result (λ r. (fields_of r).has_globals ≡ false) }
+{
+    let report = session(alloc, "report")?;
+    with_arguments(alloc, report, &REPLAY_OPTIONS, &REPLAY_FLAGS, &REPLAY)
+}
+
 /// The command of a packing.
 fn pack<'a>(alloc: Global) -> Result<Command<'a>, AllocError>
     ensures app { IfOk result (λ r. app_of r ≡ pack_app) }
@@ -176,12 +206,12 @@ fn pack<'a>(alloc: Global) -> Result<Command<'a>, AllocError>
     with_arguments(alloc, pack, &PACK_OPTIONS, &PACK_FLAGS, &PACK)
 }
 
-/// The command of a split, which is always in the Main Profile and has the ports of its outputs.
+/// The command of a split.
 fn split<'a>(alloc: Global) -> Result<Command<'a>, AllocError>
     ensures app { IfOk result (λ r. app_of r ≡ split_app) }
     ensures local { IfOk result (λ r. (fields_of r).has_globals ≡ false) }
 {
-    let split = with_all(alloc, Command::new(alloc, "split"), Kind::Valued, &TUNNEL)?;
+    let split = tunnel(alloc, "split")?;
     with_arguments(alloc, split, &REPLAY_OPTIONS, &REPLAY_FLAGS, &SPLIT)
 }
 
@@ -203,6 +233,16 @@ fn recv<'a>(alloc: Global) -> Result<Command<'a>, AllocError>
     let recv = session(alloc, "recv")?;
     let recv = with_arguments(alloc, recv, &RECEIVER_OPTIONS, &RECV_FLAGS, &RECV)?;
     with_all(alloc, recv, Kind::Positions, &LINKS)
+}
+
+/// The command of a receiving of several flows, over one link or more.
+fn fan<'a>(alloc: Global) -> Result<Command<'a>, AllocError>
+    ensures app { IfOk result (λ r. app_of r ≡ fan_app) }
+    ensures local { IfOk result (λ r. (fields_of r).has_globals ≡ false) }
+{
+    let fan = tunnel(alloc, "fan")?;
+    let fan = with_arguments(alloc, fan, &FAN_OPTIONS, &RECV_FLAGS, &FAN)?;
+    with_all(alloc, fan, Kind::Positions, &LINKS)
 }
 
 /// The command of a gateway: a receiver's options, its own, and its links.
@@ -230,6 +270,14 @@ fn session<'a>(alloc: Global, name: &'a str) -> Result<Command<'a>, AllocError>
     ensures local { IfOk result (λ r. (fields_of r).has_globals ≡ false) }
 {
     with_all(alloc, Command::new(alloc, name), Kind::Valued, &SESSION)
+}
+
+/// A command that is always in the Main Profile, and has the ports of its outputs.
+fn tunnel<'a>(alloc: Global, name: &'a str) -> Result<Command<'a>, AllocError>
+    ensures app { IfOk result (λ r. app_of r ≡ tunnel_app name.entry.now) }
+    ensures local { IfOk result (λ r. (fields_of r).has_globals ≡ false) }
+{
+    with_all(alloc, Command::new(alloc, name), Kind::Valued, &TUNNEL)
 }
 
 /// The command with these options, flags and positions.

@@ -18,7 +18,8 @@ pub mod values;
 pub mod watching;
 
 pub use lines::{
-    CountLine, DrillLine, GateLine, Line, PackLine, ReceiverWords, RecvLine, Refused, ReplayLine,
-    SendLine, ServingWords, SessionWords, ShowLine, SplitLine, StreamWords, WatchingWords,
+    CountLine, DrillLine, FanLine, GateLine, Line, PackLine, ReceiverWords, RecvLine, Refused,
+    ReplayLine, SendLine, ServingWords, SessionWords, ShowLine, SplitLine, StreamWords,
+    WatchingWords,
 };
 pub use reading::line;

@@ -15,6 +15,8 @@ pub enum Line<'a> {
     Show(ShowLine<'a>),
     /// `count CAPTURE`
     Count(CountLine<'a>),
+    /// `report CAPTURE OUT`, a page about what a replay would play out
+    Report(ReplayLine<'a>),
     /// `pack SOURCE CAPTURE`
     Pack(PackLine<'a>),
     /// `split CAPTURE OUTS`
@@ -23,6 +25,8 @@ pub enum Line<'a> {
     Send(SendLine<'a>),
     /// `recv OUT LINK..`
     Recv(RecvLine<'a>),
+    /// `fan OUTS LINK..`
+    Fan(FanLine<'a>),
     /// `gate LINK..`
     Gate(GateLine<'a>),
     /// `drill NUMBER COUNT LINKS LOSS`
@@ -48,7 +52,7 @@ pub struct SessionWords<'a> {
     pub echo: bool,
 }
 
-/// Write the payloads of a capture as a receiver plays them out.
+/// Write the payloads of a capture as a receiver plays them out, or a report of that.
 #[derive(Clone, Copy, Debug, PartialEq, Eq)]
 pub struct ReplayLine<'a> {
     /// The capture's name.
@@ -238,6 +242,25 @@ pub struct RecvLine<'a> {
     /// What its receiver is set to.
     pub receiver: ReceiverWords,
     /// When it ends.
+    pub serving: ServingWords,
+    /// What is kept and told of its run.
+    pub watching: WatchingWords<'a>,
+}
+
+/// Receive several flows that come in one tunnel, each into an output of its own.
+#[derive(Debug, PartialEq, Eq, Drop)]
+pub struct FanLine<'a> {
+    /// The port of each output, one to eight different even numbers from 2 to 65,534.
+    pub ports: Vec<u16>,
+    /// The name of each output, in the order of the ports, and no two the same.
+    pub names: Vec<&'a str>,
+    /// The addresses at which the tunnel's datagrams come in, one to sixteen.
+    pub links: Vec<LinkSpec>,
+    /// How they are read, and how the answers are made: in the Main Profile, with the port of the first output.
+    pub session: SessionWords<'a>,
+    /// What each receiver is set to.
+    pub receiver: ReceiverWords,
+    /// When the run ends. It keeps no steps.
     pub serving: ServingWords,
     /// What is kept and told of its run.
     pub watching: WatchingWords<'a>,

@@ -1,4 +1,4 @@
-//! The outputs of a split.
+//! The outputs of a tunnel's flows.
 ghost use Rattle.std.specs.Prelude.{◌≡◌, ◌≤◌, ◌&&◌, Err, IfOk, None, Some, codes, length, map, nat_eq, option_map};
 ghost use Rattle.std.specs.Str.{bytes_eq};
 ghost use Rattle.clap.specs.Words.{first_of, found_of, rows_of};

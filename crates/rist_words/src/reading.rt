@@ -1,13 +1,13 @@
 //! The line that the words are.
 ghost use Rattle.std.specs.Prelude.{◌≡◌, Err, Some, None, IfOk, map, option_map, string_bytes};
 ghost use Rattle.clap.specs.Words.{found_of, rows_of};
-ghost use Rattle.rist_words.specs.CommandLine.{line_of, command_line, replay_of, show_of, count_of, pack_of, split_of, send_of, recv_of, gate_of, drill_of};
-ghost use Rattle.rist_words.specs.Shown.{shown, shown_replay, shown_show, shown_count, shown_pack, shown_split, shown_send, shown_recv, shown_gate, shown_drill};
+ghost use Rattle.rist_words.specs.CommandLine.{line_of, command_line, replay_of, show_of, count_of, pack_of, split_of, send_of, recv_of, fan_of, gate_of, drill_of};
+ghost use Rattle.rist_words.specs.Shown.{shown, shown_replay, shown_show, shown_count, shown_pack, shown_split, shown_send, shown_recv, shown_fan, shown_gate, shown_drill};
 
 use crate::drilling::drill_line;
 use crate::lines::{
-    CountLine, GateLine, Line, PackLine, RecvLine, Refused, ReplayLine, SendLine, ShowLine,
-    SplitLine,
+    CountLine, FanLine, GateLine, Line, PackLine, RecvLine, Refused, ReplayLine, SendLine,
+    ShowLine, SplitLine,
 };
 use crate::links::{gate_links, links, share};
 use crate::matching::matched;
@@ -83,6 +83,8 @@ fn command_line<'a>(
         Ok(Line::Show(show_line(values).ok_or(Refused::Usage)?))
     } else if command == "count" {
         Ok(Line::Count(count_line(values).ok_or(Refused::Usage)?))
+    } else if command == "report" {
+        Ok(Line::Report(replay_line(values).ok_or(Refused::Usage)?))
     } else if command == "pack" {
         Ok(Line::Pack(pack_line(values).ok_or(Refused::Usage)?))
     } else if command == "split" {
@@ -91,6 +93,8 @@ fn command_line<'a>(
         Ok(Line::Send(send_line(alloc, values)?))
     } else if command == "recv" {
         Ok(Line::Recv(recv_line(alloc, values)?))
+    } else if command == "fan" {
+        Ok(Line::Fan(fan_line(alloc, values)?))
     } else if command == "gate" {
         Ok(Line::Gate(gate_line(alloc, values)?))
     } else if command == "drill" {
@@ -100,6 +104,7 @@ fn command_line<'a>(
     }
 }
 
+/// The values of a replay, or of a report.
 fn replay_line<'a>(values: &ArgMatches<'a>) -> Option<ReplayLine<'a>>
     ensures { option_map shown_replay result ≡ replay_of (rows_of (found_of values.now)) }
 {
@@ -225,6 +230,25 @@ fn recv_line<'a>(alloc: Global, values: &ArgMatches<'a>) -> Result<RecvLine<'a>,
     let links = links(alloc, values, session.profile)?;
     Ok(RecvLine {
         out,
+        links,
+        session,
+        receiver: receiver(values).ok_or(Refused::Usage)?,
+        serving: serving(values).ok_or(Refused::Usage)?,
+        watching: watching(values).ok_or(Refused::Usage)?,
+    })
+}
+
+fn fan_line<'a>(alloc: Global, values: &ArgMatches<'a>) -> Result<FanLine<'a>, Refused>
+    ensures ok { IfOk result (λ l. fan_of (rows_of (found_of values.now)) ≡ Some (shown_fan l)) }
+    ensures usage { result ≡ Err Refused.Usage → fan_of (rows_of (found_of values.now)) ≡ None }
+{
+    let (ports, names) = outs(alloc, values)?;
+    let first = ports[0];
+    let session = tunnel_session(values, first).ok_or(Refused::Usage)?;
+    let links = links(alloc, values, Profile::Main)?;
+    Ok(FanLine {
+        ports,
+        names,
         links,
         session,
         receiver: receiver(values).ok_or(Refused::Usage)?,

@@ -131,7 +131,7 @@ pub fn tunnel_session<'a>(values: &ArgMatches<'a>, port: u16) -> Option<SessionW
         port,
         pass,
         bits,
-        full: false,
+        full: is_set(values, OWN.full),
         tunnel,
         echo: echo_of(tunnel, false),
     })
