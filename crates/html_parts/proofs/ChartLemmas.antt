@@ -14,10 +14,10 @@ pub points_push : (text : List ℕ) (place next : ℕ) (points : List ℕ) (poin
 points_push text place next [] point is = ap (λ (n : ℕ). with_point text n point) (omega (arith, is))
 points_push text place next (p ∷ points) point is = points_push (with_point text place p) (place + 1) next points point (omega (arith, is))
 
--- five parts that were put in turn
-pub five_in_turn : (front a b c d e x y z w whole : List ℕ) → x ≡ front ++ a → y ≡ x ++ b → z ≡ y ++ c → w ≡ z ++ d → whole ≡ w ++ e
-    → whole ≡ ((((front ++ a) ++ b) ++ c) ++ d) ++ e
-five_in_turn front a b c d e x y z w whole first second third fourth last = cc
+-- six parts that were put in turn
+pub six_in_turn : (front a b c d e f x y z w v whole : List ℕ) → x ≡ front ++ a → y ≡ x ++ b → z ≡ y ++ c → w ≡ z ++ d → v ≡ w ++ e → whole ≡ v ++ f
+    → whole ≡ (((((front ++ a) ++ b) ++ c) ++ d) ++ e) ++ f
+six_in_turn front a b c d e f x y z w v whole first second third fourth fifth last = cc
 
 -- a point more
 pub greatest_more : (points : List ℕ) (i before after : ℕ) → i < length points → before ≡ greatest_of (take i points) → after ≡ max before (get_or points i 0) → after ≡ greatest_of (take (i + 1) points)

@@ -15,10 +15,14 @@ title_line =
 abbrev pub table_line : List ℕ
 table_line = codes "th,td{text-align:left;vertical-align:top;padding:.2em 1em .2em 0}section{break-inside:avoid}\n"
 
--- how charts look
+-- how charts look: a thin frame, with room between it and the line, which is drawn whole at the greatest point and at 0
 abbrev pub chart_line : List ℕ
 chart_line =
-    codes "svg{width:100%;height:8em;border:solid}polyline{fill:none;stroke:#000;vector-effect:non-scaling-stroke}\n"
+    codes "svg{box-sizing:border-box;width:100%;height:8em;padding:6px;border:1px solid #999;overflow:visible}\n"
+
+-- how their lines look
+abbrev pub stroke_line : List ℕ
+stroke_line = codes "polyline{fill:none;stroke:#000;vector-effect:non-scaling-stroke}\n"
 
 -- where the page begins
 abbrev pub begin_line : List ℕ
@@ -26,7 +30,7 @@ begin_line = codes "</style></head><body><h1>RIST session</h1><table>\n"
 
 -- the head, up to where the rows of the table begin
 abbrev pub with_head : List ℕ → List ℕ
-with_head text = ((((text ++ head_line) ++ title_line) ++ table_line) ++ chart_line) ++ begin_line
+with_head text = (((((text ++ head_line) ++ title_line) ++ table_line) ++ chart_line) ++ stroke_line) ++ begin_line
 
 -- a row of the table: a name, a number in decimal digits with its unit, and the rule that it is counted by
 abbrev pub with_row : List ℕ → List ℕ → ℕ → List ℕ → List ℕ → List ℕ

@@ -38,7 +38,12 @@ pub fn put_head(out: &mut [u8], at: usize) -> usize
     let at = put_at(
         out,
         at,
-        b"svg{width:100%;height:8em;border:solid}polyline{fill:none;stroke:#000;vector-effect:non-scaling-stroke}\n",
+        b"svg{box-sizing:border-box;width:100%;height:8em;padding:6px;border:1px solid #999;overflow:visible}\n",
+    );
+    let at = put_at(
+        out,
+        at,
+        b"polyline{fill:none;stroke:#000;vector-effect:non-scaling-stroke}\n",
     );
     put_at(
         out,

@@ -16,7 +16,7 @@ use std::test::Fail;
 /// With a delay of a second: number 10 at time 0; 12 after 0.2 s; 11 after 0.5 s, a retransmission on link 1; 15 after 1.5 s,
 /// when 10 to 12 are out; 12 once more after 1.6 s on link 1, which is too late; and no octets after 3.2 s, when 15 is out and
 /// 13 and 14 were passed.
-const CAPTURE: &[u8] = b"RISTCAP1\
+pub const CAPTURE: &[u8] = b"RISTCAP1\
     \x00\x00\x00\x0D\0\0\0\0\0\0\0\0\x80\x21\x00\x0A\x00\x00\x00\x00\x10\x20\x30\x40A\
     \x00\x00\x00\x0E\0\0\0\0\0\x03\x0D\x40\x80\x21\x00\x0C\x00\x00\x46\x50\x10\x20\x30\x40CC\
     \x01\x00\x00\x0D\0\0\0\0\0\x07\xA1\x20\x80\x21\x00\x0B\x00\x00\x23\x28\x10\x20\x30\x41B\
@@ -25,11 +25,12 @@ const CAPTURE: &[u8] = b"RISTCAP1\
     \x00\x00\x00\x00\0\0\0\0\0\x30\xD4\x00";
 
 /// What the page says of it.
-const PAGE: &[u8] = b"<!DOCTYPE html>\n<html lang=en><head><meta charset=utf-8>\
+pub const PAGE: &[u8] = b"<!DOCTYPE html>\n<html lang=en><head><meta charset=utf-8>\
 <meta name=viewport content='width=device-width'>\n\
 <title>RIST session</title><style>body{font-family:sans-serif;max-width:60em;margin:auto;padding:1em}\n\
 th,td{text-align:left;vertical-align:top;padding:.2em 1em .2em 0}section{break-inside:avoid}\n\
-svg{width:100%;height:8em;border:solid}polyline{fill:none;stroke:#000;vector-effect:non-scaling-stroke}\n\
+svg{box-sizing:border-box;width:100%;height:8em;padding:6px;border:1px solid #999;overflow:visible}\n\
+polyline{fill:none;stroke:#000;vector-effect:non-scaling-stroke}\n\
 </style></head><body><h1>RIST session</h1><table>\n\
 <tr><th>Length</th><td>3 s</td><td>from the first record to the last</td></tr>\n\
 <tr><th>Rate</th><td>0 kbit/s</td><td>octets written, over the length</td></tr>\n\
@@ -75,7 +76,7 @@ fn simple_session() -> Session
 }
 
 /// The page of a capture, with a delay of one second and a span of 8.
-fn reported(alloc: Global, source: Pieces, mut sink: Store8) -> (Result<(), WalkBad>, Store8) {
+pub fn reported(alloc: Global, source: Pieces, mut sink: Store8) -> (Result<(), WalkBad>, Store8) {
     let mut reader = Reader::over(source);
     let settings = Settings::muted(1000, 8, 0, false);
     let end = match PageWriter::with(alloc, &simple_session(), &settings) {
