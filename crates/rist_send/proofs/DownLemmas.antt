@@ -15,7 +15,7 @@ use Rattle.rist_send.specs.declared.progress.Stage.{Stage}
 use Rattle.rist_send.specs.declared.progress.Stage.TheVariants.{Reading, Ended}
 use Rattle.rist_send.specs.Run.{Setup, Run, is_due, fault_of, has_ended, outcome}
 use Rattle.rist_sender.specs.Incoming.{compound_in}
-use Rattle.rist_send.specs.Turns.{Stays, GoesOn, SendsRead, BringsPiece, BringsNext, AnswersIf, ReadsOn, ReadsInTurn, TicksOnce, ReadsAndTicks, Turn, with_piece, is_read, with_answer, with_moment}
+use Rattle.rist_send.specs.Turns.{Stays, GoesOn, SendsRead, BringsDue, BringsNext, AnswersIf, ReadsOn, ReadsInTurn, TicksOnce, ReadsAndTicks, Turn, with_piece, is_read, with_answer, with_moment}
 use Rattle.rist_send.specs.Sending.{Stops, IsSpent, SendsSource}
 
 -- ---- a run
@@ -46,8 +46,9 @@ down_read setup k (Err fault) result from to (answer, is) e = down_unread setup 
 down_read setup k (Ok []) result from to s e = down_not setup result (with_piece k 0 from) to s e
 down_read setup k (Ok (x ∷ xs)) result from to s e = down_answer setup (λ done. Unit {0}) s.answer result to s.answers s.sends.answer e
 
-down_if : (setup : Setup) (k : ℕ) (due : Bool) (result : Result Unit SendFault) (from to : Run) → IfElse due (BringsPiece setup k result from to) (Stays result from to) → EndsDown setup result to
-down_if setup k true result from to b = down_read setup k b.reading result (record from { octets = b.left }) to b.sends
+down_if : (setup : Setup) (k : ℕ) (due : Bool) (result : Result Unit SendFault) (from to : Run) → IfElse due (BringsDue setup k result from to) (Stays result from to) → EndsDown setup result to
+down_if setup k true result from to (inl b) = down_read setup k b.reading result (record from { octets = b.left }) to b.sends
+down_if setup k true result from to (inr w) = down_not setup result from to w.stays
 down_if setup k false result from to b = down_not setup result from to b
 
 down_next : (setup : Setup) (stage : Stage) (result : Result Unit SendFault) (from to : Run) → BringsNext setup stage result from to → EndsDown setup result to

@@ -20,7 +20,7 @@ use Rattle.rist_send.specs.declared.progress.Stage.{Stage}
 use Rattle.rist_send.specs.declared.progress.Stage.TheVariants.{Reading, Ended}
 use Rattle.rist_send.specs.Run.{Setup, Run, is_due, is_over_at, has_ended, outcome}
 use Rattle.rist_sender.specs.Incoming.{compound_in}
-use Rattle.rist_send.specs.Turns.{Stays, GoesOn, SendsRead, BringsPiece, BringsNext, AnswersIf, ReadsOn, ReadsInTurn, TicksOnce, ReadsAndTicks, Turn, sent_with, stage_after, with_piece, is_read, with_answer, with_moment}
+use Rattle.rist_send.specs.Turns.{Stays, GoesOn, SendsRead, BringsDue, BringsNext, AnswersIf, ReadsOn, ReadsInTurn, TicksOnce, ReadsAndTicks, Turn, sent_with, stage_after, with_piece, is_read, with_answer, with_moment}
 use Rattle.rist_send.specs.Given.{joined, Drops, GivesFirst, GivesAll, Gives}
 use Rattle.rist_send.specs.Sending.{TurnsOn, StopsWith, Stops, IsSpent, SendsSource, result_at_last}
 use Rattle.rist_send.specs.Served.{Outside, new_run}
@@ -150,9 +150,10 @@ stays octets result from to g (answer, is) =
     subst (λ (r : Result Unit SendFault). Leaves r octets to) (sym answer) (subst (λ (t : Run). HasGiven octets t.octets t.sent t.progress.stage) (sym is) g)
 
 brings_if : (setup : Setup) (octets : List ℕ) (k : ℕ) (from to : Run) (result : Result Unit SendFault) (due : Bool) → from.progress.stage ≡ Reading k
-    → HasGiven octets from.octets from.sent from.progress.stage → IfElse due (BringsPiece setup k result from to) (Stays result from to) → Leaves result octets to
-brings_if setup octets k from to result true at g b =
+    → HasGiven octets from.octets from.sent from.progress.stage → IfElse due (BringsDue setup k result from to) (Stays result from to) → Leaves result octets to
+brings_if setup octets k from to result true at g (inl b) =
     brought setup octets k b.left from to b.reading result (subst (HasGiven octets from.octets from.sent) at g) b.reads b.sends
+brings_if setup octets k from to result true at g (inr w) = stays octets result from to g w.stays
 brings_if setup octets k from to result false at g b = stays octets result from to g b
 
 brings_next : (setup : Setup) (octets : List ℕ) (stage : Stage) (from to : Run) (result : Result Unit SendFault) → from.progress.stage ≡ stage

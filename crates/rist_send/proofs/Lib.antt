@@ -4,3 +4,4 @@ pub mod GivenLemmas
 pub mod PacketLemmas
 pub mod DownLemmas
 pub mod UnsealedLemmas
+pub mod WaitingLemmas

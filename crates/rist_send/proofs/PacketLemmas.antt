@@ -22,7 +22,7 @@ use Rattle.rist_send.specs.declared.progress.Stage.{Stage}
 use Rattle.rist_send.specs.declared.progress.Stage.TheVariants.{Reading, Ended}
 use Rattle.rist_send.specs.Run.{Setup, Run, is_due}
 use Rattle.rist_sender.specs.Incoming.{compound_in}
-use Rattle.rist_send.specs.Turns.{Stays, GoesOn, SendsRead, BringsPiece, BringsNext, AnswersIf, ReadsOn, ReadsInTurn, TicksOnce, ReadsAndTicks, Turn, sent_with, with_piece, is_read, with_answer, with_moment}
+use Rattle.rist_send.specs.Turns.{Stays, GoesOn, SendsRead, BringsDue, BringsNext, AnswersIf, ReadsOn, ReadsInTurn, TicksOnce, ReadsAndTicks, Turn, sent_with, with_piece, is_read, with_answer, with_moment}
 use Rattle.rist_send.specs.Sending.{TurnsOn, Stops, IsSpent, SendsSource}
 use Rattle.rist_send.specs.Packets.{AreSentAs}
 use Rattle.rist_send.specs.Given.{GivesFirst}
@@ -147,8 +147,9 @@ made_read setup k (Ok (x ∷ xs)) result from to made s =
     (sends_as_packet setup.rules setup.links from.progress.moment from.sent (x ∷ xs) s.answer from.work to.work s.sends made)
 
 made_if : (setup : Setup) (k : ℕ) (due : Bool) (result : Result Unit SendFault) (from to : Run) → IsMade setup from
-    → IfElse due (BringsPiece setup k result from to) (Stays result from to) → IsMade setup to
-made_if setup k true result from to made b = made_read setup k b.reading result (record from { octets = b.left }) to made b.sends
+    → IfElse due (BringsDue setup k result from to) (Stays result from to) → IsMade setup to
+made_if setup k true result from to made (inl b) = made_read setup k b.reading result (record from { octets = b.left }) to made b.sends
+made_if setup k true result from to made (inr w) = made_stays setup result from to made w.stays
 made_if setup k false result from to made b = made_stays setup result from to made b
 
 made_next : (setup : Setup) (stage : Stage) (result : Result Unit SendFault) (from to : Run) → IsMade setup from → BringsNext setup stage result from to → IsMade setup to

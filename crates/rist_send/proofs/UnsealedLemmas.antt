@@ -22,7 +22,7 @@ use Rattle.rist_send.specs.declared.progress.Stage.{Stage}
 use Rattle.rist_send.specs.declared.progress.Stage.TheVariants.{Reading, Ended}
 use Rattle.rist_send.specs.Run.{Setup, Run, is_due, has_ended, outcome}
 use Rattle.rist_sender.specs.Incoming.{compound_in}
-use Rattle.rist_send.specs.Turns.{Stays, GoesOn, SendsRead, BringsPiece, BringsNext, AnswersIf, ReadsOn, ReadsInTurn, TicksOnce, ReadsAndTicks, Turn, is_read, with_answer, with_moment}
+use Rattle.rist_send.specs.Turns.{Stays, GoesOn, SendsRead, BringsDue, BringsNext, AnswersIf, ReadsOn, ReadsInTurn, TicksOnce, ReadsAndTicks, Turn, is_read, with_answer, with_moment}
 use Rattle.rist_send.specs.Sending.{TurnsOn, Stops, IsSpent, SendsSource}
 
 -- ---- calls that want no pair
@@ -145,10 +145,11 @@ far_read setup k (Ok (x ∷ xs)) result from to s =
     let far = λ (none : from.work.sealer ≡ None). far_either setup (is_ended (setup.rules.first + packet_count start.history) start) (x ∷ xs) s.answer start to.work refl refl s.sends.writes s.sends.answer none in
     record { keeps = λ none. (far none).0; far = λ none e. (far none).1 (sym s.answers ∙ e) }
 
-far_if : (setup : Setup) (k : ℕ) (due : Bool) (result : Result Unit SendFault) (from to : Run) → IfElse due (BringsPiece setup k result from to) (Stays result from to) → EndsFar setup result from to
-far_if setup k true result from to b =
+far_if : (setup : Setup) (k : ℕ) (due : Bool) (result : Result Unit SendFault) (from to : Run) → IfElse due (BringsDue setup k result from to) (Stays result from to) → EndsFar setup result from to
+far_if setup k true result from to (inl b) =
     let r = far_read setup k b.reading result (record from { octets = b.left }) to b.sends in
     record { keeps = r.keeps; far = r.far }
+far_if setup k true result from to (inr w) = far_stays setup result from to w.stays
 far_if setup k false result from to b = far_stays setup result from to b
 
 far_next : (setup : Setup) (stage : Stage) (result : Result Unit SendFault) (from to : Run) → BringsNext setup stage result from to → EndsFar setup result from to

@@ -6,3 +6,4 @@ pub mod Packets
 pub mod Sending
 pub mod Served
 pub mod Inside
+pub mod Waiting

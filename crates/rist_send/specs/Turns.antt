@@ -1,7 +1,7 @@
--- A turn of a run: one moment of the clock, the next piece where it is due, one read of each link, and one tick, in
--- this order (this profile).
-use Rattle.std.specs.Prelude.{◌≡◌, ℕ, ◌+◌, nat_le, List, [], ◌∷◌, ◌++◌, length, set, slice_index_or, Bool, true, false}
-use Rattle.std.specs.Prelude.{not, ◌&&◌, if◌then◌else◌, Option, None, Some, Result, Ok, Err}
+-- A turn of a run: one moment of the clock, the next piece where it is due and there, one read of each link, and one
+-- tick, in this order (this profile).
+use Rattle.std.specs.Prelude.{◌≡◌, ◌⊎◌, ℕ, ◌+◌, nat_le, List, [], ◌∷◌, ◌++◌, length, set, slice_index_or, Bool, true}
+use Rattle.std.specs.Prelude.{false, not, ◌&&◌, if◌then◌else◌, Option, None, Some, Result, Ok, Err}
 use Rattle.std.specs.List.{range_with_len}
 use Rattle.std.specs.Option.{option_map}
 use Rattle.outside_net.specs.Streams.{later, IsFirst}
@@ -78,10 +78,20 @@ pub record BringsPiece (setup : Setup) (k : ℕ) (result : Result Unit SendFault
   pub reads : ReadsPiece k from.octets left reading
   pub sends : SendsRead setup k reading result (record from { octets = left }) to
 
--- the next piece is read and sent, where it is due
+-- The source said that the next piece isn't there, and the turn goes on without it. One that tells its octets never
+-- says so.
+pub record Awaits (result : Result Unit SendFault) (from to : Run) : Type 0 where
+  pub untold : from.octets ≡ None
+  pub stays : Stays result from to
+
+-- piece k, which is due, is read and sent, unless the source said that it isn't there
+abbrev pub BringsDue : Setup → ℕ → Result Unit SendFault → Run → Run → Type 0
+BringsDue setup k result from to = BringsPiece setup k result from to ⊎ Awaits result from to
+
+-- the next piece is read and sent, where it is due and there
 abbrev pub BringsNext : Setup → Stage → Result Unit SendFault → Run → Run → Type 0
 BringsNext setup (Reading k) result from to =
-    IfElse (is_due setup.settings from.progress k) (BringsPiece setup k result from to) (Stays result from to)
+    IfElse (is_due setup.settings from.progress k) (BringsDue setup k result from to) (Stays result from to)
 BringsNext setup (Ended moment) result from to = Stays result from to
 
 -- ---- the links

@@ -5,7 +5,8 @@ ghost use Rattle.sender_rules.specs.Bonding.{link_count};
 ghost use Rattle.link_channels.specs.declared.bounds.TheConstants.{MAX_LINKS};
 ghost use Rattle.rist_sender.specs.Sender.{StaysSet};
 ghost use Rattle.rist_send.specs.Run.{Run, setup_of};
-ghost use Rattle.rist_send.specs.Turns.{BringsPiece, BringsNext, stage_after};
+ghost use Rattle.rist_send.specs.Turns.{BringsPiece, BringsDue, BringsNext, stage_after};
+ghost use Rattle.rist_send.specs.Waiting.{IsNeverReady, LeavesUnread};
 ghost use Rattle.rist_send.specs.Sending.{read_fault};
 ghost use Rattle.rist_send.specs.Inside.Moves.{IsAt, Moves, IsPlace, with_source};
 ghost use Rattle.rist_send.specs.declared.settings.SendSettings.{SendSettings as Settings};
@@ -15,6 +16,7 @@ use crate::fault::{refusal, unread};
 use crate::progress::{Progress, Stage};
 use crate::{SendFault, SendSettings};
 use block_source::{PIECE_LEN, read_piece};
+use live_source::LiveSource;
 use outside_io::Source;
 use outside_net::{Link, TellingLink};
 use rist_sender::Sender;
@@ -70,8 +72,41 @@ fn bring_piece<S: Source, L: Link>(
     }
 }
 
-// Reads and sends piece k, where it is due.
-fn bring_due<S: Source, L: Link>(
+// Reads and sends piece k, where the source has it there. One that isn't there is not waited for.
+fn bring_ready<S: LiveSource, L: Link>(
+    k: u64,
+    sender: &mut Sender,
+    source: &mut S,
+    links: &mut [L],
+    progress: &mut Progress,
+) -> Result<(), SendFault>
+    requires place { 1316 * k ≤ 2 ^ 40 }
+    requires at { IsPlace progress.old.stage }
+    requires links { length links.old ≡ link_count sender.old.bonding }
+    requires few { length links.old ≤ MAX_LINKS }
+    ensures work { (settings : Settings) (from : Run)
+        → IsAt sender.old progress.old (with_source from (S.remaining source.old) (map L.reads links.old)) from
+        → Moves ⟦<L as TellingLink>⟧.tells
+        sender.old sender.new progress.new (with_source from (S.remaining source.new) (map L.reads links.new))
+        links.old links.new from
+        (BringsDue (setup_of settings sender.old (length links.old)) k result from) }
+    ensures set { StaysSet sender.old sender.new }
+    ensures at { IsPlace progress.new.stage }
+    ensures ahead { result ≡ Err SendFault.ReadFault → S.ahead source.new ≡ [] }
+    ensures cause { HasReadCause (fault_by read_fault result) (S.faults source.old) (S.faults source.new) }
+    // Where the source says no, it isn't read.
+    ensures waits { IsNeverReady (S.ready source.old) → LeavesUnread (S.ready source.new)
+        (S.faults source.old) (S.faults source.new) progress.old.stage progress.new.stage }
+{
+    if !source.gather(PIECE_LEN) {
+        // The turn goes on without it.
+        return Ok(());
+    }
+    bring_piece(k, sender, source, links, progress)
+}
+
+// Reads and sends piece k, where it is due and there.
+fn bring_due<S: LiveSource, L: Link>(
     k: u64,
     settings: &SendSettings,
     sender: &mut Sender,
@@ -94,16 +129,18 @@ fn bring_due<S: Source, L: Link>(
     ensures at { IsPlace progress.new.stage }
     ensures ahead { result ≡ Err SendFault.ReadFault → S.ahead source.new ≡ [] }
     ensures cause { HasReadCause (fault_by read_fault result) (S.faults source.old) (S.faults source.new) }
+    ensures waits { IsNeverReady (S.ready source.old) → LeavesUnread (S.ready source.new)
+        (S.faults source.old) (S.faults source.new) progress.old.stage progress.new.stage }
 {
     if progress.is_due(settings, k) {
-        bring_piece(k, sender, source, links, progress)
+        bring_ready(k, sender, source, links, progress)
     } else {
         Ok(())
     }
 }
 
-/// Reads and sends the next piece, where it is due.
-pub(crate) fn bring_next<S: Source, L: Link>(
+/// Reads and sends the next piece, where it is due and there.
+pub(crate) fn bring_next<S: LiveSource, L: Link>(
     settings: &SendSettings,
     sender: &mut Sender,
     source: &mut S,
@@ -124,6 +161,8 @@ pub(crate) fn bring_next<S: Source, L: Link>(
     ensures at { IsPlace progress.new.stage }
     ensures ahead { result ≡ Err SendFault.ReadFault → S.ahead source.new ≡ [] }
     ensures cause { HasReadCause (fault_by read_fault result) (S.faults source.old) (S.faults source.new) }
+    ensures waits { IsNeverReady (S.ready source.old) → LeavesUnread (S.ready source.new)
+        (S.faults source.old) (S.faults source.new) progress.old.stage progress.new.stage }
 {
     match progress.stage {
         Stage::Reading(k) => bring_due(k, settings, sender, source, links, progress),

@@ -78,6 +78,18 @@ impl Progress {
         }
     }
 
+    /// Whether a run rests before its next turn: where the last one brought no piece, since that left the stage as it was, or the next piece
+    /// isn't due.
+    pub fn rests(&self, settings: &SendSettings, before: Stage) -> bool
+        requires gap { settings.now.gap ≤ 1000000 }
+        requires at { IsPlace self.now.stage }
+        ensures idle { self.now.stage ≡ before → result ≡ true }
+        ensures early { is_next_due settings.now self.now ≡ false → result ≡ true }
+        ensures busy { (self.now.stage ≡ before → ⊥) → is_next_due settings.now self.now ≡ true → result ≡ false }
+    {
+        self.stage == before || !self.is_next_due(settings)
+    }
+
     /// Whether the source has ended, and `linger` passed since.
     pub fn is_over(&self, linger: u64) -> bool
         ensures value { result ≡ is_over linger self.now }

@@ -1,5 +1,5 @@
 //! Turns, one after another.
-ghost use Rattle.std.specs.Prelude.{◌≡◌, ◌≤◌, ◌^◌, ℕ, [], Err, length, map};
+ghost use Rattle.std.specs.Prelude.{◌≡◌, ◌≤◌, ◌^◌, ℕ, [], Err, length, map, is_err, true};
 ghost use Rattle.outside_io.specs.Causes.{HasReadCause, NoFault, fault_by};
 ghost use Rattle.sender_rules.specs.Bonding.{link_count};
 ghost use Rattle.link_channels.specs.declared.bounds.TheConstants.{MAX_LINKS};
@@ -9,6 +9,7 @@ ghost use Rattle.rist_send.specs.Run.{Run, setup_of};
 ghost use Rattle.rist_send.specs.Turns.{TicksOnce, ReadsAndTicks, Turn};
 ghost use Rattle.rist_send.specs.Sending.{SendsSource, read_fault};
 ghost use Rattle.rist_send.specs.Served.{Runs, new_run};
+ghost use Rattle.rist_send.specs.Waiting.{IsNeverReady, LeavesUnread};
 ghost use Rattle.rist_send.specs.Inside.Moves.{IsAt, Moves, MovesBy, IsPlace};
 
 use crate::fault::refusal;
@@ -16,7 +17,7 @@ use crate::piece::bring_next;
 use crate::progress::Progress;
 use crate::reading::{read_links, rest};
 use crate::{SendFault, SendSettings};
-use outside_io::Source;
+use live_source::LiveSource;
 use outside_net::{Clock, Link, TellingLink};
 use rist_sender::Sender;
 use rist_wire::Opener;
@@ -61,8 +62,8 @@ fn read_and_tick<L: Link>(
     }
 }
 
-// Makes a turn: the next piece where it is due, one read of each link, and one tick.
-fn turn<S: Source, L: Link, C: Clock>(
+// Makes a turn: the next piece where it is due and there, one read of each link, and one tick.
+fn turn<S: LiveSource, L: Link, C: Clock>(
     settings: &SendSettings,
     sender: &mut Sender,
     opener: &mut Opener,
@@ -93,6 +94,8 @@ fn turn<S: Source, L: Link, C: Clock>(
     ensures at { IsPlace progress.new.stage }
     ensures ahead { result ≡ Err SendFault.ReadFault → S.ahead source.new ≡ [] }
     ensures cause { HasReadCause (fault_by read_fault result) (S.faults source.old) (S.faults source.new) }
+    ensures waits { IsNeverReady (S.ready source.old) → LeavesUnread (S.ready source.new)
+        (S.faults source.old) (S.faults source.new) progress.old.stage progress.new.stage }
 {
     let moment = clock.now();
     progress.begin(moment);
@@ -103,13 +106,15 @@ fn turn<S: Source, L: Link, C: Clock>(
 }
 
 /// Sends a source, piece after piece, onto links. A turn takes one moment of the clock, and the first one's is the
-/// start; reads and sends the next piece, where its time has come: piece k's is the lead and k gaps after the start; reads
-/// each link once that is up and gave no end and no failure, and answers what came; and lets the sender tick. So a lead
-/// lets reports go out before the first piece. Where the next piece isn't due yet it rests on a link before the next turn.
+/// start; reads and sends the next piece, where its time has come, piece k's being the lead and k gaps after the start, and
+/// the source has it there; reads each link once that is up and gave no end and no failure, and answers what came; and lets
+/// the sender tick. So a lead lets reports go out before the first piece, and a piece that is waited for goes out in the
+/// first turn that finds it there, with that turn's moment as its timestamp. Where no piece went out, or the next isn't due
+/// yet, it rests on a link before the next turn.
 /// A turn stops where the sender refuses, and so does the run. The run is over after a turn whose moment is `linger` or
 /// more after that of the turn in which the source ended. Where all turns were made before, it is `Ok` if the source had
 /// ended.
-pub fn send<S: Source, L: Link, C: Clock>(
+pub fn send<S: LiveSource, L: Link, C: Clock>(
     settings: &SendSettings,
     sender: &mut Sender,
     opener: &mut Opener,
@@ -137,10 +142,14 @@ pub fn send<S: Source, L: Link, C: Clock>(
     ensures opener { opener.new ≡ opener.old }
     ensures ahead { result ≡ Err SendFault.ReadFault → S.ahead source.new ≡ [] }
     ensures cause { HasReadCause (fault_by read_fault result) (S.faults source.old) (S.faults source.new) }
+    // A source that says at no call that a piece is there isn't read, nor is its end come to.
+    ensures waits { IsNeverReady (S.ready source.old)
+        → (is_err result ≡ true) × (S.faults source.new ≡ S.faults source.old) }
 {
     let mut progress = Progress::new();
     let mut count = 0;
     while count < settings.turns {
+        let stage = progress.stage;
         match turn(
             settings,
             sender,
@@ -156,7 +165,7 @@ pub fn send<S: Source, L: Link, C: Clock>(
         if progress.is_over(settings.linger) {
             return Ok(());
         }
-        if !progress.is_next_due(settings) {
+        if progress.rests(settings, stage) {
             rest(sender, links, &progress);
         }
         count += 1;

@@ -6,6 +6,7 @@ ghost use Rattle.rist_wire.specs.Session.{IsSession};
 use crate::desk::simple;
 use bond_links::Bond;
 use link_channels::Channel;
+use live_source::{LiveSource, PausingSource};
 use outside_io::{Pieces, Words};
 use outside_net::{Octets, ScriptClock, ScriptLink, ScriptRead};
 use psk_keys::Phrase;
@@ -65,6 +66,12 @@ impl Ran {
         Some((channel, octets.len()))
     }
 
+    /// The timestamp of the media datagram at a place of those that the first link took (RFC 3550, section 5.1).
+    fn timestamp(&self, place: usize) -> Option<&[u8]> {
+        let (_, octets) = self.links.get(0)?.taken(place)?;
+        octets.get(4..8)
+    }
+
     /// The payload of the media datagram at a place of those that a link took.
     fn payload(&self, link: usize, place: usize) -> Option<&[u8]> {
         let (_, octets) = self.links.get(link)?.taken(place)?;
@@ -73,12 +80,12 @@ impl Ran {
 }
 
 /// Sends a source at a piece a millisecond over these links in a session, with a clock of these moments.
-fn sent_over(
+fn sent_over<S: LiveSource + Drop>(
     alloc: Global,
     session: &Session,
     sealer: Option<Sealer>,
     bond: Bond,
-    mut source: Pieces,
+    mut source: S,
     moments: &[u64],
     linger: u64,
     turns: u64,
@@ -116,16 +123,15 @@ fn sent_over(
     Ok(Ran { answer, links })
 }
 
-/// The same of octets, in clear, over one link.
-fn sent(
+/// The same in clear, over one link.
+fn sent_from<S: LiveSource + Drop>(
     alloc: Global,
-    octets: &[u8],
+    source: S,
     moments: &[u64],
     linger: u64,
     turns: u64,
     link: ScriptLink,
 ) -> Result<Ran, Fail> {
-    let source = Pieces::with(alloc, octets, &[], &[])?;
     let mut links = Vec::new(alloc);
     links.push(link)?;
     sent_over(
@@ -139,6 +145,19 @@ fn sent(
         turns,
         links,
     )
+}
+
+/// The same of octets.
+fn sent(
+    alloc: Global,
+    octets: &[u8],
+    moments: &[u64],
+    linger: u64,
+    turns: u64,
+    link: ScriptLink,
+) -> Result<Ran, Fail> {
+    let source = Pieces::with(alloc, octets, &[], &[])?;
+    sent_from(alloc, source, moments, linger, turns, link)
 }
 
 /// A datagram by its channel and its length.
@@ -287,6 +306,45 @@ fn a_request_is_answered_in_the_turn_that_reads_it(rt: HostRuntime) -> Result<()
     let alloc = rt.alloc();
     let ran = sent(alloc, b"A", &[0], 0, 1, asking(alloc)?)?;
     expect_ran(&rt, &ran, Ok(()), &[ONE, ONE, REPORT]);
+    Ok(())
+}
+
+/// A link on which that request comes in the second turn.
+fn asking_later(alloc: Global) -> Result<ScriptLink, Fail> {
+    let mut reads = Vec::new(alloc);
+    let compound = Octets::of(alloc, &ASKS_FOR_THE_FIRST)?;
+    reads.push(ScriptRead::Quiet)?;
+    reads.push(ScriptRead::Datagram(Channel::Control, compound))?;
+    Ok(ScriptLink::with(alloc, reads, true, 64, &[], &[])?)
+}
+
+/// Sends a piece and an octet, which the source answers to have there or not, a turn a millisecond.
+fn sent_with_pauses(
+    alloc: Global,
+    answers: &[bool],
+    turns: u64,
+    link: ScriptLink,
+) -> Result<Ran, Fail> {
+    let octets = Pieces::with(alloc, &[0x47; 1317], &[], &[])?;
+    let source = PausingSource::with(alloc, octets, answers)?;
+    sent_from(alloc, source, &[0, 1000, 2000, 3000], 0, turns, link)
+}
+
+#[test]
+fn a_source_that_pauses_holds_up_no_answer(rt: HostRuntime) -> Result<(), Fail> {
+    let alloc = rt.alloc();
+    let ran = sent_with_pauses(alloc, &[true, false, false], 5, asking_later(alloc)?)?;
+    expect_ran(&rt, &ran, Ok(()), &[WHOLE, REPORT, WHOLE, ONE]);
+    // The last piece is of the turn that finds it: 3 ms are 270 ticks of 90 kHz.
+    assert!(rt; ran.timestamp(3) == Some([0, 0, 1, 14].as_slice()));
+    Ok(())
+}
+
+#[test]
+fn a_source_that_never_goes_on_spends_the_turns(rt: HostRuntime) -> Result<(), Fail> {
+    let alloc = rt.alloc();
+    let ran = sent_with_pauses(alloc, &[false, false, false], 3, link(alloc, &[])?)?;
+    expect_ran(&rt, &ran, Err(SendFault::TurnsSpent), &[REPORT]);
     Ok(())
 }
 

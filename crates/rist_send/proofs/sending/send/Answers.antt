@@ -5,7 +5,8 @@ use Rattle.rist_sender.proofs.TurnLemmas.{stays_then}
 use Rattle.rist_send.specs.declared.fault.SendFault.{SendFault}
 use Rattle.rist_send.specs.declared.fault.SendFault.TheVariants.{TurnsSpent}
 use Rattle.rist_send.specs.declared.progress.Progress.{Progress}
-use Rattle.rist_send.specs.Run.{Setup, no_progress, setup_of, is_over, has_ended}
+use Rattle.rist_send.specs.declared.progress.Stage.{Stage}
+use Rattle.rist_send.specs.Run.{Setup, no_progress, setup_of, is_over, is_over_at, has_ended}
 use Rattle.rist_send.specs.Turns.{Turn}
 use Rattle.rist_send.specs.Sending.{TurnsOn}
 use Rattle.rist_send.specs.Inside.Moves.{IsPlace}
@@ -31,6 +32,7 @@ loop-count-init g c = record {
   set = record { rules = refl; session = refl };
   opener = refl;
   faults = refl;
+  never = λ n. (n, ap (λ (p : Progress). p.stage) c.new-progress.ensures.value);
   does = λ from stands.
       let outside : Outside = record { moments = g.C.Clock.moments c.args.clock.now; octets = g.S.Source.remaining c.args.source.now; answers = map g.L.Link.reads c.args.links.now } in
       moves_none _ c.args.sender.now c.new-progress.result outside c.args.links.now (new_run from outside) _ (new_run from outside) refl
@@ -51,6 +53,10 @@ loop-count-preserved g c =
       set = stays_then sender loop.sender c.turn.new.sender inv.set c.in-Ok.ensures.set;
       opener = c.in-Ok.ensures.opener ∙ inv.opener;
       faults = c.in-Ok.ensures.cause ∙ inv.faults;
+      never = λ n.
+          let before = inv.never n in
+          let after = c.in-Ok.ensures.waits before.0 in
+          (after.never, after.stage ∙ before.1);
       does = λ from stands.
           let d = inv.does from stands in
           let old : Outside = record { moments = g.C.Clock.moments c.args.clock.now; octets = g.S.Source.remaining c.args.source.now; answers = map g.L.Link.reads c.args.links.now } in
@@ -116,3 +122,22 @@ returns-else-has_ended-clause-work g c = λ from stands.
       same = refl;
       answer = subst (λ (b : Bool). Err TurnsSpent ≡ last_with b) (sym (ap (λ (p : Progress). has_ended p.stage) at.progress ∙ sym c.if-has_ended.ensures.value)) refl;
     })))
+
+pub returns-in-Err-clause-waits : goal.returns-in-Err-clause-waits
+returns-in-Err-clause-waits g c = λ n.
+    let inv = c.loop-count.invariant in
+    let after = c.in-Err.ensures.waits (inv.never n).0 in
+    (refl, after.faults ∙ inv.faults)
+
+pub returns-then-is_over-clause-waits : goal.returns-then-is_over-clause-waits
+returns-then-is_over-clause-waits g c = λ n.
+    let before = c.loop-count.invariant.never n in
+    let after = c.in-Ok.ensures.waits before.0 in
+    absurd (cc (c.if-is_over.ensures.value ∙ ap (λ (s : Stage). is_over_at c.args.settings.now.linger s c.turn.new.progress.moment) (after.stage ∙ before.1)))
+
+pub returns-then-has_ended-clause-waits : goal.returns-then-has_ended-clause-waits
+returns-then-has_ended-clause-waits g c = λ n.
+    absurd (cc (c.if-has_ended.ensures.value ∙ ap has_ended (c.loop-count.invariant.never n).1))
+
+pub returns-else-has_ended-clause-waits : goal.returns-else-has_ended-clause-waits
+returns-else-has_ended-clause-waits g c = λ n. (refl, c.loop-count.invariant.faults)

@@ -5,6 +5,8 @@ use Rattle.rist_sender.specs.Sender.{IsSenderAfter, StaysSet}
 use Rattle.rist_send.specs.Run.{setup_of}
 use Rattle.rist_send.specs.Sending.{TurnsOn}
 use Rattle.rist_send.specs.Served.{new_run}
+use Rattle.rist_send.specs.Waiting.{IsNeverReady}
+use Rattle.rist_send.specs.declared.progress.Stage.TheVariants.{Reading}
 use Rattle.rist_send.specs.Inside.Moves.{Moves, IsPlace}
 use Rattle.rist_send.proofs.sending.send.Given as goal
 
@@ -16,6 +18,7 @@ invariant-loop-count g l = record {
   set : StaysSet l.fn.sender l.sender;
   opener : l.opener ≡ l.fn.opener;
   faults : g.S.Source.faults l.source ≡ g.S.Source.faults l.fn.source;
+  never : IsNeverReady (g.S.LiveSource.ready l.fn.source) → IsNeverReady (g.S.LiveSource.ready l.source) × (l.progress.stage ≡ Reading 0);
   does : (from : Work) → IsSenderAfter l.fn.sender from
       → Moves (record { taken = g.L.Link.taken; knows = g.L.Link.knows; faults = g.L.Link.faults; reads = g.L.Link.reads; ends = g.L.Link.ends })
       l.fn.sender l.sender l.progress (record { moments = g.C.Clock.moments l.clock; octets = g.S.Source.remaining l.source; answers = map g.L.Link.reads l.links }) l.fn.links l.links

@@ -2,6 +2,7 @@ use Rattle.std.proofs.Common.{◌≡◌, ◌∙◌, ℕ, map, length, Option, op
 use Rattle.outside_io.specs.Causes.{Fault, NoFault, Read, HasReadCause, fault_by}
 use Rattle.rist_send.specs.Sending.{read_fault}
 use Rattle.outside_net.specs.Streams.{later, IsFirst}
+use Rattle.rist_send.specs.declared.progress.Progress.{Progress}
 use Rattle.rist_send.specs.Run.{setup_of, begun_at}
 use Rattle.rist_send.specs.Turns.{BringsNext, ReadsAndTicks, with_moment}
 use Rattle.rist_send.specs.Inside.Moves.{IsAt, with_source}
@@ -74,3 +75,17 @@ returns-in-Ok-clause-ahead g c = λ is. absurd (not_read (sym (ap (fault_by read
 pub returns-in-Ok-clause-cause : goal.returns-in-Ok-clause-cause
 returns-in-Ok-clause-cause g c =
     subst (λ (f : Fault). HasReadCause f (g.S.Source.faults c.args.source.now) (g.S.Source.faults c.bring_next.new.source)) (sym c.read_and_tick.ensures.source) c.in-Ok.ensures.cause
+
+pub returns-in-Ok-clause-waits : goal.returns-in-Ok-clause-waits
+returns-in-Ok-clause-waits g c = λ n.
+    let w = c.in-Ok.ensures.waits n in
+    record {
+      never = w.never;
+      faults = w.faults;
+      stage = c.read_and_tick.ensures.stage ∙ w.stage ∙ ap (λ (p : Progress). p.stage) c.begin.ensures.state;
+    }
+
+pub returns-in-Err-clause-waits : goal.returns-in-Err-clause-waits
+returns-in-Err-clause-waits g c = λ n.
+    let w = c.in-Err.ensures.waits n in
+    record { never = w.never; faults = w.faults; stage = w.stage ∙ ap (λ (p : Progress). p.stage) c.begin.ensures.state }

@@ -1,0 +1,60 @@
+//! A source in memory that pauses.
+ghost use Rattle.std.specs.Prelude.{◌≡◌, IfOk};
+
+use crate::LiveSource;
+use outside_io::{Failed, NoMemory, Source};
+use std::alloc::Global;
+
+/// A source whose octets aren't always there: whether they are is answered by a list, and behind its end they are. What it has still to
+/// give is not told.
+#[derive(Drop)]
+pub struct PausingSource<S> {
+    source: S,
+    answers: Vec<bool>,
+    at: usize,
+}
+
+impl<S: Drop> PausingSource<S> {
+    /// Its calls of `gather` give these answers, and then yes again and again.
+    pub fn with(alloc: Global, source: S, answers: &[bool]) -> Result<PausingSource<S>, NoMemory>
+        ensures source { IfOk result (λ pausing. pausing.source ≡ source) }
+        ensures answers { IfOk result (λ pausing. pausing.answers.items ≡ answers.now) }
+        ensures first { IfOk result (λ pausing. pausing.at ≡ 0) }
+    {
+        Ok(PausingSource {
+            source,
+            answers: Vec::from_slice(alloc, answers)?,
+            at: 0,
+        })
+    }
+}
+
+impl<S: Source> Source for PausingSource<S> {
+    ghost use Rattle.std.specs.Prelude.{None};
+
+    ghost remaining = { λ _. None };
+
+    ghost ahead = { λ pausing. S.ahead pausing.source };
+
+    ghost faults = { λ pausing. S.faults pausing.source };
+
+    fn read(&mut self, buf: &mut [u8]) -> Result<usize, Failed> {
+        self.source.read(buf)
+    }
+}
+
+impl<S: Source> LiveSource for PausingSource<S> {
+    ghost use Rattle.std.specs.Prelude.{Some, drop};
+    ghost use Rattle.live_source.specs.Pausing.{answers_of};
+
+    ghost ready = { λ pausing. Some (answers_of (drop pausing.at pausing.answers.items)) };
+
+    fn gather(&mut self, _count: usize) -> bool {
+        if self.at < self.answers.len() {
+            let answer = self.answers[self.at];
+            self.at += 1;
+            return answer;
+        }
+        true
+    }
+}

@@ -1,0 +1,26 @@
+use Rattle.std.proofs.Common.{◌≡◌, ◌∙◌, None, map, refl, sym}
+use mathlib.Core.Logic.{inl, inr}
+use Rattle.rist_send.specs.Inside.Moves.{with_source}
+use Rattle.rist_send.proofs.MoveLemmas.{moves_none, moves_as}
+use Rattle.rist_send.proofs.WaitingLemmas.{never_later, untold_by}
+use Rattle.rist_send.proofs.piece.bring_ready.Goals as goal
+
+pub returns-then-not-gather-clause-work : goal.returns-then-not-gather-clause-work
+returns-then-not-gather-clause-work g c = λ settings from at.
+    let none : from.octets ≡ None = at.octets ∙ untold_by (g.S.Source.remaining c.args.source.now) c.if-not-gather.ensures.told in
+    moves_none _ c.args.sender.now c.args.progress.now (with_source from (g.S.Source.remaining c.gather.new.self) (map g.L.Link.reads c.args.links.now)) c.args.links.now from _ from refl
+    (record { sender = at.sender; progress = at.progress; moments = refl; octets = at.octets ∙ sym c.if-not-gather.ensures.same; answers = at.answers })
+    (inr (record { untold = none; stays = (refl, refl) }))
+
+pub returns-clause-work : goal.returns-clause-work
+returns-clause-work g c = λ settings from at.
+    moves_as _ c.args.sender.now c.bring_piece.new.sender c.bring_piece.new.progress _ _ c.args.links.now c.bring_piece.new.links from _ _
+    (c.bring_piece.ensures.work settings from (record { sender = at.sender; progress = at.progress; moments = refl; octets = at.octets ∙ sym c.if-not-gather.ensures.same; answers = at.answers }))
+    (λ to is. is) (λ to fact. inl fact)
+
+pub returns-then-not-gather-clause-waits : goal.returns-then-not-gather-clause-waits
+returns-then-not-gather-clause-waits g c = λ n. record {
+  never = never_later _ _ c.if-not-gather.ensures.ready n;
+  faults = c.if-not-gather.ensures.faults;
+  stage = refl;
+}
