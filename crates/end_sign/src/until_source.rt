@@ -66,10 +66,18 @@ impl<S, E: EndSign> UntilSource<S, E> {
     {
         await_source(&mut self.sign, self.descriptor);
     }
+
+    /// Whether a read doesn't wait: the descriptor gives something, if only its end, none is waited for, or the program is to end.
+    pub fn is_ready(&mut self) -> bool
+        ensures source { self.new.source ≡ self.old.source }
+        ensures direct { self.old.descriptor <ℤ pos 0 → result ≡ true }
+    {
+        self.sign.asked() || is_there(self.descriptor, 0)
+    }
 }
 
-/// Whether a descriptor gives something, if only its end; it is waited for. Where none is waited for the answer is yes.
-fn is_there(descriptor: i32) -> bool
+/// Whether a descriptor gives something, if only its end, within so many milliseconds. Where none is waited for the answer is yes.
+fn is_there(descriptor: i32, wait: i32) -> bool
     ensures direct { descriptor <ℤ pos 0 → result ≡ true }
 {
     if descriptor < 0 {
@@ -81,7 +89,7 @@ fn is_there(descriptor: i32) -> bool
         revents: 0,
     }];
     // Where it fails, the read says so.
-    poll(&mut ends, WAIT_MS) != 0
+    poll(&mut ends, wait) != 0
 }
 
 /// Waits on where nothing was there at first. False where the program is to end before.
@@ -90,7 +98,7 @@ fn await_longer<E: EndSign>(sign: &mut E, descriptor: i32) -> bool {
         if sign.asked() {
             return false;
         }
-        if is_there(descriptor) {
+        if is_there(descriptor, WAIT_MS) {
             return true;
         }
     }
@@ -105,7 +113,7 @@ fn await_source<E: EndSign>(sign: &mut E, descriptor: i32) -> bool
     if sign.asked() {
         return false;
     }
-    if is_there(descriptor) {
+    if is_there(descriptor, WAIT_MS) {
         return true;
     }
     await_longer(sign, descriptor)

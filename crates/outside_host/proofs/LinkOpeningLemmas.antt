@@ -1,10 +1,10 @@
 -- Links opened one after another.
-use Rattle.std.proofs.Common.{map, take, zero, suc, ◌≡◌, ◌⊎◌, ◌≤◌, ◌<◌, ◌+◌, ◌++◌, ◌∷◌, ℕ, List, [], length, refl, sym, ap, ◌∙◌, subst, arith, slice_index_or, length-append, append_assoc}
+use Rattle.std.proofs.Common.{map, take, drop, append-nil, zero, suc, ◌≡◌, ◌⊎◌, ◌≤◌, ◌<◌, ◌+◌, ◌++◌, ◌∷◌, ℕ, List, [], length, refl, sym, ap, ◌∙◌, subst, arith, slice_index_or, length-append, append_assoc}
 use mathlib.Core.Logic.{inl, inr}
-use Rattle.std.proofs.lemmas.List.{get_or_at, get_or_append_left, length-map, map-append, take_more}
+use Rattle.std.proofs.lemmas.List.{get_or_at, get_or_append_left, length-map, map-append, take-append-drop, take_more}
 use Rattle.outside_host.specs.declared.host.Place.{Place}
 use Rattle.outside_host.specs.declared.host.Place.TheVariants.{Here, Out}
-use Rattle.outside_host.specs.Links.{AreOut, AreBack, AreAsTheyWere, IsAsItWas}
+use Rattle.outside_host.specs.Links.{AreOut, AreBack, AreAsTheyWere, AreFirstOf, IsAsItWas}
 use Rattle.std.specs.Prelude.{Result, Ok, Err, OnErr}
 use Rattle.std.specs.Prelude.{Bool}
 use Rattle.link_channels.specs.declared.channel.Channel.{Channel}
@@ -80,6 +80,38 @@ pub one_more_behind : {A B : Type 0} (f : A → B) (first : List B) (xs : List A
 one_more_behind f first xs i d ys is less =
     ap (λ l. l ++ f (slice_index_or xs i d) ∷ []) is
     ∙ (append_assoc first (map f (take i xs)) (f (slice_index_or xs i d) ∷ []) ∙ ap (λ l. first ++ l) (one_more f xs i d (map f (take i xs)) refl less))
+
+-- what stands first with one more of a list stands first with all of it
+pub first_with_all : {A B : Type 0} (f : A → B) (first : List B) (xs : List A) (i : ℕ) (d : A) (ys opened : List B) → ys ≡ first ++ map f (take i xs) → i < length xs
+    → AreFirstOf opened (ys ++ f (slice_index_or xs i d) ∷ []) → AreFirstOf opened (first ++ map f xs)
+first_with_all f first xs i d ys opened is less front = (front.0 ++ map f (drop (i + 1) xs), whole)
+  where
+    whole : first ++ map f xs ≡ opened ++ (front.0 ++ map f (drop (i + 1) xs))
+    whole =
+        ap (λ l. first ++ map f l) (sym (take-append-drop (i + 1) xs))
+        ∙ (ap (λ l. first ++ l) (map-append f (take (i + 1) xs) (drop (i + 1) xs))
+        ∙ (sym (append_assoc first (map f (take (i + 1) xs)) (map f (drop (i + 1) xs)))
+        ∙ (ap (λ l. l ++ map f (drop (i + 1) xs)) (sym (one_more_behind f first xs i d ys is less) ∙ front.1)
+        ∙ append_assoc opened front.0 (map f (drop (i + 1) xs)))))
+
+-- all of a list stand first, and so do they with more behind it
+pub all_first : {A : Type 0} (xs ys : List A) → xs ≡ ys → AreFirstOf xs ys
+all_first xs ys same = ([], sym same ∙ sym (append-nil xs))
+
+-- none stand first
+pub none_first : {A : Type 0} (xs ys : List A) → xs ≡ [] → AreFirstOf xs ys
+none_first xs ys none = (ys, ap (λ l. l ++ ys) (sym none))
+
+pub first_with_more : {A : Type 0} (opened xs ys : List A) → AreFirstOf opened xs → AreFirstOf opened (xs ++ ys)
+first_with_more opened xs ys front = (front.0 ++ ys, ap (λ l. l ++ ys) front.1 ∙ append_assoc opened front.0 ys)
+
+-- the same are open after as before
+pub first_still : {A : Type 0} (opened before xs : List A) → opened ≡ before → AreFirstOf before xs → AreFirstOf opened xs
+first_still opened before xs same front = subst (λ o. AreFirstOf o xs) (sym same) front
+
+-- of a host that had opened none
+pub first_of_new : {A : Type 0} (opened had xs ys : List A) → had ≡ [] → AreFirstOf opened (had ++ xs) → AreFirstOf opened (xs ++ ys)
+first_of_new opened had xs ys none front = first_with_more opened xs ys (subst (λ h. AreFirstOf opened (h ++ xs)) none front)
 
 -- from a host that has handed out none, what could not be opened came back
 pub from_none : {L T E : Type 0} (old new : ℕ → Place L) (had : List L) (result : Result T E) → had ≡ [] → OnErr result (ComeBack old new had) → OnErr result (AreAsTheyWere old new)

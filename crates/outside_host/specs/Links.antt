@@ -1,5 +1,5 @@
 -- Links that a host hands out one after another, and takes back.
-use Rattle.std.specs.Prelude.{◌≡◌, ◌⊎◌, ◌<◌, ◌≤◌, ℕ, List, [], Bool, IsTrue, length, slice_index_or}
+use Rattle.std.specs.Prelude.{◌≡◌, ◌⊎◌, ◌<◌, ◌≤◌, ◌++◌, ℕ, List, [], Bool, IsTrue, length, slice_index_or}
 use Rattle.link_channels.specs.declared.channel.Channel.{Channel}
 use Rattle.link_channels.specs.declared.profile.Profile.{Profile}
 use Rattle.outside_net.specs.declared.link_spec.Role.{Role}
@@ -14,6 +14,10 @@ HasOpenedNone tells shelf = IsTrue tells × (shelf.opened_links ≡ [])
 -- a host that tells has handed out no clock yet
 abbrev pub HasStartedNone : {I O E L C : Type 0} → Bool → Shelf I O E L C → Type 0
 HasStartedNone tells shelf = IsTrue tells × (shelf.next_clock ≡ 0)
+
+-- these stand first among those, in their order
+abbrev pub AreFirstOf : {A : Type 0} → List A → List A → Type 0
+AreFirstOf {A} these those = (rest : List A) × (those ≡ these ++ rest)
 
 -- these objects were handed out from the first places, in order, and all others stand as they stood
 pub record AreOut {L : Type 0} (old new : ℕ → Place L) (links : List L) : Type 0 where

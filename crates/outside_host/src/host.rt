@@ -10,7 +10,8 @@ ghost use Rattle.outside_host.specs.Shelf.{ChangesSources, ChangesSinks, Changes
 
 use crate::Count;
 use link_channels::Profile;
-use outside_io::{Entropy, Sink, Source};
+use live_source::LiveSource;
+use outside_io::{Entropy, Sink};
 use outside_net::{Clock, Link, LinkSpec, Role};
 use std::fmt::{self, Display, Formatter, Write};
 
@@ -64,7 +65,7 @@ pub struct Opened {
 /// Hands out each object once, under its name or from its place, and takes it back there.
 pub trait Host {
     /// What it hands out as a source.
-    type Input: Source + Drop;
+    type Input: LiveSource + Drop;
 
     /// What it hands out as a sink. It can be shared by the threads of links.
     type Output: Sink + Drop + Send;

@@ -3,7 +3,7 @@ ghost use Rattle.std.specs.Prelude.{◌≡◌, ◌≤◌, ◌<◌, ◌++◌, ◌
 ghost use Rattle.link_channels.specs.declared.bounds.TheConstants.{MAX_LINKS};
 ghost use Rattle.outside_host.specs.Shelf.{ChangesLinks, ChangesOpening, HasHostCause};
 ghost use Rattle.outside_net.specs.declared.link_spec.Role.TheVariants.{Forwards, Receives};
-ghost use Rattle.outside_host.specs.Links.{AreAsTheyWere, AreBack, AreOut, HasOpenedNone, KnowStatedFrom};
+ghost use Rattle.outside_host.specs.Links.{AreAsTheyWere, AreBack, AreFirstOf, AreOut, HasOpenedNone, KnowStatedFrom};
 ghost use Rattle.outside_host.specs.Inside.Links.{ComeBack, GainKnowing, GoOut, IsNextOut, StayFirst};
 
 use crate::{Host, HostBad};
@@ -27,6 +27,9 @@ fn open_next<H: Host>(
     ensures err { IsTrue H.tells → length (H.shelf host.old).opened_links ≡ length links.old.items → OnErr result
         (AreAsTheyWere (H.shelf host.old).links (H.shelf host.new).links
         × StayFirst (length links.old.items) (H.shelf host.old).links (H.shelf host.new).links) }
+    ensures tried { IsTrue H.tells → length (H.shelf host.old).opened_links ≡ length links.old.items → OnErr result
+        (AreFirstOf (H.shelf host.new).opened_links
+        ((H.shelf host.old).opened_links ++ record { spec = spec.now; role = role; profile = profile } ∷ [])) }
     ensures more { OnOk result (length links.new.items ≡ length links.old.items + 1) }
     ensures knows { OnOk result (GainKnowing H.Wire.knows role profile links.old.items links.new.items) }
     ensures kept { OnErr result (links.new.items ≡ links.old.items) }
@@ -65,6 +68,9 @@ fn open_all<H: Host>(
         ++ map (λ spec. record { spec = spec; role = role; profile = profile }) specs.now) }
     ensures err { IsTrue H.tells → length (H.shelf host.old).opened_links ≡ length links.items
         → OnErr result (ComeBack (H.shelf host.old).links (H.shelf host.new).links links.items) }
+    ensures tried { IsTrue H.tells → length (H.shelf host.old).opened_links ≡ length links.items
+        → OnErr result (AreFirstOf (H.shelf host.new).opened_links ((H.shelf host.old).opened_links
+        ++ map (λ spec. record { spec = spec; role = role; profile = profile }) specs.now)) }
     ensures same { IsTrue H.tells → ChangesOpening (H.shelf host.old) (H.shelf host.new) }
     ensures cause { HasHostCause (H.faults host.old) (H.faults host.new) result }
 {
@@ -80,7 +86,8 @@ fn open_all<H: Host>(
     Ok(links)
 }
 
-/// Opens links in this order, all of them or none: where one can't be opened, those before it are given back.
+/// Opens links in this order, all of them or none: where one can't be opened, those before it are given back, and none
+/// behind it is opened.
 pub fn open_links<H: Host>(
     alloc: Global,
     host: &mut H,
@@ -97,6 +104,8 @@ pub fn open_links<H: Host>(
         ≡ map (λ spec. record { spec = spec; role = role; profile = profile }) specs.now) }
     ensures err { HasOpenedNone H.tells (H.shelf host.old)
         → OnErr result (AreAsTheyWere (H.shelf host.old).links (H.shelf host.new).links) }
+    ensures tried { HasOpenedNone H.tells (H.shelf host.old) → OnErr result (AreFirstOf (H.shelf host.new).opened_links
+        (map (λ spec. record { spec = spec; role = role; profile = profile }) specs.now)) }
     ensures same { IsTrue H.tells → ChangesOpening (H.shelf host.old) (H.shelf host.new) }
     ensures cause { HasHostCause (H.faults host.old) (H.faults host.new) result }
 {
@@ -127,6 +136,9 @@ pub fn open_both<H: Host>(
         ++ map (λ spec. record { spec = spec; role = Forwards; profile = onward }) outputs.now) }
     ensures err { HasOpenedNone H.tells (H.shelf host.old)
         → OnErr result (AreAsTheyWere (H.shelf host.old).links (H.shelf host.new).links) }
+    ensures tried { HasOpenedNone H.tells (H.shelf host.old) → OnErr result (AreFirstOf (H.shelf host.new).opened_links
+        (map (λ spec. record { spec = spec; role = Receives; profile = incoming }) inputs.now
+        ++ map (λ spec. record { spec = spec; role = Forwards; profile = onward }) outputs.now)) }
     ensures same { IsTrue H.tells → ChangesOpening (H.shelf host.old) (H.shelf host.new) }
     ensures cause { HasHostCause (H.faults host.old) (H.faults host.new) result }
 {

@@ -1,26 +1,32 @@
 //! The host of the system. What its objects give and take is not told: the trusted edge of the system.
-ghost use Rattle.std.specs.Prelude.{◌≡◌, ℕ, Bool, false, Some, None, IfOk, OnErr};
+ghost use Rattle.std.specs.Prelude.{◌≡◌, ℕ, Bool, false, Some, None, Ok, Err, IfOk, OnErr};
 ghost use Rattle.outside_io.specs.Causes.{Rose};
-ghost use Rattle.outside_io.specs.Real.{silent, IsSourceNamed, IsSinkNamed, file_of};
+ghost use Rattle.outside_io.specs.Real.{silent};
 ghost use Rattle.outside_io.specs.Told.{IsEmpty};
 ghost use Rattle.link_channels.specs.declared.channel.Channel.{Channel as ChannelValue};
 ghost use Rattle.outside_net.specs.Real.{knows_in_link, stated_in, IsOpenedAt};
 ghost use Rattle.outside_net.specs.declared.link_spec.Role.TheVariants.{Sends as RoleSends};
 ghost use Rattle.end_sign.specs.Status.{answers_of};
-ghost use Rattle.end_sign.specs.Until.{link_behind, source_behind, sign_of};
-ghost use Rattle.outside_host.specs.RealHost.{untold, FailsAlone};
+ghost use Rattle.end_sign.specs.Until.{link_behind, sign_of};
+ghost use Rattle.media_address.specs.Address.{address_of};
+ghost use Rattle.media_address.specs.declared.bad.AddressBad.{AddressBad};
+ghost use Rattle.outside_host.specs.RealHost.{untold, file_read, FailsAlone, IsInputNamed, IsOutputNamed};
 ghost use Rattle.outside_host.specs.Shelf.{nowhere, HasHostCause, IsUnwritten, KnowsStated};
 
 use crate::counts::ReportText;
-use crate::real_input::RealInput;
+use crate::real_input::{NamedInput, NetworkInput, RealInput};
+use crate::real_output::RealOutput;
 use crate::record::RecordFile;
 use crate::room::{RoomText, is_small};
 use crate::trouble::{Reason, Thing, Trouble};
 use crate::{Count, Host, HostBad};
+use datagram_ends::{DatagramSink, UdpOut, UdpSource};
 use end_sign::{ProcessSign, Until};
+use gathered_source::Gathered;
 use link_channels::{MAX_LINKS, Profile};
+use media_address::{MediaAddress, address_of};
 use metered_link::{LineOutput, Lines, Metered};
-use outside_io::{FileIdentity, RealEntropy, RealSink, create_sink, is_named, open_source};
+use outside_io::{Entropy, FileIdentity, RealEntropy, create_sink, is_named, open_source};
 use outside_net::{LinkSpec, ProcessClock, Role, UdpLink};
 use recorded_link::{Recorded, Recording};
 use std::alloc::Global;
@@ -31,8 +37,8 @@ use std::net::{Ipv4Addr, Net, SocketAddr, SocketAddrV4, UdpSocket};
 use std::random::RandomSource;
 use std::time::Clock;
 
-/// The system's files, its standard streams under the name `-`, links over UDP, the process clock and the system's random
-/// source. A file that is read as the source isn't opened as the sink: that would empty it. All clocks have one start. Where the
+/// The system's files, its standard streams under the name `-`, streams in datagrams of UDP under their addresses, links over UDP,
+/// the process clock and the system's random source. A file that is read as the source isn't opened as the sink: that would empty it. All clocks have one start. Where the
 /// system asks the program to end the source comes to its end, and so does each link but one that a sender sends on, which has
 /// still to answer requests. With memory the host keeps the names of the source and the sink that it opened last, and what it
 /// couldn't open last.
@@ -166,6 +172,12 @@ impl<'a, R: Files + Eprint> RealHost<'a, R> {
     }
 }
 
+/// What is handed out as a source.
+type SourceOf<'a, R> = RealInput<'a, R, <R as Files>::File, <R as Input>::Reader>;
+
+/// What is handed out as a sink.
+type SinkOf<'a, R> = RealOutput<'a, R, <R as Files>::File, Printer<'a, R>>;
+
 /// Where the lines of links are put.
 type LineFile<R> = Lines<LineOutput<<R as Files>::File>>;
 
@@ -248,14 +260,115 @@ impl<'a, R: Files + Clock> RealHost<'a, R> {
     }
 }
 
+impl<'a, R: Files + Input + Net + Clock> RealHost<'a, R> {
+    /// The file of this name, or standard input. What is read is taken down.
+    fn named_source(&mut self, name: &str) -> Result<SourceOf<'a, R>, HostBad>
+        requires name { address_of name.now ≡ Ok None }
+        ensures cause { HasHostCause self.old.faults self.new.faults result }
+        ensures only { FailsAlone result }
+        ensures named { IfOk result (λ source. IsInputNamed name.now source) }
+        ensures known { IfOk result (λ source. self.new.read ≡ file_read source) }
+        ensures stays { OnErr result (self.new.read ≡ self.old.read) }
+    {
+        match open_source(self.rt, name) {
+            Ok(source) => {
+                self.read = source.file();
+                self.source = self.kept(name);
+                let input = NamedInput::over(self.rt, name, source);
+                Ok(RealInput::Named(Gathered::over(input)))
+            }
+            Err(error) => Err(self.refuse_name(name, Reason::System(error))),
+        }
+    }
+
+    /// What comes in datagrams to an address, once the first is there or the program is to end.
+    fn network_source(
+        &mut self,
+        name: &str,
+        address: &MediaAddress,
+    ) -> Result<SourceOf<'a, R>, HostBad>
+        requires name { address_of name.now ≡ Ok (Some address.now) }
+        ensures cause { HasHostCause self.old.faults self.new.faults result }
+        ensures only { FailsAlone result }
+        ensures named { IfOk result (λ source. IsInputNamed name.now source) }
+        ensures known { IfOk result (λ source. self.new.read ≡ file_read source) }
+        ensures stays { OnErr result (self.new.read ≡ self.old.read) }
+    {
+        match UdpSource::open(self.rt, address, ProcessSign::new(self.rt)) {
+            Ok(mut source) => {
+                self.read = None;
+                self.source = self.kept(name);
+                source.await_first();
+                Ok(RealInput::Network(Gathered::over(NetworkInput::over(source))))
+            }
+            Err(error) => Err(self.refuse_name(name, Reason::System(error))),
+        }
+    }
+}
+
+impl<'a, R: Files + Print + Eprint + RandomSource + Net + Clock> RealHost<'a, R> {
+    /// A new file of this name, or standard output.
+    fn named_sink(&mut self, name: &str) -> Result<SinkOf<'a, R>, HostBad>
+        requires name { address_of name.now ≡ Ok None }
+        ensures cause { HasHostCause self.old.faults self.new.faults result }
+        ensures only { FailsAlone result }
+        ensures named { IfOk result (λ sink. IsOutputNamed name.now sink) }
+        ensures stays { self.new.read ≡ self.old.read }
+    {
+        if is_named(self.rt, name, self.read) {
+            return Err(self.refuse_name(name, Reason::IsSource));
+        }
+        match create_sink(self.rt, name) {
+            Ok(sink) => {
+                self.sink = self.kept(name);
+                Ok(RealOutput::Named(sink))
+            }
+            Err(error) => Err(self.refuse_name(name, Reason::System(error))),
+        }
+    }
+
+    /// Datagrams to an address. The first RTP number and the source are random (RFC 3550, section 5.1).
+    fn network_sink(&mut self, name: &str, address: &MediaAddress) -> Result<SinkOf<'a, R>, HostBad>
+        requires name { address_of name.now ≡ Ok (Some address.now) }
+        ensures cause { HasHostCause self.old.faults self.new.faults result }
+        ensures only { FailsAlone result }
+        ensures named { IfOk result (λ sink. IsOutputNamed name.now sink) }
+        ensures stays { self.new.read ≡ self.old.read }
+    {
+        let clock = self.started_clock()?;
+        let number = (self.random_word()? >> 16) as u16;
+        let ssrc = self.random_word()?;
+        match UdpOut::open(self.rt, address) {
+            Ok(out) => {
+                self.sink = self.kept(name);
+                let sink = DatagramSink::over(address.form, out, clock, number, ssrc);
+                Ok(RealOutput::Network(sink))
+            }
+            Err(error) => Err(self.refuse_name(name, Reason::System(error))),
+        }
+    }
+
+    /// A word of the system's random source.
+    fn random_word(&mut self) -> Result<u32, HostBad>
+        ensures cause { HasHostCause self.old.faults self.new.faults result }
+        ensures only { FailsAlone result }
+        ensures stays { self.new.read ≡ self.old.read }
+    {
+        match RealEntropy::new(self.rt).word() {
+            Ok(word) => Ok(word),
+            Err(_) => Err(self.refuse()),
+        }
+    }
+}
+
 impl<'a, R: Files + Input + Print + Eprint + RandomSource + Net + Clock + Sync> Host
     for RealHost<'a, R>
 where
     R::File: Send,
 {
-    type Input = RealInput<'a, R, R::File, R::Reader>;
+    type Input = SourceOf<'a, R>;
 
-    type Output = RealSink<R::File, Printer<'a, R>>;
+    type Output = SinkOf<'a, R>;
 
     type Random = RealEntropy<'a, R>;
 
@@ -276,18 +389,16 @@ where
     fn source(&mut self, name: &str) -> Result<Self::Input, HostBad>
         ensures cause { HasHostCause self.old.faults self.new.faults result }
         ensures only { FailsAlone result }
-        ensures named { IfOk result (λ source. IsSourceNamed name.now (source_behind source.source)) }
-        // What it reads is taken down. Standard input is no file that could be told from others.
-        ensures known { IfOk result (λ source. self.new.read ≡ file_of (source_behind source.source)) }
+        ensures named { IfOk result (λ source. IsInputNamed name.now source) }
+        ensures faulty { (bad : AddressBad) → address_of name.now ≡ Err bad → result ≡ Err HostBad.Failed }
+        // What it reads is taken down. Standard input and the network are no file that could be told from others.
+        ensures known { IfOk result (λ source. self.new.read ≡ file_read source) }
         ensures stays { OnErr result (self.new.read ≡ self.old.read) }
     {
-        match open_source(self.rt, name) {
-            Ok(source) => {
-                self.read = source.file();
-                self.source = self.kept(name);
-                Ok(RealInput::over(self.rt, name, source))
-            }
-            Err(error) => Err(self.refuse_name(name, Reason::System(error))),
+        match address_of(name) {
+            Ok(None) => self.named_source(name),
+            Ok(Some(address)) => self.network_source(name, &address),
+            Err(bad) => Err(self.refuse_name(name, Reason::Address(bad))),
         }
     }
 
@@ -295,18 +406,14 @@ where
         ensures fresh { IfOk result (λ _. IsEmpty silent) }
         ensures cause { HasHostCause self.old.faults self.new.faults result }
         ensures only { FailsAlone result }
-        ensures named { IfOk result (λ sink. IsSinkNamed name.now sink) }
+        ensures named { IfOk result (λ sink. IsOutputNamed name.now sink) }
+        ensures faulty { (bad : AddressBad) → address_of name.now ≡ Err bad → result ≡ Err HostBad.Failed }
         ensures stays { self.new.read ≡ self.old.read }
     {
-        if is_named(self.rt, name, self.read) {
-            return Err(self.refuse_name(name, Reason::IsSource));
-        }
-        match create_sink(self.rt, name) {
-            Ok(sink) => {
-                self.sink = self.kept(name);
-                Ok(sink)
-            }
-            Err(error) => Err(self.refuse_name(name, Reason::System(error))),
+        match address_of(name) {
+            Ok(None) => self.named_sink(name),
+            Ok(Some(address)) => self.network_sink(name, &address),
+            Err(bad) => Err(self.refuse_name(name, Reason::Address(bad))),
         }
     }
 

@@ -2,7 +2,10 @@
 ghost use Rattle.std.specs.Prelude.{◌≡◌};
 ghost use Rattle.end_sign.specs.Until.{source_behind};
 
+use datagram_ends::UdpSource;
 use end_sign::{EndSign, ProcessSign, UntilSource};
+use gathered_source::{Gathered, ReadySource};
+use live_source::LiveSource;
 use outside_io::{Failed, Reading, RealSource, Source};
 use std::fs::Files;
 use std::io::Read;
@@ -14,16 +17,16 @@ const STANDARD_INPUT: i32 = 0;
 
 /// A file or standard input, which comes to its end where the system asks the program to end.
 #[derive(Drop)]
-pub struct RealInput<'a, R, F, I> {
+pub struct NamedInput<'a, R, F, I> {
     source: UntilSource<RealSource<F, I>, ProcessSign<'a, R>>,
     /// What reads the file, for the proof that it is let go alone.
     reader: PhantomData<Reading<F>>,
 }
 
-impl<'a, R: Files + Clock, F, I> RealInput<'a, R, F, I> {
+impl<'a, R: Files + Clock, F, I> NamedInput<'a, R, F, I> {
     /// Standard input is handed out once it gives something, has ended, or the program is to end: so the time of what is read from
     /// it begins with its first octets, however late these come.
-    pub(crate) fn over(rt: &'a R, name: &str, source: RealSource<F, I>) -> RealInput<'a, R, F, I>
+    pub(crate) fn over(rt: &'a R, name: &str, source: RealSource<F, I>) -> NamedInput<'a, R, F, I>
         ensures source { source_behind result.source ≡ source }
     {
         let sign = ProcessSign::new(rt);
@@ -32,7 +35,7 @@ impl<'a, R: Files + Clock, F, I> RealInput<'a, R, F, I> {
         } else {
             UntilSource::over(source, sign)
         };
-        RealInput {
+        NamedInput {
             source,
             reader: PhantomData,
         }
@@ -48,16 +51,91 @@ fn awaited<S, E: EndSign>(source: S, sign: E) -> UntilSource<S, E>
     source
 }
 
-impl<'a, R: Files + Clock, F: Read, I: Read> Source for RealInput<'a, R, F, I> {
+impl<'a, R: Files + Clock, F: Read, I: Read> ReadySource for NamedInput<'a, R, F, I> {
+    /// A file is read at once. A pipe under a name of its own counts as one: a read of it may wait.
+    fn is_ready(&mut self) -> bool {
+        self.source.is_ready()
+    }
+}
+
+impl<'a, R: Files + Clock, F: Read, I: Read> Source for NamedInput<'a, R, F, I> {
     ghost use Rattle.std.specs.Prelude.{None};
-    ghost use Rattle.outside_io.specs.Real.{source_faults};
-    ghost use Rattle.end_sign.specs.Until.{source_behind};
+    ghost use Rattle.outside_host.specs.RealHost.{named_faults};
 
     ghost remaining = { λ _. None };
 
-    ghost faults = { λ input. source_faults (source_behind input.source) };
+    ghost faults = { named_faults };
 
     fn read(&mut self, buf: &mut [u8]) -> Result<usize, Failed> {
         self.source.read(buf)
+    }
+}
+
+/// A stream that comes in datagrams of UDP.
+#[derive(Drop)]
+pub struct NetworkInput<'a, R> {
+    source: UdpSource<ProcessSign<'a, R>>,
+}
+
+impl<'a, R> NetworkInput<'a, R> {
+    pub(crate) fn over(source: UdpSource<ProcessSign<'a, R>>) -> NetworkInput<'a, R>
+        ensures source { result.source ≡ source.entry }
+    {
+        NetworkInput { source }
+    }
+}
+
+impl<'a, R: Files + Clock> Source for NetworkInput<'a, R> {
+    ghost use Rattle.std.specs.Prelude.{None};
+
+    ghost remaining = { λ _. None };
+
+    ghost faults = { λ input. input.source.faults };
+
+    fn read(&mut self, buf: &mut [u8]) -> Result<usize, Failed> {
+        self.source.read(buf)
+    }
+}
+
+impl<'a, R: Files + Clock> ReadySource for NetworkInput<'a, R> {
+    fn is_ready(&mut self) -> bool {
+        self.source.is_ready()
+    }
+}
+
+/// A file, standard input, or a stream that comes in datagrams of UDP. What is there can be gathered without a wait. Each comes to its
+/// end where the system asks the program to end.
+#[derive(Drop)]
+pub enum RealInput<'a, R: Files + Clock, F: Read, I: Read> {
+    /// Under a name.
+    Named(Gathered<NamedInput<'a, R, F, I>>),
+    /// Under an address.
+    Network(Gathered<NetworkInput<'a, R>>),
+}
+
+impl<'a, R: Files + Clock, F: Read, I: Read> Source for RealInput<'a, R, F, I> {
+    ghost use Rattle.std.specs.Prelude.{None};
+    ghost use Rattle.outside_host.specs.RealHost.{input_ahead, input_faults};
+
+    ghost remaining = { λ _. None };
+
+    ghost ahead = { input_ahead };
+
+    ghost faults = { input_faults };
+
+    fn read(&mut self, buf: &mut [u8]) -> Result<usize, Failed> {
+        match self {
+            RealInput::Named(input) => input.read(buf),
+            RealInput::Network(input) => input.read(buf),
+        }
+    }
+}
+
+impl<'a, R: Files + Clock, F: Read, I: Read> LiveSource for RealInput<'a, R, F, I> {
+    fn gather(&mut self, count: usize) -> bool {
+        match self {
+            RealInput::Named(input) => input.gather(count),
+            RealInput::Network(input) => input.gather(count),
+        }
     }
 }

@@ -1,4 +1,5 @@
 //! What couldn't be opened, and why.
+use media_address::AddressBad;
 use std::fmt::{self, Display, Formatter, Write};
 use std::io;
 use std::net::SocketAddr;
@@ -19,6 +20,8 @@ pub enum Reason {
     System(io::Error),
     /// A sink has the name of the source.
     IsSource,
+    /// The name begins as an address, and is none.
+    Address(AddressBad),
 }
 
 /// What couldn't be opened, and why.
@@ -48,6 +51,7 @@ impl Display for Reason {
         match self {
             Reason::System(error) => write!(f, "{error}"),
             Reason::IsSource => f.write_str("it is read as the source"),
+            Reason::Address(bad) => write!(f, "{bad}"),
         }
     }
 }

@@ -4,6 +4,8 @@
 #![tactic(auto)]
 
 #[cfg(test)]
+mod addresses;
+#[cfg(test)]
 mod asserts;
 #[cfg(test)]
 mod blocks;
@@ -11,6 +13,8 @@ mod blocks;
 mod bytes;
 #[cfg(test)]
 mod captures;
+#[cfg(test)]
+mod datagrams;
 #[cfg(test)]
 mod frames;
 #[cfg(test)]

@@ -1,7 +1,7 @@
 -- Each link that was opened is out, or comes back as it was.
 use Rattle.std.proofs.Common.{rules, arith, ap, sym, ◌∙◌, ◌+◌, length, length-append, subst}
 use Rattle.outside_host.specs.Links.{AreBack}
-use Rattle.outside_host.proofs.LinkOpeningLemmas.{one_out, all_as_they_were, one_more_behind, know_both}
+use Rattle.outside_host.proofs.LinkOpeningLemmas.{one_out, all_as_they_were, first_still, first_with_all, one_more_behind, know_both}
 use Rattle.outside_host.proofs.links.open_all.Goals as goal
 
 pub returns-in-Err-clause-err : goal.returns-in-Err-clause-err
@@ -10,6 +10,12 @@ returns-in-Err-clause-err g c =
     let err = c.in-Err.ensures.err told (c.loop-spec.invariant.1 told as_many) in
     all_as_they_were _ _ _ _ _ (c.loop-spec.invariant.2 told as_many base out) err.0 err.1
     (subst (AreBack (g.H.Host.shelf c.open_next.new.host).links (g.H.Host.shelf c.back_links.new.host).links) c.in-Err.ensures.kept (c.back_links.ensures.state told))
+
+pub returns-in-Err-clause-tried : goal.returns-in-Err-clause-tried
+returns-in-Err-clause-tried g c =
+    λ told as_many.
+    first_still _ _ _ (ap (λ s. s.opened_links) (c.back_links.ensures.same told))
+    (first_with_all _ _ _ _ _ _ _ (c.loop-spec.invariant.3 told as_many) c.loop-spec-test.true (c.in-Err.ensures.tried told (c.loop-spec.invariant.1 told as_many)))
 
 pub loop-spec-preserved : goal.loop-spec-preserved
 loop-spec-preserved g c = (

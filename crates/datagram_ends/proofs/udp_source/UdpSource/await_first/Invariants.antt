@@ -1,0 +1,9 @@
+-- no call has told a fault
+use Rattle.std.proofs.Common.{◌≡◌}
+use Rattle.datagram_ends.proofs.udp_source.UdpSource.await_first.Given as goal
+
+abbrev pub invariant-loop : goal.invariant-loop
+invariant-loop g l = record {
+  form : l.self.form ≡ l.fn.self.form;
+  faults : l.self.faults ≡ l.fn.self.faults;
+}

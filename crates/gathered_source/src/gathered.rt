@@ -1,0 +1,196 @@
+//! A source whose octets are gathered as they come.
+ghost use Rattle.std.specs.Prelude.{◌≡◌, ◌≤◌, ◌<◌, ◌+◌, ◌-◌, [], ℕ, Bool, true, false, length, take, min, IfOk, OnErr, OnOk};
+ghost use Rattle.std.specs.Io.{ReadsAtMost};
+ghost use Rattle.outside_io.specs.Causes.{HasCause};
+ghost use Rattle.outside_io.specs.Told.{Takes, IsPrefix};
+ghost use Rattle.block_source.specs.Block.{between};
+ghost use Rattle.gathered_source.specs.Gathered.{most_gathered, HasGathered};
+
+use crate::ReadySource;
+use live_source::LiveSource;
+use outside_io::{Failed, Source, copy_front};
+use std::marker::Model;
+
+/// How many octets are gathered at most.
+const ROOM: usize = 16384;
+
+/// A source, and what was gathered of it ahead of the reads, which give that first. A fault that comes while octets are gathered is
+/// told by the read behind them. What it has still to give is not told by the trait, since it says whether octets are there.
+#[derive(Drop)]
+pub struct Gathered<S: Source> {
+    source: S,
+    octets: [u8; ROOM],
+    from: usize,
+    to: usize,
+    /// The source has come to its end, as it was gathered.
+    has_ended: bool,
+    /// A read of the source has failed, as it was gathered, and no read has told that yet.
+    has_failed: bool,
+    faults: u64,
+}
+
+impl<S: Source> Model for Gathered<S> {
+    ghost use Rattle.std.specs.Prelude.{◌≤◌};
+    ghost use Rattle.block_source.specs.Block.{between, behind};
+    ghost use Rattle.gathered_source.specs.Gathered.{GatheredState};
+
+    ghost Value = { GatheredState S };
+
+    ghost view = { λ g. record {
+      source = g.source;
+      left = behind (between g.octets g.from g.to) (S.remaining g.source);
+      ahead = between g.octets g.from g.to;
+      has_ended = g.has_ended;
+      has_failed = g.has_failed;
+      faults = g.faults;
+    } };
+
+    ghost invariant = { λ g. (g.from ≤ g.to) × (g.to ≤ 16384) };
+}
+
+impl<S: Source> Gathered<S> {
+    /// Nothing is gathered at first.
+    pub fn over(source: S) -> Gathered<S>
+        ensures value { result ≡ record {
+          source = source;
+          left = S.remaining source;
+          ahead = [];
+          has_ended = false;
+          has_failed = false;
+          faults = 0;
+        } }
+    {
+        Gathered {
+            source,
+            octets: [0; ROOM],
+            from: 0,
+            to: 0,
+            has_ended: false,
+            has_failed: false,
+            faults: 0,
+        }
+    }
+
+    /// Gives octets that were gathered, as many as fit.
+    fn give(&mut self, buf: &mut [u8]) -> usize
+        ensures within { result ≤ length buf.new }
+        ensures value { Takes self.old.left self.new.left (take result buf.new) }
+        ensures faults { self.new.faults ≡ self.old.faults }
+    {
+        let count = copy_front(&self.octets[self.from..self.to], buf);
+        self.from += count;
+        count
+    }
+
+    /// Reads a piece of the source behind what was gathered, which moves to the front. Says how many octets came.
+    fn read_on(&mut self) -> Result<usize, Failed>
+        requires room { length self.old.ahead < most_gathered }
+        ensures left { self.new.left ≡ self.old.left }
+        ensures more { IfOk result (λ count. length self.new.ahead ≡ length self.old.ahead + count) }
+        ensures front { IsPrefix self.old.ahead self.new.ahead }
+        ensures faults { self.new.faults ≡ self.old.faults }
+    {
+        let end = move_to_front(&mut self.octets, self.from, self.to);
+        self.from = 0;
+        self.to = end;
+        match self.source.read(&mut self.octets[end..]) {
+            Ok(count) => {
+                self.to = end + count;
+                Ok(count)
+            }
+            Err(bad) => Err(bad),
+        }
+    }
+
+    /// Reads what was gathered, and then the source behind.
+    fn look(&mut self, buf: &mut [u8]) -> Result<usize, Failed>
+        ensures within { ReadsAtMost result buf.new }
+        ensures ok { IfOk result (λ count. Takes self.old.left self.new.left (take count buf.new)) }
+        ensures err { OnErr result (self.new.left ≡ self.old.left) }
+        // A fault comes behind what was gathered.
+        ensures ahead { OnErr result (self.new.ahead ≡ []) }
+        ensures cause { HasCause self.old.faults self.new.faults result }
+    {
+        if self.from < self.to {
+            return Ok(self.give(buf));
+        }
+        if self.has_failed {
+            self.has_failed = false;
+            self.faults = self.faults.saturating_add(1);
+            return Err(Failed);
+        }
+        if self.has_ended {
+            return Ok(0);
+        }
+        match self.source.read(buf) {
+            Ok(count) => Ok(count),
+            Err(bad) => {
+                self.faults = self.faults.saturating_add(1);
+                Err(bad)
+            }
+        }
+    }
+}
+
+impl<S: ReadySource> Gathered<S> {
+    /// Gathers what is there until so many octets are, the source ends or a read of it fails. Whether one of these is so.
+    fn gather_on(&mut self, count: usize) -> bool
+        requires room { count ≤ most_gathered }
+        ensures value { HasGathered count result self.new }
+        ensures left { self.new.left ≡ self.old.left }
+        ensures front { IsPrefix self.old.ahead self.new.ahead }
+        ensures faults { self.new.faults ≡ self.old.faults }
+    {
+        while self.to - self.from < count {
+            if self.has_ended || self.has_failed {
+                return true;
+            }
+            if !self.source.is_ready() {
+                return false;
+            }
+            match self.read_on() {
+                Ok(0) => {
+                    self.has_ended = true;
+                    return true;
+                }
+                Ok(_) => {}
+                Err(_) => {
+                    self.has_failed = true;
+                    return true;
+                }
+            }
+        }
+        true
+    }
+}
+
+/// Moves the octets between two places of a block to its front, and says how many they are.
+fn move_to_front(octets: &mut [u8; ROOM], from: usize, to: usize) -> usize
+    requires { (from ≤ to) × (to ≤ most_gathered) }
+    ensures count { result ≡ to - from }
+    ensures front { take result octets.new ≡ between octets.old from to }
+{
+    octets.copy_within(from..to, 0);
+    to - from
+}
+
+impl<S: Source> Source for Gathered<S> {
+    ghost use Rattle.std.specs.Prelude.{None};
+
+    ghost remaining = { λ _. None };
+
+    ghost ahead = { λ g. g.ahead };
+
+    ghost faults = { λ g. g.faults };
+
+    fn read(&mut self, buf: &mut [u8]) -> Result<usize, Failed> {
+        self.look(buf)
+    }
+}
+
+impl<S: ReadySource> LiveSource for Gathered<S> {
+    /// Of more than 16,384 octets it answers for these.
+    fn gather(&mut self, count: usize) -> bool {
+        self.gather_on(count.min(ROOM))
+    }
+}

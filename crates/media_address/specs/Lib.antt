@@ -1,0 +1,3 @@
+pub mod Parts
+pub mod Address
+pub mod Text

@@ -1,0 +1,9 @@
+-- What is printed of a word that begins as an address and is none.
+use Rattle.std.specs.Prelude.{ℕ, List, codes}
+use Rattle.media_address.specs.declared.bad.AddressBad.{AddressBad}
+use Rattle.media_address.specs.declared.bad.AddressBad.TheVariants.{NoAddress, NoSetting}
+
+-- the text of each
+abbrev pub text_of : AddressBad → List ℕ
+text_of NoAddress = codes "no address a.b.c.d:port"
+text_of NoSetting = codes "behind ? stands neither ttl=1..255 nor from=a.b.c.d, or one twice"
