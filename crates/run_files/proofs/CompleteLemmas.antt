@@ -15,7 +15,8 @@ use Rattle.rist_pack.specs.Packing.{Packs}
 use Rattle.rist_pack.specs.Capture.{packed_record, nonces_of}
 use Rattle.rist_pack.specs.declared.bad.PackBad.{PackBad}
 use Rattle.rist_pack.specs.declared.bad.PackBad.TheVariants as packs
-use Rattle.rist_words.specs.CommandLine.{CommandLine, Replay, Show, Count, Pack, Split, Send, Recv, Gate, Drill}
+use Rattle.rist_words.specs.CommandLine.{CommandLine, Replay, Show, Count, Report, Pack, Split, Send, Recv, Fan, Gate}
+use Rattle.rist_words.specs.CommandLine.{Drill}
 use Rattle.outside_io.specs.Causes.{HasReadCause, HasWriteCause}
 use Rattle.run_parts.specs.Sessions.{session_with}
 use Rattle.run_files.specs.Sessions.{pack_settings}
@@ -74,12 +75,14 @@ work_ends : (IsKnown : SealerState → Type 0) (c : CommandLine) (b : List ℕ) 
 work_ends IsKnown (Replay c) b p status input told read write words memory work = walk_ends (form_of c.session c.pcap) _ _ b p status input told read write memory work
 work_ends IsKnown (Show c) b p status input told read write words memory work = walk_ends (form_of c.session c.pcap) _ _ b p status input told read write memory work
 work_ends IsKnown (Count c) b p status input told read write words memory work = walk_ends (form_of c.session c.pcap) _ _ b p status input told read write memory work
+work_ends IsKnown (Report c) b p status input told read write words memory work = walk_ends (form_of c.session c.pcap) _ _ b p status input told read write memory work
 work_ends IsKnown (Pack c) b p status input told read write words memory (inl failed) = absurd (words failed.0)
 work_ends IsKnown (Pack c) b p status input told read write words memory (inr work) =
     pack_ends (packed_record (session_with c.session c.stream.nulls c.stream.wide) (nonces_of work.0) (pack_settings c)) b p status work.3.0 input told work.3.1 read write work.3.2
 work_ends IsKnown (Split c) b p status input told read write words memory work = absurd work
 work_ends IsKnown (Send c) b p status input told read write words memory work = absurd work
 work_ends IsKnown (Recv c) b p status input told read write words memory work = absurd work
+work_ends IsKnown (Fan c) b p status input told read write words memory work = absurd work
 work_ends IsKnown (Gate c) b p status input told read write words memory work = absurd work
 work_ends IsKnown (Drill c) b p status input told read write words memory work = absurd work
 

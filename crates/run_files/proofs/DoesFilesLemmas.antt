@@ -2,7 +2,7 @@
 use Rattle.std.proofs.Common.{◌≡◌, ◌∙◌, refl, sym, ap, subst, ◌≢◌, ◌⊎◌, ℕ, Bool}
 use mathlib.Core.Logic.{inl, inr}
 use Rattle.outside_host.specs.Shelf.{Shelf}
-use Rattle.rist_words.specs.CommandLine.{CommandLine, ReplayCommand, Replay, Show, Count, Pack, Split, Send, Recv, Gate, Drill}
+use Rattle.rist_words.specs.CommandLine.{CommandLine, ReplayCommand, Replay, Show, Count, Report, Pack, Split, Send, Recv, Fan, Gate, Drill}
 use Rattle.std.specs.Prelude.{IsTrue}
 use Rattle.std.proofs.lemmas.Bool.{true≢false}
 use Rattle.outside_io.specs.Causes.{HasOpenCause}
@@ -99,10 +99,12 @@ ends_memory : (c : CommandLine) → IsFilesEnd c statuses.Memory
 ends_memory (Replay c) = tt
 ends_memory (Show c) = tt
 ends_memory (Count c) = tt
+ends_memory (Report c) = tt
 ends_memory (Pack c) = tt
 ends_memory (Split c) = tt
 ends_memory (Send c) = tt
 ends_memory (Recv c) = tt
+ends_memory (Fan c) = tt
 ends_memory (Gate c) = tt
 ends_memory (Drill c) = tt
 

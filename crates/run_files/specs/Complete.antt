@@ -4,7 +4,8 @@ use Rattle.outside_host.specs.Shelf.{Shelf}
 use Rattle.outside_host.specs.declared.host.Place.TheVariants.{Here}
 use Rattle.capture_file.specs.Capture.{Record}
 use Rattle.capture_walk.specs.Form.{Form, IsFile}
-use Rattle.rist_words.specs.CommandLine.{CommandLine, Replay, Show, Count, Pack, Split, Send, Recv, Gate, Drill}
+use Rattle.rist_words.specs.CommandLine.{CommandLine, Replay, Show, Count, Report, Pack, Split, Send, Recv, Fan, Gate}
+use Rattle.rist_words.specs.CommandLine.{Drill}
 use Rattle.run_parts.specs.Names.{source_name}
 use Rattle.run_parts.specs.Objects.{Tells}
 use Rattle.run_files.specs.Works.{form_of}
@@ -17,15 +18,17 @@ abbrev pub IsWholeFile : Form → List ℕ → Type 0
 IsWholeFile form b = ((rs : List Record) × IsFile form rs b) × (length b ≤ 2 ^ 40)
 
 -- octets that a command takes to their end: a capture or a pcap file, or for a packing or a sending any octets, within
--- the greatest offset; a receiving, a gateway and a simulated run have no source
+-- the greatest offset; a receiving, of one flow or several, a gateway and a simulated run have no source
 abbrev pub IsWholeInput : CommandLine → List ℕ → Type 0
 IsWholeInput (Replay c) b = IsWholeFile (form_of c.session c.pcap) b
 IsWholeInput (Show c) b = IsWholeFile (form_of c.session c.pcap) b
 IsWholeInput (Count c) b = IsWholeFile (form_of c.session c.pcap) b
+IsWholeInput (Report c) b = IsWholeFile (form_of c.session c.pcap) b
 IsWholeInput (Pack c) b = length b ≤ 2 ^ 40
 IsWholeInput (Split c) b = IsWholeFile (form_of c.session c.pcap) b
 IsWholeInput (Send c) b = length b ≤ 2 ^ 40
 IsWholeInput (Recv c) b = ⊥
+IsWholeInput (Fan c) b = ⊥
 IsWholeInput (Gate c) b = ⊥
 IsWholeInput (Drill c) b = ⊥
 

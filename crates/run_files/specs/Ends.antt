@@ -4,7 +4,7 @@ use Rattle.rist_words.specs.CommandLine.{CommandLine, Pack, PackCommand}
 use Rattle.run_parts.specs.declared.status.Status.{Status}
 use Rattle.run_parts.specs.declared.status.Status.TheVariants as statuses
 
--- a replay, a showing or a counting can end so: no link, no key, no kept step and no turn is in it
+-- a replay, a showing, a counting or a report can end so: no link, no key, no kept step and no turn is in it
 abbrev pub IsWalkEnd : Status → Type 0
 IsWalkEnd statuses.Done = Unit {0}
 IsWalkEnd statuses.Memory = Unit {0}

@@ -1,17 +1,20 @@
 -- What a host that a line over a source and a sink begins with has to be.
 use Rattle.std.specs.Prelude.{◌≡◌, Bool, true, false, IsTrue}
 use Rattle.outside_host.specs.Shelf.{Shelf}
-use Rattle.rist_words.specs.CommandLine.{CommandLine, Replay, Show, Count, Pack, Split, Send, Recv, Gate, Drill}
+use Rattle.rist_words.specs.CommandLine.{CommandLine, Replay, Show, Count, Report, Pack, Split, Send, Recv, Fan, Gate}
+use Rattle.rist_words.specs.CommandLine.{Drill}
 
 -- a line is a packing
 abbrev pub is_packing : CommandLine → Bool
 is_packing (Replay c) = false
 is_packing (Show c) = false
 is_packing (Count c) = false
+is_packing (Report c) = false
 is_packing (Pack c) = true
 is_packing (Split c) = false
 is_packing (Send c) = false
 is_packing (Recv c) = false
+is_packing (Fan c) = false
 is_packing (Gate c) = false
 is_packing (Drill c) = false
 

@@ -1,7 +1,8 @@
 -- What is left where a line's work is not begun, or wants memory.
 use Rattle.std.specs.Prelude.{◌≡◌, ◌≢◌, ◌⊎◌, ℕ, List}
 use Rattle.outside_host.specs.Shelf.{Shelf, Stays}
-use Rattle.rist_words.specs.CommandLine.{CommandLine, Replay, Show, Count, Pack, Split, Send, Recv, Gate, Drill}
+use Rattle.rist_words.specs.CommandLine.{CommandLine, Replay, Show, Count, Report, Pack, Split, Send, Recv, Fan, Gate}
+use Rattle.rist_words.specs.CommandLine.{Drill}
 use Rattle.run_parts.specs.Objects.{Tells}
 use Rattle.run_parts.specs.Places.{IsAsItWas}
 use Rattle.run_files.specs.Ran.{Ran}
@@ -21,10 +22,12 @@ abbrev pub IsShowing : CommandLine → Type 0
 IsShowing (Replay c) = ⊥
 IsShowing (Show c) = Unit {0}
 IsShowing (Count c) = ⊥
+IsShowing (Report c) = ⊥
 IsShowing (Pack c) = ⊥
 IsShowing (Split c) = ⊥
 IsShowing (Send c) = ⊥
 IsShowing (Recv c) = ⊥
+IsShowing (Fan c) = ⊥
 IsShowing (Gate c) = ⊥
 IsShowing (Drill c) = ⊥
 

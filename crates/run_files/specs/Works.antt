@@ -9,12 +9,14 @@ use Rattle.capture_walk.specs.Leaves.{Leaves}
 use Rattle.capture_walk.specs.declared.walk_bad.WalkBad.{WalkBad}
 use Rattle.rist_replay.specs.Replay.{released_so_far, replayed}
 use Rattle.rist_replay.specs.Counted.{counted}
+use Rattle.report_page.specs.Reported.{reported}
 use Rattle.rist_show.specs.Lines.{lines}
 use Rattle.rist_pack.specs.Packing.{Packs}
 use Rattle.rist_pack.specs.Capture.{packed_record, nonces_of}
 use Rattle.rist_pack.specs.declared.bad.PackBad.{PackBad}
 use Rattle.rist_pack.specs.declared.bad.PackBad.TheVariants as packs
-use Rattle.rist_words.specs.CommandLine.{CommandLine, Replay, Show, Count, Pack, Split, Send, Recv, Gate, Drill}
+use Rattle.rist_words.specs.CommandLine.{CommandLine, Replay, Show, Count, Report, Pack, Split, Send, Recv, Fan, Gate}
+use Rattle.rist_words.specs.CommandLine.{Drill}
 use Rattle.rist_words.specs.CommandLine.{Session, ReplayCommand, ShowCommand, CountCommand, PackCommand}
 use Rattle.run_parts.specs.Sessions.{session_with, session_read}
 use Rattle.run_files.specs.Sessions.{replay_limits, count_limits, pack_settings}
@@ -73,16 +75,26 @@ CountsAs form c p status = Walks form (λ rs. []) (counted (session_read c.sessi
 abbrev pub Counts : CountCommand → Passage → Status → Type 0
 Counts c p status = CountsAs (form_of c.session c.pcap) c p status
 
+-- what a report of a file of this form leaves: nothing is written before its end
+abbrev pub ReportsAs : Form → ReplayCommand → Passage → Status → Type 0
+ReportsAs form c p status = Walks form (λ rs. []) (reported (session_read c.session) (replay_limits c)) p status
+
+-- what a report leaves
+abbrev pub Reports : ReplayCommand → Passage → Status → Type 0
+Reports c p status = ReportsAs (form_of c.session c.pcap) c p status
+
 -- a command over a source and a sink: any but a split, which has a sink for each output, those over links, and a
 -- simulated run, which reads nothing
 abbrev pub IsOverFiles : CommandLine → Type 0
 IsOverFiles (Replay c) = Unit {0}
 IsOverFiles (Show c) = Unit {0}
 IsOverFiles (Count c) = Unit {0}
+IsOverFiles (Report c) = Unit {0}
 IsOverFiles (Pack c) = Unit {0}
 IsOverFiles (Split c) = ⊥
 IsOverFiles (Send c) = ⊥
 IsOverFiles (Recv c) = ⊥
+IsOverFiles (Fan c) = ⊥
 IsOverFiles (Gate c) = ⊥
 IsOverFiles (Drill c) = ⊥
 
@@ -93,11 +105,13 @@ abbrev pub Works : (SealerState → Type 0) → CommandLine → Passage → Stat
 Works IsKnown (Replay c) p status = Replays c p status
 Works IsKnown (Show c) p status = Shows c p status
 Works IsKnown (Count c) p status = Counts c p status
+Works IsKnown (Report c) p status = Reports c p status
 Works IsKnown (Pack c) p status =
     ((status ≡ statuses.EntropyFault) × (p.left ≡ p.had) × (p.holds ≡ p.held))
     ⊎ ((sealer : Option SealerState) × IsFreshFor c.session sealer × IfSome sealer IsKnown × PacksAs c sealer p status)
 Works IsKnown (Split c) p status = ⊥
 Works IsKnown (Send c) p status = ⊥
 Works IsKnown (Recv c) p status = ⊥
+Works IsKnown (Fan c) p status = ⊥
 Works IsKnown (Gate c) p status = ⊥
 Works IsKnown (Drill c) p status = ⊥

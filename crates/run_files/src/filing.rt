@@ -80,10 +80,11 @@ fn source_name<'a>(line: &Line<'a>) -> &'a str
         Line::Replay(line) => line.capture,
         Line::Show(line) => line.capture,
         Line::Count(line) => line.capture,
+        Line::Report(line) => line.capture,
         Line::Pack(line) => line.source,
         Line::Split(line) => line.capture,
         Line::Send(line) => line.source,
-        Line::Recv(_) | Line::Gate(_) | Line::Drill(_) => "",
+        Line::Recv(_) | Line::Fan(_) | Line::Gate(_) | Line::Drill(_) => "",
     }
 }
 
@@ -95,8 +96,13 @@ fn sink_name<'a>(line: &Line<'a>) -> &'a str
     match line {
         Line::Replay(line) => line.out,
         Line::Show(_) | Line::Count(_) => "-",
+        Line::Report(line) => line.out,
         Line::Pack(line) => line.capture,
-        Line::Split(_) | Line::Send(_) | Line::Recv(_) | Line::Gate(_) | Line::Drill(_) =>
-            unreachable!(),
+        Line::Split(_)
+        | Line::Send(_)
+        | Line::Recv(_)
+        | Line::Fan(_)
+        | Line::Gate(_)
+        | Line::Drill(_) => unreachable!(),
     }
 }

@@ -17,6 +17,7 @@ ghost use Rattle.run_parts.specs.Sealing.{IsFreshFor, KeepsObjects, DrawnFirst, 
 ghost use Rattle.run_files.specs.Untouched.{IsShowing};
 ghost use Rattle.run_files.specs.Inside.Answers.{IsOwn, IsUnbegun};
 
+use crate::reporting::report_line;
 use capture_file::{Reader, Writer};
 use capture_walk::{PortReader, Records};
 use outside_host::Host;
@@ -346,6 +347,7 @@ pub fn work<H: Host>(
         Line::Replay(line) => replay_line(alloc, line, source, sink),
         Line::Show(line) => show_line(alloc, line, source, sink),
         Line::Count(line) => count_line(alloc, line, source, sink),
+        Line::Report(line) => report_line(alloc, line, source, sink),
         Line::Pack(line) => match sealer_for(host, &line.session) {
             Ok(sealer) => pack_line(line, sealer, source, sink),
             Err(status) => Worked {
@@ -354,7 +356,11 @@ pub fn work<H: Host>(
                 status,
             },
         },
-        Line::Split(_) | Line::Send(_) | Line::Recv(_) | Line::Gate(_) | Line::Drill(_) =>
-            unreachable!(),
+        Line::Split(_)
+        | Line::Send(_)
+        | Line::Recv(_)
+        | Line::Fan(_)
+        | Line::Gate(_)
+        | Line::Drill(_) => unreachable!(),
     }
 }

@@ -2,7 +2,8 @@
 use Rattle.std.specs.Prelude.{◌≡◌, ◌≤◌, ◌||◌, ℕ, Bool, false, is_some}
 use Rattle.outside_host.specs.Shelf.{Shelf}
 use Rattle.outside_host.specs.declared.host.Place.{Place}
-use Rattle.rist_words.specs.CommandLine.{CommandLine, Replay, Show, Count, Pack, Split, Send, Recv, Gate, Drill}
+use Rattle.rist_words.specs.CommandLine.{CommandLine, Replay, Show, Count, Report, Pack, Split, Send, Recv, Fan, Gate}
+use Rattle.rist_words.specs.CommandLine.{Drill}
 use Rattle.rist_words.specs.CommandLine.{GateCommand}
 use Rattle.run_parts.specs.Places.{CameBack, IsAsItWas}
 
@@ -15,10 +16,12 @@ abbrev pub draws_words : CommandLine → Bool
 draws_words (Replay c) = false
 draws_words (Show c) = false
 draws_words (Count c) = false
+draws_words (Report c) = false
 draws_words (Pack c) = is_some c.session.pass
 draws_words (Split c) = false
 draws_words (Send c) = is_some c.session.pass
 draws_words (Recv c) = is_some c.session.pass
+draws_words (Fan c) = is_some c.session.pass
 draws_words (Gate c) = gate_draws c
 draws_words (Drill c) = false
 

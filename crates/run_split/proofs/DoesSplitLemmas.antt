@@ -100,13 +100,13 @@ module _ {I O E L C : Type 0} (told : Bool) (tells : Tells I O E) (c : SplitComm
       undrawn f = not_as_it_stood (old.entropies 0) (new.entropies 0) f.words f.drawn f.took f.gave ((around tells_it).entropies 0)
 
       unfailed : NoneFailed tells old new (Replay (replay_at c 0))
-      unfailed = record { reads = none.reads; writes = λ sink filled took gave. none.writes 0 sink filled range.some took gave; words = undrawn }
+      unfailed = record { reads = none.reads; writes = λ sink filled took gave. none.writes 0 sink filled range.outs.some took gave; words = undrawn }
 
       by_answer : {ended : Status} → ((status ≡ ended) × AreAsReplayed tells old new c status) ⊎ ((status ≡ statuses.WriteFault) × SomeIsCutOff tells old new c ended)
           → (status ≡ statuses.Done) ⊎ (status ≡ statuses.Memory)
       by_answer (inl each) =
           ran_completes tells old new (Replay (replay_at c 0)) status (λ e. unopened (subst (λ s. HasOpenCause (fault_of s) were are) e opened))
-          (λ not_open not_memory. (each.1 0 range.some).ran) source b here is_told (subst (λ f. IsWholeFile f b) (form_at c 0) whole) unfailed
+          (λ not_open not_memory. (each.1 0 range.outs.some).ran) source b here is_told (subst (λ f. IsWholeFile f b) (form_at c 0) whole) unfailed
       by_answer (inr cut) =
           let x = cut.1.cut in
           absurd (none.writes cut.1.output x.sink x.filled cut.1.among x.took_sink x.gave_sink x.rose)

@@ -56,7 +56,7 @@ module _ {I O E L C : Type 0} (c : SplitCommand) (old new : Shelf I O E L C) (so
   gave_source = ap (λ s. s.sources c.capture) h.backs_alone ∙ h.back.now (ap (λ s. s.sources c.capture) h.outs_alone ∙ h.out.now)
 
   named : (v : ℕ) → v < length c.ports → v < length c.names
-  named v less = subst (λ n. v < n) (sym range.count) less
+  named v less = subst (λ n. v < n) (sym range.outs.count) less
 
   -- the sink of an output, before and after
   was_at : (v : ℕ) → v < length c.ports → (sink : O) × (slice_get were v ≡ Some sink)
@@ -132,7 +132,7 @@ module _ {I O E L C : Type 0} (c : SplitCommand) (old new : Shelf I O E L C) (so
     }
 
     at_port : {X : Type 0} (xs : List X) (v : ℕ) (x : X) → slice_get xs v ≡ Some x → length xs ≡ length c.names → v < length c.ports
-    at_port xs v x at count = subst (λ n. v < n) (count ∙ range.count) (slice_get_within xs v x at)
+    at_port xs v x at count = subst (λ n. v < n) (count ∙ range.outs.count) (slice_get_within xs v x at)
 
     output : (v : ℕ) (sink filled : O) → v < length c.ports → slice_get were v ≡ Some sink → slice_get are v ≡ Some filled
         → LeavesWhole (form_of c.session c.pcap) (replay_at c v) (passed (tells.remaining source) (tells.remaining spent) (tells.contents sink) (tells.contents filled))
@@ -203,7 +203,7 @@ module _ {I O E L C : Type 0} (c : SplitCommand) (old new : Shelf I O E L C) (so
     after_source = λ same. absurd (not_as_it_stood (old.sources c.capture) (new.sources c.capture) source spent h.out.was gave_source same);
     after_another = λ i j default less inside same.
         let low : i < length c.names = omega (arith, less, inside) in
-        let at : i < length c.ports = subst (λ n. i < n) range.count low in
+        let at : i < length c.ports = subst (λ n. i < n) range.outs.count low in
         let sink = was_at i at in
         let filled = is_at i at in
         let name = get_or_default c.names i default [] low in

@@ -33,7 +33,7 @@ use Rattle.run_parts.specs.declared.status.Status.TheVariants as statuses
 
 -- the ports of a line are ports of sessions in one tunnel
 pub are_ports : (c : SplitCommand) → IsInSplit c → ArePorts c.ports
-are_ports c range = record { some = range.some; few = range.few; even = range.even; high = range.high; different = range.different }
+are_ports c range = record { some = range.outs.some; few = range.outs.few; even = range.outs.even; high = range.outs.high; different = range.outs.different }
 
 records_end : (end : Result Unit WalkBad) → (end ≡ Err walks.WriteFault → ⊥) → (end ≡ Err walks.Memory → ⊥) → IsRecordsEnd (walk_status end)
 records_end (Ok x) unfailed unrefused = tt
