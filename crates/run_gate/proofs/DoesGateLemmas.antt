@@ -3,6 +3,8 @@ use Rattle.std.proofs.Common.{◌≡◌, ℕ, Bool, refl, subst, true, false, sy
 use mathlib.Core.Logic.{inl, inr}
 use Rattle.outside_io.specs.Causes.{HasOpenCause}
 use Rattle.std.specs.Prelude.{IsTrue, Err}
+use Rattle.outside_host.specs.Links.{AreFirstOf}
+use Rattle.outside_host.proofs.LinkOpeningLemmas.{none_first}
 use Rattle.outside_host.specs.Shelf.{HasHostCause, Shelf}
 use Rattle.outside_host.specs.declared.host.HostBad.{HostBad}
 use Rattle.outside_host.specs.declared.host.HostBad.TheVariants as hosts
@@ -29,15 +31,17 @@ pub does_gate : {I O E L C : Type 0} (told : Bool) (tells : Tells I O E) (live :
     → (IsUnused told old → CanRefuse status → Ungated old new)
     → (IsUnused told old → KeepsAroundGate old new c)
     → (IsUnused told old → (CanRefuse status → ⊥) → new.opened_links ≡ links_gated c)
+    → (IsUnused told old → AreFirstOf new.opened_links (links_gated c))
     → (IsUnused told old → status ≡ statuses.EntropyFault → FailedAt tells old new)
     → DoesGate told tells live c were are old new status
-does_gate told tells live c were are old new status ends cause gated ungated around links random = record {
+does_gate told tells live c were are old new status ends cause gated ungated around links tried random = record {
   ends = ends;
   gated = gated;
   ungated = ungated;
   reached = λ unused done. gated_reached _ _ old new c status done (gated unused (done_ran status done));
   around = around;
   links_opened = links;
+  links_tried = tried;
   random = random;
   complete = λ unused opened.
       gated_completes _ _ old new c status
@@ -66,6 +70,7 @@ gates_nothing told tells live c faults old = record {
     words = record { others = λ place other. refl; first = inl refl; undrawn = λ none. refl };
   };
   links_opened = λ unused ran. absurd (ran refuses);
+  links_tried = λ unused. none_first old.opened_links _ unused.links;
   random = λ unused failed. absurd (cc (failed));
   complete = λ unused opened none stays behind. inr (inr (inl refl));
 }
@@ -86,6 +91,7 @@ does_after false tells live c were between are old mid new status same kept does
   reached = λ unused done. absurd (no_told unused.told);
   around = λ unused. absurd (no_told unused.told);
   links_opened = λ unused ran. absurd (no_told unused.told);
+  links_tried = λ unused. absurd (no_told unused.told);
   random = λ unused failed. absurd (no_told unused.told);
   complete = λ unused opened. absurd (no_told unused.told);
 }
@@ -105,6 +111,7 @@ refuses_still told tells live c were are old hosts.Failed cause =
       reached = λ unused done. absurd (cc (done));
       around = d.around;
       links_opened = λ unused ran. absurd (ran (refused_as hosts.Failed));
+      links_tried = λ unused. none_first old.opened_links _ unused.links;
       random = λ unused failed. absurd (cc (failed));
       complete = λ unused opened. absurd (opened cause);
     }
@@ -116,6 +123,7 @@ refuses_still told tells live c were are old hosts.NoMemory cause =
       reached = d.reached;
       around = d.around;
       links_opened = d.links_opened;
+      links_tried = d.links_tried;
       random = d.random;
       complete = λ unused opened none stays behind. inr (inr (inl refl));
     }
@@ -131,6 +139,7 @@ refuses_with false tells live c were are old new bad same cause = record {
   reached = λ unused done. absurd (no_told unused.told);
   around = λ unused. absurd (no_told unused.told);
   links_opened = λ unused ran. absurd (no_told unused.told);
+  links_tried = λ unused. absurd (no_told unused.told);
   random = λ unused failed. absurd (no_told unused.told);
   complete = λ unused opened. absurd (no_told unused.told);
 }

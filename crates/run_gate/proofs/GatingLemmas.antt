@@ -1,5 +1,5 @@
 -- What a gateway leaves, part by part, and how it ends where nothing fails but links.
-use Rattle.std.proofs.Common.{◌≡◌, ◌∙◌, ◌⊎◌, ◌<◌, ◌≤◌, ◌+◌, ℕ, List, length, map, take, drop, Option, None, Some}
+use Rattle.std.proofs.Common.{◌≡◌, ◌∙◌, ◌⊎◌, ◌<◌, ◌≤◌, ◌+◌, ◌++◌, ℕ, List, length, map, take, drop, Option, None, Some}
 use Rattle.std.proofs.Common.{IfSome, [], true, refl, sym, ap, subst, slice_get, slice_index_or, get_or-drop}
 use Rattle.std.proofs.Common.{get_or-take, length-drop, length-take-le, arith}
 use Rattle.std.proofs.lemmas.List.{length-map, get_or-map}
@@ -9,8 +9,11 @@ use Rattle.outside_io.specs.Causes.{Rose}
 use Rattle.outside_host.specs.Shelf.{Shelf, ChangesLinks, ChangesOpening}
 use Rattle.outside_host.specs.declared.host.Place.{Place}
 use Rattle.outside_host.specs.declared.host.Place.TheVariants.{Here, Back}
-use Rattle.outside_net.specs.declared.link_spec.Role.TheVariants.{Forwards}
-use Rattle.outside_host.specs.Links.{AreAsTheyWere, KnowStatedFrom}
+use Rattle.outside_net.specs.declared.link_spec.LinkSpec.{LinkSpec}
+use Rattle.outside_net.specs.declared.link_spec.Role.TheVariants.{Forwards, Receives}
+use Rattle.outside_host.specs.declared.host.Opened.{Opened}
+use Rattle.link_channels.specs.declared.profile.Profile.{Profile}
+use Rattle.outside_host.specs.Links.{AreAsTheyWere, AreFirstOf, KnowStatedFrom}
 use Rattle.psk_seal.specs.Sealer.{SealerState}
 use Rattle.rist_wire.specs.declared.session.Session.{Session}
 use Rattle.outside_net.specs.Links.{LinkTells}
@@ -58,6 +61,22 @@ use Rattle.run_links.proofs.WordLemmas.{words_between}
 use Rattle.run_parts.proofs.RefusalLemmas.{is_refused}
 use Rattle.run_parts.proofs.PeerLemmas.{stated_known}
 use Rattle.run_gate.proofs.TakenLemmas.{took_behind}
+
+-- links that are received on, and behind them links that are sent on
+abbrev pub links_both : Profile → List LinkSpec → Profile → List LinkSpec → List Opened
+links_both incoming inputs onward outputs =
+    map (λ spec. record { spec = spec; role = Receives; profile = incoming }) inputs ++ map (λ spec. record { spec = spec; role = Forwards; profile = onward }) outputs
+
+-- links of slices are those of the lists that these are of
+pub both_same : (incoming : Profile) (ins inputs : List LinkSpec) (onward : Profile) (outs outputs : List LinkSpec) → ins ≡ inputs → outs ≡ outputs
+    → links_both incoming ins onward outs ≡ links_both incoming inputs onward outputs
+both_same incoming ins inputs onward outs outputs first second = ap (λ l. links_both incoming l onward outs) first ∙ ap (λ l. links_both incoming inputs onward l) second
+
+-- likewise those that were tried
+pub tried_on : (opened : List Opened) (incoming : Profile) (ins inputs : List LinkSpec) (onward : Profile) (outs outputs : List LinkSpec) → ins ≡ inputs → outs ≡ outputs
+    → AreFirstOf opened (links_both incoming ins onward outs) → AreFirstOf opened (links_both incoming inputs onward outputs)
+tried_on opened incoming ins inputs onward outs outputs first second front =
+    subst (λ l. AreFirstOf opened (links_both incoming inputs onward l)) second (subst (λ l. AreFirstOf opened (links_both incoming l onward outs)) first front)
 
 -- what is made for a receiving end and a sender with these settings
 abbrev pub made_setup : ReceiveSetup → SenderSettings → Session → Option SealerState → GateSetup

@@ -1,6 +1,7 @@
 -- What a gateway leaves of its host, and what it answers.
 use Rattle.std.specs.Prelude.{◌≡◌, ℕ, Bool}
 use Rattle.outside_io.specs.Causes.{Rose}
+use Rattle.outside_host.specs.Links.{AreFirstOf}
 use Rattle.outside_host.specs.Shelf.{Shelf}
 use Rattle.rist_words.specs.CommandLine.{GateCommand}
 use Rattle.run_parts.specs.Causes.{CanRefuse}
@@ -31,6 +32,8 @@ pub record DoesGate {I O E L C : Type 0} (told : Bool) (tells : Tells I O E) (li
   pub around : IsUnused told old → KeepsAroundGate old new c
   -- just the links of the line are opened, in its order
   pub links_opened : IsUnused told old → (CanRefuse status → ⊥) → new.opened_links ≡ links_gated c
+  -- and where nothing is begun, the first ones of these
+  pub links_tried : IsUnused told old → AreFirstOf new.opened_links (links_gated c)
   -- random words fail it only where those of the first place failed
   pub random : IsUnused told old → status ≡ statuses.EntropyFault → FailedAt tells old new
   -- where no call fails and one link of each end doesn't, it is done, unless pairs are spent or its kept steps have no

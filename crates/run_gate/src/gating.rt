@@ -2,7 +2,7 @@
 ghost use Rattle.std.specs.Prelude.{◌≡◌, ◌≢◌, ◌<◌, ◌+◌, IsTrue, IfOk, OnErr, length};
 ghost use Rattle.outside_io.specs.Causes.{HasOpenCause};
 ghost use Rattle.outside_host.specs.Shelf.{ChangesReport};
-ghost use Rattle.outside_host.specs.Links.{AreAsTheyWere};
+ghost use Rattle.outside_host.specs.Links.{AreAsTheyWere, AreFirstOf};
 ghost use Rattle.rist_gateway.specs.Setup.{IsGateMade, gate_setup_of};
 ghost use Rattle.rist_words.specs.Shown.{shown_gate};
 ghost use Rattle.rist_words.specs.Ranges.{IsInGate};
@@ -319,6 +319,8 @@ fn gate_on_links<R: Threads + Wait + Sync, H: Host>(
         → KeepsAroundGate (H.shelf host.old) (H.shelf host.new) (shown_gate line.now) }
     ensures links_opened { IsUnused H.tells (H.shelf host.old) → (CanRefuse result → ⊥)
         → (H.shelf host.new).opened_links ≡ links_gated (shown_gate line.now) }
+    ensures links_tried { IsUnused H.tells (H.shelf host.old)
+        → AreFirstOf (H.shelf host.new).opened_links (links_gated (shown_gate line.now)) }
     ensures random { IsUnused H.tells (H.shelf host.old) → result ≡ Status.EntropyFault
         → FailedAt ⟦<H as Telling>⟧.objects (H.shelf host.old) (H.shelf host.new) }
     ensures line { result ≢ Status.Usage }

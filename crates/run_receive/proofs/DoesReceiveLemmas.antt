@@ -3,6 +3,8 @@ use Rattle.std.proofs.Common.{◌≡◌, ℕ, Bool, refl, subst, true, false, sy
 use mathlib.Core.Logic.{inl, inr}
 use Rattle.std.specs.Prelude.{IsTrue, Err}
 use Rattle.outside_io.specs.Causes.{HasOpenCause}
+use Rattle.outside_host.specs.Links.{AreFirstOf}
+use Rattle.outside_host.proofs.LinkOpeningLemmas.{none_first}
 use Rattle.outside_host.specs.Shelf.{HasHostCause, Shelf}
 use Rattle.outside_host.specs.declared.host.HostBad.{HostBad}
 use Rattle.outside_host.specs.declared.host.HostBad.TheVariants as hosts
@@ -33,10 +35,11 @@ pub does_receive : {I O E L C : Type 0} (told : Bool) (tells : Tells I O E) (liv
     → (IsUnused told old → CanRefuse status → Unreceived old new c)
     → (IsUnused told old → KeepsAroundSink old new c)
     → (IsUnused told old → (CanRefuse status → ⊥) → new.opened_links ≡ links_received c)
+    → (IsUnused told old → AreFirstOf new.opened_links (links_received c))
     → (IsTrue told → OpensLinksAfterSink old new c)
     → (IsUnused told old → status ≡ statuses.EntropyFault → FailedAt tells old new)
     → DoesReceive told tells live c were are old new status
-does_receive told tells live c were are old new status range ends cause received unreceived around links after random = record {
+does_receive told tells live c were are old new status range ends cause received unreceived around links tried after random = record {
   ends = ends;
   received = received;
   unreceived = unreceived;
@@ -44,6 +47,7 @@ does_receive told tells live c were are old new status range ends cause received
   cut = λ unused ran. received_part _ _ old new c status range.receiver.some_delay (received unused ran);
   around = around;
   links_opened = links;
+  links_tried = tried;
   links_after = after;
   random = random;
   spent = λ unused is. received_spent _ _ old new c status (λ ran. received unused ran) is;
@@ -83,6 +87,7 @@ receives_nothing told tells live c faults old = record {
   cut = λ unused ran. absurd (ran refuses);
   around = λ unused. around_nothing old c;
   links_opened = λ unused ran. absurd (ran refuses);
+  links_tried = λ unused. none_first old.opened_links _ unused.links;
   links_after = λ told same. refl;
   random = λ unused failed. absurd (cc (failed));
   spent = λ unused is. absurd (cc (is));
@@ -110,6 +115,7 @@ does_after false tells live c were between are old mid new status same kept does
   cut = λ unused ran. absurd (no_told unused.told);
   around = λ unused. absurd (no_told unused.told);
   links_opened = λ unused ran. absurd (no_told unused.told);
+  links_tried = λ unused. absurd (no_told unused.told);
   links_after = λ told. absurd (no_told told);
   random = λ unused failed. absurd (no_told unused.told);
   spent = λ unused is. absurd (no_told unused.told);
@@ -131,6 +137,7 @@ refuses_still told tells live c were are old hosts.Failed cause = record {
   cut = λ unused ran. absurd (ran (refused_as hosts.Failed));
   around = λ unused. around_nothing old c;
   links_opened = λ unused ran. absurd (ran (refused_as hosts.Failed));
+  links_tried = λ unused. none_first old.opened_links _ unused.links;
   links_after = λ told same. refl;
   random = λ unused failed. absurd (cc (failed));
   spent = λ unused is. absurd (cc (is));
@@ -144,6 +151,7 @@ refuses_still told tells live c were are old hosts.NoMemory cause = record {
   cut = λ unused ran. absurd (ran refuses);
   around = λ unused. around_nothing old c;
   links_opened = λ unused ran. absurd (ran refuses);
+  links_tried = λ unused. none_first old.opened_links _ unused.links;
   links_after = λ told same. refl;
   random = λ unused failed. absurd (cc (failed));
   spent = λ unused is. absurd (cc (is));
@@ -162,6 +170,7 @@ refuses_with false tells live c were are old new bad same cause = record {
   cut = λ unused ran. absurd (no_told unused.told);
   around = λ unused. absurd (no_told unused.told);
   links_opened = λ unused ran. absurd (no_told unused.told);
+  links_tried = λ unused. absurd (no_told unused.told);
   links_after = λ told. absurd (no_told told);
   random = λ unused failed. absurd (no_told unused.told);
   spent = λ unused is. absurd (no_told unused.told);

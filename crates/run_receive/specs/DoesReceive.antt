@@ -1,6 +1,7 @@
 -- What a receiving leaves of its host, and what it answers.
 use Rattle.std.specs.Prelude.{◌≡◌, ℕ, Bool, IsTrue, true, is_some}
 use Rattle.outside_io.specs.Causes.{Rose}
+use Rattle.outside_host.specs.Links.{AreFirstOf}
 use Rattle.outside_host.specs.Shelf.{Shelf}
 use Rattle.rist_words.specs.CommandLine.{RecvCommand}
 use Rattle.run_parts.specs.Causes.{CanRefuse}
@@ -34,6 +35,8 @@ pub record DoesReceive {I O E L C : Type 0} (told : Bool) (tells : Tells I O E) 
   pub around : IsUnused told old → KeepsAroundSink old new c
   -- just the links of the line are opened, in its order, and none before the sink could be
   pub links_opened : IsUnused told old → (CanRefuse status → ⊥) → new.opened_links ≡ links_received c
+  -- and where nothing is begun, the first ones of these
+  pub links_tried : IsUnused told old → AreFirstOf new.opened_links (links_received c)
   pub links_after : IsTrue told → OpensLinksAfterSink old new c
   -- random words fail it only where the first of them failed
   pub random : IsUnused told old → status ≡ statuses.EntropyFault → FailedAt tells old new

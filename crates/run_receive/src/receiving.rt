@@ -3,7 +3,7 @@ ghost use Rattle.std.specs.Prelude.{◌≡◌, ◌≢◌, ◌<◌, IsTrue, IfOk,
 ghost use Rattle.outside_io.specs.Causes.{HasOpenCause};
 ghost use Rattle.outside_io.specs.Told.{IsEmpty};
 ghost use Rattle.outside_host.specs.Shelf.{ChangesReport};
-ghost use Rattle.outside_host.specs.Links.{AreAsTheyWere};
+ghost use Rattle.outside_host.specs.Links.{AreAsTheyWere, AreFirstOf};
 ghost use Rattle.rist_words.specs.Shown.{shown_recv};
 ghost use Rattle.rist_words.specs.Ranges.{IsInRecv};
 ghost use Rattle.run_parts.specs.Causes.{CanRefuse, fault_of};
@@ -328,6 +328,8 @@ fn receive_on_links<R: Threads + Wait + Sync, H: Host>(
         → KeepsWords (H.shelf host.old) (H.shelf host.new) (is_some (shown_recv line.now).session.pass) }
     ensures links_opened { IsUnused H.tells (H.shelf host.old) → (CanRefuse result.1 → ⊥)
         → (H.shelf host.new).opened_links ≡ links_received (shown_recv line.now) }
+    ensures links_tried { IsUnused H.tells (H.shelf host.old)
+        → AreFirstOf (H.shelf host.new).opened_links (links_received (shown_recv line.now)) }
     ensures links { IsUnused H.tells (H.shelf host.old) → CanRefuse result.1
         → AreAsTheyWere (H.shelf host.old).links (H.shelf host.new).links }
     ensures clocks { IsUnused H.tells (H.shelf host.old) → CanRefuse result.1
@@ -371,6 +373,8 @@ fn receive_into_sink<R: Threads + Wait + Sync, H: Host>(
         → KeepsAroundSink (H.shelf host.old) (H.shelf host.new) (shown_recv line.now) }
     ensures links_opened { IsUnused H.tells (H.shelf host.old) → (CanRefuse result → ⊥)
         → (H.shelf host.new).opened_links ≡ links_received (shown_recv line.now) }
+    ensures links_tried { IsUnused H.tells (H.shelf host.old)
+        → AreFirstOf (H.shelf host.new).opened_links (links_received (shown_recv line.now)) }
     ensures order { IsTrue H.tells
         → OpensLinksAfterSink (H.shelf host.old) (H.shelf host.new) (shown_recv line.now) }
     ensures random { IsUnused H.tells (H.shelf host.old) → result ≡ Status.EntropyFault

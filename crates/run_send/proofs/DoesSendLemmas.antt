@@ -3,6 +3,8 @@ use Rattle.std.proofs.Common.{◌≡◌, ℕ, Bool, refl, subst, true, false, sy
 use mathlib.Core.Logic.{inl, inr}
 use Rattle.std.specs.Prelude.{IsTrue, Err}
 use Rattle.outside_io.specs.Causes.{HasOpenCause}
+use Rattle.outside_host.specs.Links.{AreFirstOf}
+use Rattle.outside_host.proofs.LinkOpeningLemmas.{none_first}
 use Rattle.outside_host.specs.Shelf.{HasHostCause, Shelf}
 use Rattle.outside_host.specs.declared.host.HostBad.{HostBad}
 use Rattle.outside_host.specs.declared.host.HostBad.TheVariants as hosts
@@ -31,16 +33,18 @@ pub does_send : {I O E L C : Type 0} (told : Bool) (tells : Tells I O E) (live :
     → (IsUnused told old → CanRefuse status → Unsent old new c)
     → (IsUnused told old → KeepsAround old new c)
     → (IsUnused told old → (CanRefuse status → ⊥) → new.opened_links ≡ links_opened c)
+    → (IsUnused told old → AreFirstOf new.opened_links (links_opened c))
     → (IsTrue told → OpensLinksAfter old new c)
     → (IsUnused told old → status ≡ statuses.EntropyFault → FailedAt tells old new)
     → DoesSend told tells live c were are old new status
-does_send told tells live c were are old new status range ends cause sent unsent around links after random = record {
+does_send told tells live c were are old new status range ends cause sent unsent around links tried after random = record {
   ends = ends;
   sent = sent;
   unsent = unsent;
   pieces = λ unused went. in_pieces _ _ old new c status (sent unused went);
   around = around;
   links_opened = links;
+  links_tried = tried;
   links_after = after;
   random = random;
   complete = λ unused opened.
@@ -73,6 +77,7 @@ sends_nothing told tells live c faults old = record {
   pieces = λ unused ran. absurd (ran refuses);
   around = λ unused. keeps_around old c;
   links_opened = λ unused ran. absurd (ran refuses);
+  links_tried = λ unused. none_first old.opened_links _ unused.links;
   links_after = λ told same. refl;
   random = λ unused failed. absurd (cc (failed));
   complete = λ unused opened source b here told input none up. inr (inr (inr refl));
@@ -94,6 +99,7 @@ does_after false tells live c were between are old mid new status same kept does
   pieces = λ unused ran. absurd (no_told unused.told);
   around = λ unused. absurd (no_told unused.told);
   links_opened = λ unused ran. absurd (no_told unused.told);
+  links_tried = λ unused. absurd (no_told unused.told);
   links_after = λ told. absurd (no_told told);
   random = λ unused failed. absurd (no_told unused.told);
   complete = λ unused opened. absurd (no_told unused.told);
@@ -113,6 +119,7 @@ refuses_still told tells live c were are old hosts.Failed cause = record {
   pieces = λ unused ran. absurd (ran (refused_as hosts.Failed));
   around = λ unused. keeps_around old c;
   links_opened = λ unused ran. absurd (ran (refused_as hosts.Failed));
+  links_tried = λ unused. none_first old.opened_links _ unused.links;
   links_after = λ told same. refl;
   random = λ unused failed. absurd (cc (failed));
   complete = λ unused opened. absurd (opened cause);
@@ -124,6 +131,7 @@ refuses_still told tells live c were are old hosts.NoMemory cause = record {
   pieces = λ unused ran. absurd (ran refuses);
   around = λ unused. keeps_around old c;
   links_opened = λ unused ran. absurd (ran refuses);
+  links_tried = λ unused. none_first old.opened_links _ unused.links;
   links_after = λ told same. refl;
   random = λ unused failed. absurd (cc (failed));
   complete = λ unused opened source b here told input none up. inr (inr (inr refl));
@@ -140,6 +148,7 @@ refuses_with false tells live c were are old new bad same cause = record {
   pieces = λ unused ran. absurd (no_told unused.told);
   around = λ unused. absurd (no_told unused.told);
   links_opened = λ unused ran. absurd (no_told unused.told);
+  links_tried = λ unused. absurd (no_told unused.told);
   links_after = λ told. absurd (no_told told);
   random = λ unused failed. absurd (no_told unused.told);
   complete = λ unused opened. absurd (no_told unused.told);

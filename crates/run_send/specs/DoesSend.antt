@@ -1,6 +1,7 @@
 -- What a sending leaves of its host, and what it answers.
 use Rattle.std.specs.Prelude.{◌≡◌, ℕ, Bool, IsTrue}
 use Rattle.outside_io.specs.Causes.{Rose}
+use Rattle.outside_host.specs.Links.{AreFirstOf}
 use Rattle.outside_host.specs.Shelf.{Shelf}
 use Rattle.rist_words.specs.CommandLine.{SendCommand}
 use Rattle.run_parts.specs.Causes.{CanRefuse}
@@ -28,6 +29,8 @@ pub record DoesSend {I O E L C : Type 0} (told : Bool) (tells : Tells I O E) (li
   pub pieces : IsUnused told old → (CanRefuse status → ⊥) → SentInPieces tells live old new c status
   -- it touches only what its line speaks of
   pub around : IsUnused told old → KeepsAround old new c
+  -- only the first ones of its links are opened, in its order
+  pub links_tried : IsUnused told old → AreFirstOf new.opened_links (links_opened c)
   -- just the links of the line are opened, in its order, and none before the source could be
   pub links_opened : IsUnused told old → (CanRefuse status → ⊥) → new.opened_links ≡ links_opened c
   pub links_after : IsTrue told → OpensLinksAfter old new c

@@ -1,7 +1,7 @@
 //! A sending, from its objects to its status.
 ghost use Rattle.std.specs.Prelude.{◌*◌, ◌≡◌, ◌≢◌, IsTrue, length, map, is_some};
 ghost use Rattle.outside_io.specs.Causes.{HasOpenCause, HasReadCause};
-ghost use Rattle.outside_host.specs.Links.{AreAsTheyWere};
+ghost use Rattle.outside_host.specs.Links.{AreAsTheyWere, AreFirstOf};
 ghost use Rattle.rist_words.specs.Shown.{shown_send};
 ghost use Rattle.rist_words.specs.Ranges.{IsInSend};
 ghost use Rattle.run_parts.specs.Causes.{CanRefuse, fault_of};
@@ -17,8 +17,8 @@ ghost use Rattle.run_send.specs.DoesSend.{DoesSend};
 ghost use Rattle.run_send.specs.Ends.{IsSendEnd};
 
 use bond_links::Bond;
+use live_source::LiveSource;
 use outside_host::{Host, back_links, open_links};
-use outside_io::Source;
 use outside_net::{Clock, Link, Role, TellingLink};
 use psk_seal::Sealer;
 use rist_send::{SendFault, SendSettings, send};
@@ -72,7 +72,7 @@ fn send_status(end: Result<(), SendFault>) -> Status
 }
 
 // Sends a source onto links.
-fn send_with<S: Source, L: Link, C: Clock>(
+fn send_with<S: LiveSource, L: Link, C: Clock>(
     alloc: Global,
     line: &SendLine<'_>,
     sealer: Option<Sealer>,
@@ -177,6 +177,8 @@ fn send_on_links<H: Host>(
         → KeepsLinksBut (length (shown_send line.now).links) (H.shelf host.old).links (H.shelf host.new).links }
     ensures links_opened { IsUnused H.tells (H.shelf host.old) → (CanRefuse result → ⊥)
         → (H.shelf host.new).opened_links ≡ links_opened (shown_send line.now) }
+    ensures links_tried { IsUnused H.tells (H.shelf host.old)
+        → AreFirstOf (H.shelf host.new).opened_links (links_opened (shown_send line.now)) }
     ensures times { IsUnused H.tells (H.shelf host.old)
         → KeepsTimes (H.shelf host.old) (H.shelf host.new) (is_some (shown_send line.now).session.pass) }
     ensures links { IsUnused H.tells (H.shelf host.old) → CanRefuse result
@@ -217,6 +219,8 @@ fn send_from_source<H: Host>(alloc: Global, host: &mut H, line: &SendLine<'_>) -
         → KeepsAround (H.shelf host.old) (H.shelf host.new) (shown_send line.now) }
     ensures links_opened { IsUnused H.tells (H.shelf host.old) → (CanRefuse result → ⊥)
         → (H.shelf host.new).opened_links ≡ links_opened (shown_send line.now) }
+    ensures links_tried { IsUnused H.tells (H.shelf host.old)
+        → AreFirstOf (H.shelf host.new).opened_links (links_opened (shown_send line.now)) }
     ensures order { IsTrue H.tells
         → OpensLinksAfter (H.shelf host.old) (H.shelf host.new) (shown_send line.now) }
     ensures random { IsUnused H.tells (H.shelf host.old) → result ≡ Status.EntropyFault

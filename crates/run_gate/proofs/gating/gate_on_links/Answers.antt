@@ -1,4 +1,6 @@
 -- Links come back as they were where nothing was begun, and else with what was done on them.
+use Rattle.run_gate.proofs.GatingLemmas.{both_same, tried_on}
+use Rattle.outside_host.proofs.LinkOpeningLemmas.{all_first}
 use Rattle.std.proofs.Common.{◌≡◌, ◌∙◌, ◌+◌, ap, List, length, subst, arith}
 use Rattle.outside_net.specs.declared.link_spec.Role.TheVariants.{Forwards}
 use Rattle.outside_host.specs.Links.{KnowStatedFrom}
@@ -49,3 +51,13 @@ returns-in-Err-clause-ungated g c unused refused = ungated_unopened _ _ (c.in-Er
 pub returns-in-Err-clause-around : goal.returns-in-Err-clause-around
 returns-in-Err-clause-around g c unused =
     around_unopened _ _ _ (c.in-Err.ensures.same unused.told) (links_stay _ _ _ (c.in-Err.ensures.err (unused.told, unused.links)))
+
+pub returns-clause-links_tried : goal.returns-clause-links_tried
+returns-clause-links_tried g c unused =
+    all_first _ _ (ap (λ s. s.opened_links) (c.back_links.ensures.same unused.told) ∙ (c.gate_by_clocks-status.ensures.others unused.told).opened
+    ∙ c.in-Ok.ensures.opened (unused.told, unused.links) ∙ both_same _ _ _ _ _ _ c.as_slice.ensures.value c.as_slice-2.ensures.value)
+
+pub returns-in-Err-clause-links_tried : goal.returns-in-Err-clause-links_tried
+returns-in-Err-clause-links_tried g c unused =
+    tried_on (g.H.Host.shelf c.open_both.new.host).opened_links c.args.line.now.incoming.profile _ _ c.args.line.now.session.profile _ _
+    c.as_slice.ensures.value c.as_slice-2.ensures.value (c.in-Err.ensures.tried (unused.told, unused.links))

@@ -6,4 +6,4 @@ pub returns-clause-does : goal.returns-clause-does
 returns-clause-does g c =
     let e = c.gate_on_links.ensures in
     does_gate _ _ _ _ _ _ (g.H.Host.shelf c.args.host.now) (g.H.Host.shelf c.gate_on_links.new.host) c.gate_on_links.result
-    e.ends e.opened e.gated e.ungated e.around e.links_opened e.random
+    e.ends e.opened e.gated e.ungated e.around e.links_opened e.links_tried e.random

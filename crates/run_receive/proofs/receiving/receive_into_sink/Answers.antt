@@ -1,4 +1,5 @@
 -- The sink comes back with what was received.
+use Rattle.outside_host.proofs.LinkOpeningLemmas.{first_still, none_first}
 use Rattle.std.proofs.Common.{◌∙◌, ap, sym, subst}
 use mathlib.Core.Logic.{inr}
 use Rattle.outside_host.specs.Links.{IsAsItWas}
@@ -33,3 +34,11 @@ returns-clause-unreceived g c unused refused =
           (subst (λ x. IsAsItWas ((g.H.Host.shelf c.sink.new.self).clocks place) (x place)) (sym (ap (λ s. s.clocks) f)) (c.receive_on_links-sink.ensures.clocks still refused place));
       report = ap (λ s. s.report) f ∙ (c.receive_on_links-sink.ensures.unreported unused.told refused ∙ ap (λ s. s.report) e);
     }
+
+pub returns-clause-links_tried : goal.returns-clause-links_tried
+returns-clause-links_tried g c unused =
+    first_still _ _ _ (ap (λ s. s.opened_links) (c.back_sink.ensures.same unused.told))
+    (c.receive_on_links-sink.ensures.links_tried (still_unused_behind _ _ _ (c.in-Ok.ensures.same unused.told) unused))
+
+pub returns-in-Err-clause-links_tried : goal.returns-in-Err-clause-links_tried
+returns-in-Err-clause-links_tried g c unused = none_first _ _ (ap (λ s. s.opened_links) (c.in-Err.ensures.same unused.told) ∙ unused.links)

@@ -1,5 +1,8 @@
 -- Links come back as they were where nothing was begun, and else with what was received on them.
-use Rattle.std.proofs.Common.{◌∙◌, ap, length}
+use Rattle.run_receive.proofs.ReceiveLemmas.{links_bound}
+use Rattle.outside_host.specs.Links.{AreFirstOf}
+use Rattle.outside_host.proofs.LinkOpeningLemmas.{all_first}
+use Rattle.std.proofs.Common.{◌∙◌, ap, length, subst}
 use Rattle.run_parts.proofs.HandedLemmas.{links_as_they_were, from_first}
 use Rattle.run_parts.proofs.FrameLemmas.{links_back}
 use Rattle.run_receive.proofs.ReceiveLemmas.{by_clocks_between}
@@ -29,3 +32,13 @@ returns-clause-received g c unused ran =
       did = by_clocks_between _ _ _ _ _ _ _ _ _ _ _ _ (ap (λ s. s.clocks) e) (ap (λ s. s.entropies) e) (ap (λ s. s.clocks) f) (ap (λ s. s.entropies) f) (ap (λ s. s.report) f)
           (c.receive_by_clocks-sink.ensures.received unused.told (ap (λ s. s.next_clock) e ∙ unused.clock) (ap (λ s. s.next_entropy) e ∙ unused.entropy) ran);
     }
+
+pub returns-clause-links_tried : goal.returns-clause-links_tried
+returns-clause-links_tried g c unused =
+    all_first _ _ (ap (λ s. s.opened_links) (c.back_links.ensures.same unused.told) ∙ (c.receive_by_clocks-sink.ensures.others unused.told).opened
+    ∙ c.in-Ok.ensures.opened (unused.told, unused.links) ∙ ap (λ l. links_bound c.args.line.now.session.profile l) c.as_slice.ensures.value)
+
+pub returns-in-Err-clause-links_tried : goal.returns-in-Err-clause-links_tried
+returns-in-Err-clause-links_tried g c unused =
+    subst (λ l. AreFirstOf (g.H.Host.shelf c.open_links.new.host).opened_links (links_bound c.args.line.now.session.profile l)) c.as_slice.ensures.value
+    (c.in-Err.ensures.tried (unused.told, unused.links))

@@ -1,4 +1,5 @@
 -- The source comes back with what its run left.
+use Rattle.outside_host.proofs.LinkOpeningLemmas.{first_still, none_first}
 use Rattle.std.proofs.Common.{◌∙◌, sym, ap, subst}
 use mathlib.Core.Logic.{inr}
 use Rattle.outside_host.specs.Links.{IsAsItWas as LinkIsAsItWas}
@@ -52,3 +53,11 @@ pub returns-clause-order : goal.returns-clause-order
 returns-clause-order g c told same =
     absurd (not_as_it_stood _ _ _ _ (c.in-Ok.ensures.ok told).was
     ((c.back_source.ensures.state told).now (ap (λ f. f c.args.line.now.source.now) (c.send_on_links-status.ensures.others told).sources ∙ (c.in-Ok.ensures.ok told).now)) same)
+
+pub returns-clause-links_tried : goal.returns-clause-links_tried
+returns-clause-links_tried g c unused =
+    first_still _ _ _ (ap (λ s. s.opened_links) (c.back_source.ensures.same unused.told))
+    (c.send_on_links-status.ensures.links_tried (still_unused _ _ _ (c.in-Ok.ensures.same unused.told) unused))
+
+pub returns-in-Err-clause-links_tried : goal.returns-in-Err-clause-links_tried
+returns-in-Err-clause-links_tried g c unused = none_first _ _ (ap (λ s. s.opened_links) (c.in-Err.ensures.same unused.told) ∙ unused.links)

@@ -1,5 +1,7 @@
 -- Links come back as they were where nothing was begun, and else with what was sent on them.
-use Rattle.std.proofs.Common.{◌∙◌, sym, ap, length}
+use Rattle.outside_host.specs.Links.{AreFirstOf}
+use Rattle.outside_host.proofs.LinkOpeningLemmas.{all_first}
+use Rattle.std.proofs.Common.{◌∙◌, sym, ap, length, subst}
 use Rattle.run_parts.proofs.HandedLemmas.{links_as_they_were}
 use Rattle.run_send.proofs.SendLemmas.{on_opened_links, put_back, put_front}
 use Rattle.run_parts.proofs.FrameLemmas.{links_back}
@@ -32,3 +34,13 @@ pub returns-clause-links_opened : goal.returns-clause-links_opened
 returns-clause-links_opened g c unused ran =
     ap (λ s. s.opened_links) (c.back_links.ensures.same unused.told) ∙ (c.send_by_clock-status.ensures.others unused.told).opened
     ∙ c.in-Ok.ensures.opened (unused.told, unused.links) ∙ ap (λ l. links_over c.args.line.now.session.profile l) c.as_slice.ensures.value
+
+pub returns-clause-links_tried : goal.returns-clause-links_tried
+returns-clause-links_tried g c unused =
+    all_first _ _ (ap (λ s. s.opened_links) (c.back_links.ensures.same unused.told) ∙ (c.send_by_clock-status.ensures.others unused.told).opened
+    ∙ c.in-Ok.ensures.opened (unused.told, unused.links) ∙ ap (λ l. links_over c.args.line.now.session.profile l) c.as_slice.ensures.value)
+
+pub returns-in-Err-clause-links_tried : goal.returns-in-Err-clause-links_tried
+returns-in-Err-clause-links_tried g c unused =
+    subst (λ l. AreFirstOf (g.H.Host.shelf c.open_links.new.host).opened_links (links_over c.args.line.now.session.profile l)) c.as_slice.ensures.value
+    (c.in-Err.ensures.tried (unused.told, unused.links))
