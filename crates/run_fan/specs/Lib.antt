@@ -1,0 +1,11 @@
+pub mod Sessions
+pub mod Sealing
+pub mod Counting
+pub mod Fanned
+pub mod Ends
+pub mod Frame
+pub mod Complete
+pub mod Brought
+pub mod Reached
+pub mod DoesFan
+pub mod Inside
