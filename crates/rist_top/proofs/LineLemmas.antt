@@ -1,7 +1,8 @@
 -- The words of a command line are one line at most.
 use Rattle.std.proofs.Common.{◌≡◌, ◌∙◌, Option, None, Some, ap, sym, subst}
-use Rattle.rist_words.specs.CommandLine.{CommandLine, Replay, Show, Count, Pack, Split, Send, Recv, Gate, Drill}
-use Rattle.rist_words.specs.CommandLine.{SendCommand, RecvCommand, GateCommand, SplitCommand, DrillCommand}
+use Rattle.rist_words.specs.CommandLine.{CommandLine, Replay, Show, Count, Report, Pack, Split, Send, Recv, Fan, Gate}
+use Rattle.rist_words.specs.CommandLine.{Drill}
+use Rattle.rist_words.specs.CommandLine.{SendCommand, RecvCommand, FanCommand, GateCommand, SplitCommand, DrillCommand}
 use Rattle.run_files.specs.Works.{IsOverFiles}
 use Rattle.rist_top.specs.Lines.{IsPlain, plain_line}
 
@@ -12,9 +13,12 @@ same_line x y e = cc
 pub is_line : (o : Option CommandLine) (c : CommandLine) → o ≡ Some c → o ≡ None → ⊥
 is_line o c is none = absurd (cc (is, none))
 
--- a receiving and a gateway are no line of a command that waits for nobody
+-- a receiving, of one flow or several, and a gateway are no line of a command that waits for nobody
 pub receiving_is_none : (o : Option CommandLine) (c : RecvCommand) → o ≡ Some (Recv c) → plain_line o ≡ None
 receiving_is_none o c is = ap plain_line is
+
+pub fan_is_none : (o : Option CommandLine) (c : FanCommand) → o ≡ Some (Fan c) → plain_line o ≡ None
+fan_is_none o c is = ap plain_line is
 
 pub gate_is_none : (o : Option CommandLine) (c : GateCommand) → o ≡ Some (Gate c) → plain_line o ≡ None
 gate_is_none o c is = ap plain_line is
@@ -24,10 +28,12 @@ pub no_files : (o : Option CommandLine) (c : CommandLine) → plain_line o ≡ N
 no_files o (Replay c) none is files = absurd (cc (none, is))
 no_files o (Show c) none is files = absurd (cc (none, is))
 no_files o (Count c) none is files = absurd (cc (none, is))
+no_files o (Report c) none is files = absurd (cc (none, is))
 no_files o (Pack c) none is files = absurd (cc (none, is))
 no_files o (Split c) none is files = files
 no_files o (Send c) none is files = files
 no_files o (Recv c) none is files = files
+no_files o (Fan c) none is files = files
 no_files o (Gate c) none is files = files
 no_files o (Drill c) none is files = files
 
@@ -38,6 +44,9 @@ no_sending o c none is = absurd (cc (none, is))
 pub no_receiving : (o : Option CommandLine) (l : CommandLine) (c : RecvCommand) → o ≡ Some l → IsPlain l → o ≡ Some (Recv c) → ⊥
 no_receiving o l c is plain e = subst IsPlain (same_line l (Recv c) (sym is ∙ e)) plain
 
+pub no_fan : (o : Option CommandLine) (l : CommandLine) (c : FanCommand) → o ≡ Some l → IsPlain l → o ≡ Some (Fan c) → ⊥
+no_fan o l c is plain e = subst IsPlain (same_line l (Fan c) (sym is ∙ e)) plain
+
 pub no_gate : (o : Option CommandLine) (l : CommandLine) (c : GateCommand) → o ≡ Some l → IsPlain l → o ≡ Some (Gate c) → ⊥
 no_gate o l c is plain e = subst IsPlain (same_line l (Gate c) (sym is ∙ e)) plain
 
@@ -45,11 +54,21 @@ no_gate o l c is plain e = subst IsPlain (same_line l (Gate c) (sym is ∙ e)) p
 pub no_both : (o : Option CommandLine) (c : RecvCommand) (d : GateCommand) → o ≡ Some (Recv c) → o ≡ Some (Gate d) → ⊥
 no_both o c d e f = absurd (cc (e, f))
 
+-- a receiving of several flows is neither
+pub no_fan_received : (o : Option CommandLine) (c : RecvCommand) (d : FanCommand) → o ≡ Some (Recv c) → o ≡ Some (Fan d) → ⊥
+no_fan_received o c d e f = absurd (cc (e, f))
+
+pub no_fan_gate : (o : Option CommandLine) (c : FanCommand) (d : GateCommand) → o ≡ Some (Fan c) → o ≡ Some (Gate d) → ⊥
+no_fan_gate o c d e f = absurd (cc (e, f))
+
 pub same_sending : (x y : SendCommand) → Send x ≡ Send y → x ≡ y
 same_sending x y e = cc
 
 pub same_receiving : (o : Option CommandLine) (c d : RecvCommand) → o ≡ Some (Recv c) → o ≡ Some (Recv d) → c ≡ d
 same_receiving o c d e f = cc (e, f)
+
+pub same_fan : (o : Option CommandLine) (c d : FanCommand) → o ≡ Some (Fan c) → o ≡ Some (Fan d) → c ≡ d
+same_fan o c d e f = cc (e, f)
 
 pub same_gate : (o : Option CommandLine) (c d : GateCommand) → o ≡ Some (Gate c) → o ≡ Some (Gate d) → c ≡ d
 same_gate o c d e f = cc (e, f)

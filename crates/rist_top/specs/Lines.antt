@@ -3,23 +3,27 @@ use Rattle.std.specs.Prelude.{◌≡◌, List, Option, Some, None, map, string_b
 use Rattle.std.specs.declared.string.String.{String}
 use Rattle.rist_help.specs.Asks.{ask_of}
 use Rattle.rist_help.specs.declared.Ask.{Ask}
-use Rattle.rist_words.specs.CommandLine.{CommandLine, Replay, Show, Count, Pack, Split, Send, Recv, Gate, Drill}
-use Rattle.rist_words.specs.CommandLine.{SplitCommand, SendCommand, RecvCommand, GateCommand, DrillCommand, line_of}
+use Rattle.rist_words.specs.CommandLine.{CommandLine, Replay, Show, Count, Report, Pack, Split, Send, Recv, Fan, Gate}
+use Rattle.rist_words.specs.CommandLine.{Drill}
+use Rattle.rist_words.specs.CommandLine.{SplitCommand, SendCommand, RecvCommand, FanCommand, GateCommand, DrillCommand}
+use Rattle.rist_words.specs.CommandLine.{line_of}
 use Rattle.run_files.specs.Works.{IsOverFiles}
 
 -- the words are this line
 abbrev pub IsLine : {A : Type 0} → List (String A) → CommandLine → Type 0
 IsLine words c = line_of (map string_bytes words) ≡ Some c
 
--- a command that waits for nobody: no receiving and no gateway does
+-- a command that waits for nobody: no receiving, of one flow or several, and no gateway does
 abbrev pub IsPlain : CommandLine → Type 0
 IsPlain (Replay c) = Unit {0}
 IsPlain (Show c) = Unit {0}
 IsPlain (Count c) = Unit {0}
+IsPlain (Report c) = Unit {0}
 IsPlain (Pack c) = Unit {0}
 IsPlain (Split c) = Unit {0}
 IsPlain (Send c) = Unit {0}
 IsPlain (Recv c) = ⊥
+IsPlain (Fan c) = ⊥
 IsPlain (Gate c) = ⊥
 IsPlain (Drill c) = Unit {0}
 
@@ -29,10 +33,12 @@ plain_line None = None
 plain_line (Some (Replay c)) = Some (Replay c)
 plain_line (Some (Show c)) = Some (Show c)
 plain_line (Some (Count c)) = Some (Count c)
+plain_line (Some (Report c)) = Some (Report c)
 plain_line (Some (Pack c)) = Some (Pack c)
 plain_line (Some (Split c)) = Some (Split c)
 plain_line (Some (Send c)) = Some (Send c)
 plain_line (Some (Recv c)) = None
+plain_line (Some (Fan c)) = None
 plain_line (Some (Gate c)) = None
 plain_line (Some (Drill c)) = Some (Drill c)
 
@@ -67,6 +73,10 @@ IfSend words P = (c : SendCommand) → IsLine words (Send c) → P c
 -- P holds of the receiving that they are, if they are one
 abbrev pub IfReceiving : {A : Type 0} → List (String A) → (RecvCommand → Type 0) → Type 0
 IfReceiving words P = (c : RecvCommand) → IsLine words (Recv c) → P c
+
+-- P holds of the receiving of several flows that they are, if they are one
+abbrev pub IfFan : {A : Type 0} → List (String A) → (FanCommand → Type 0) → Type 0
+IfFan words P = (c : FanCommand) → IsLine words (Fan c) → P c
 
 -- P holds of the gateway that they are, if they are one
 abbrev pub IfGate : {A : Type 0} → List (String A) → (GateCommand → Type 0) → Type 0

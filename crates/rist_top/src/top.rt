@@ -1,11 +1,13 @@
 //! The top call: from words to a line, and from a line to its status.
 ghost use Rattle.std.specs.Prelude.{◌≡◌, ◌≢◌, ◌⊎◌, Err, IfOk, IsTrue};
 ghost use Rattle.outside_io.specs.Causes.{HasOpenCause};
-ghost use Rattle.rist_words.specs.CommandLine.{Drill, DrillCommand, Gate, Recv, Send, SendCommand, Split, SplitCommand};
-ghost use Rattle.rist_words.specs.Shown.{shown, shown_gate, shown_recv};
+ghost use Rattle.rist_words.specs.CommandLine.{Drill, DrillCommand, Fan, Gate, Recv, Send, SendCommand, Split};
+ghost use Rattle.rist_words.specs.CommandLine.{SplitCommand};
+ghost use Rattle.rist_words.specs.Shown.{shown, shown_fan, shown_gate, shown_recv};
 ghost use Rattle.rist_words.specs.Ranges.{IsInRange};
 ghost use Rattle.run_parts.specs.Causes.{fault_of};
-ghost use Rattle.rist_top.specs.Lines.{AsksNothing, IfAsk, IfDrill, IfFiles, IfGate, IfReceiving, IfSend, IfSplit};
+ghost use Rattle.rist_top.specs.Lines.{AsksNothing, IfAsk, IfDrill, IfFan, IfFiles, IfGate, IfReceiving, IfSend};
+ghost use Rattle.rist_top.specs.Lines.{IfSplit};
 ghost use Rattle.rist_top.specs.Lines.{IsLine, IsNoLine, IsNoPlainLine, IsPlain};
 ghost use Rattle.run_files.specs.Works.{IsOverFiles};
 ghost use Rattle.run_print.specs.DoesAsk.{DoesAsk};
@@ -13,12 +15,14 @@ ghost use Rattle.run_files.specs.DoesFiles.{DoesFiles};
 ghost use Rattle.run_split.specs.DoesSplit.{DoesSplit};
 ghost use Rattle.run_send.specs.DoesSend.{DoesSend};
 ghost use Rattle.run_receive.specs.DoesReceive.{DoesReceive};
+ghost use Rattle.run_fan.specs.DoesFan.{DoesFan};
 ghost use Rattle.run_gate.specs.DoesGate.{DoesGate};
 ghost use Rattle.run_print.specs.DoesDrill.{DoesDrill};
 
 use crate::asking::answer;
 use outside_host::Host;
-use rist_words::{GateLine, Line, RecvLine, Refused, line};
+use rist_words::{FanLine, GateLine, Line, RecvLine, Refused, line};
+use run_fan::fan_line;
 use run_files::file_line;
 use run_gate::gate_line;
 use run_parts::{Status, Telling};
@@ -30,8 +34,9 @@ use std::alloc::Global;
 use std::sync::Wait;
 use std::thread::Threads;
 
-/// Does what the words of a command line say, the program's name first, with the objects of a host. A receiving and
-/// a gateway wait for their links, each in a thread of its own; every other command returns as [`plain`] does.
+/// Does what the words of a command line say, the program's name first, with the objects of a host. A receiving, of one
+/// flow or several, and a gateway wait for their links, each in a thread of its own; every other command returns as
+/// [`plain`] does.
 pub fn run<R: Threads + Wait + Sync, H: Host>(
     rt: &R,
     alloc: Global,
@@ -65,6 +70,8 @@ pub fn run<R: Threads + Wait + Sync, H: Host>(
     ensures receives { IfReceiving words.now (λ c. DoesReceive H.tells
         ⟦<H as Telling>⟧.objects ⟦<H as Telling>⟧.live c
         (H.faults host.old) (H.faults host.new) (H.shelf host.old) (H.shelf host.new) result) }
+    ensures fans { IfFan words.now (λ c. DoesFan H.tells ⟦<H as Telling>⟧.objects ⟦<H as Telling>⟧.live c
+        (H.faults host.old) (H.faults host.new) (H.shelf host.old) (H.shelf host.new) result) }
     ensures gates { IfGate words.now (λ c. DoesGate H.tells ⟦<H as Telling>⟧.objects ⟦<H as Telling>⟧.live c
         (H.faults host.old) (H.faults host.new) (H.shelf host.old) (H.shelf host.new) result) }
     ensures drills { IfDrill words.now (λ c. DoesDrill H.tells ⟦<H as Telling>⟧.objects c
@@ -72,6 +79,7 @@ pub fn run<R: Threads + Wait + Sync, H: Host>(
 {
     match read_line(alloc, words) {
         Read::Receive(line) => receive_line(rt, alloc, host, &line),
+        Read::Fan(line) => fan_line(rt, alloc, host, &line),
         Read::Gate(line) => gate_line(rt, alloc, host, &line),
         Read::Plain(line) => run_line(alloc, host, &line),
         Read::NoLine => answer(words, host),
@@ -84,6 +92,8 @@ pub fn run<R: Threads + Wait + Sync, H: Host>(
 enum Read<'a> {
     /// A receiving.
     Receive(RecvLine<'a>),
+    /// A receiving of several flows.
+    Fan(FanLine<'a>),
     /// A gateway.
     Gate(GateLine<'a>),
     /// A line whose command waits for nobody.
@@ -97,6 +107,7 @@ enum Read<'a> {
 /// What the words are.
 fn read_line<'a>(alloc: Global, words: &'a [String]) -> Read<'a>
     ensures receive { (l : _) → result ≡ Read.Receive l → IsLine words.entry.now (Recv (shown_recv l)) }
+    ensures fan { (l : _) → result ≡ Read.Fan l → IsLine words.entry.now (Fan (shown_fan l)) }
     ensures gate { (l : _) → result ≡ Read.Gate l → IsLine words.entry.now (Gate (shown_gate l)) }
     ensures line { (l : _) → result ≡ Read.Plain l → IsLine words.entry.now (shown l) }
     ensures plain { (l : _) → result ≡ Read.Plain l → IsPlain (shown l) }
@@ -104,6 +115,7 @@ fn read_line<'a>(alloc: Global, words: &'a [String]) -> Read<'a>
 {
     match line(alloc, words) {
         Ok(Line::Recv(line)) => Read::Receive(line),
+        Ok(Line::Fan(line)) => Read::Fan(line),
         Ok(Line::Gate(line)) => Read::Gate(line),
         Ok(line) => Read::Plain(line),
         Err(Refused::Usage) => Read::NoLine,
@@ -111,8 +123,8 @@ fn read_line<'a>(alloc: Global, words: &'a [String]) -> Read<'a>
     }
 }
 
-/// Does each command that waits for nobody, and answers what is asked for: all but a receiving and a gateway, whose lines
-/// are none here. It always returns.
+/// Does each command that waits for nobody, and answers what is asked for: all but a receiving, of one flow or several, and
+/// a gateway, whose lines are none here. It always returns.
 pub fn plain<H: Host>(alloc: Global, words: &[String], host: &mut H) -> Status
     // The words are refused exactly where they are no such line and ask for nothing, memory aside.
     ensures usage { result ≡ Status.Usage → IsNoPlainLine words.now }
@@ -147,7 +159,7 @@ fn plain_line<'a>(alloc: Global, words: &'a [String]) -> Result<Line<'a>, Refuse
     ensures usage { result ≡ Err Refused.Usage → IsNoPlainLine words.entry.now }
 {
     match line(alloc, words)? {
-        Line::Recv(_) | Line::Gate(_) => Err(Refused::Usage),
+        Line::Recv(_) | Line::Fan(_) | Line::Gate(_) => Err(Refused::Usage),
         line => Ok(line),
     }
 }
@@ -175,10 +187,11 @@ fn run_line<H: Host>(alloc: Global, host: &mut H, line: &Line<'_>) -> Status
         Line::Replay(_) => file_line(alloc, host, line),
         Line::Show(_) => file_line(alloc, host, line),
         Line::Count(_) => file_line(alloc, host, line),
+        Line::Report(_) => file_line(alloc, host, line),
         Line::Pack(_) => file_line(alloc, host, line),
         Line::Split(line) => split_line(alloc, host, line),
         Line::Send(line) => send_line(alloc, host, line),
         Line::Drill(line) => drill_line(alloc, host, line),
-        Line::Recv(_) | Line::Gate(_) => unreachable!(),
+        Line::Recv(_) | Line::Fan(_) | Line::Gate(_) => unreachable!(),
     }
 }

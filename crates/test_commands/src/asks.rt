@@ -5,17 +5,19 @@ use std::alloc::Global;
 use std::test::Fail;
 
 /// Words, and what they ask for.
-static ASKS: [(&str, Option<Ask>); 25] = [
+static ASKS: [(&str, Option<Ask>); 27] = [
     ("rist --help", Some(Ask::Help)),
     ("other --help", Some(Ask::Help)),
     ("rist --version", Some(Ask::Version)),
     ("rist replay --help", Some(Ask::HelpOf(Topic::Replay))),
     ("rist show --help", Some(Ask::HelpOf(Topic::Show))),
     ("rist count --help", Some(Ask::HelpOf(Topic::Count))),
+    ("rist report --help", Some(Ask::HelpOf(Topic::Report))),
     ("rist pack --help", Some(Ask::HelpOf(Topic::Pack))),
     ("rist split --help", Some(Ask::HelpOf(Topic::Split))),
     ("rist send --help", Some(Ask::HelpOf(Topic::Send))),
     ("rist recv --help", Some(Ask::HelpOf(Topic::Recv))),
+    ("rist fan --help", Some(Ask::HelpOf(Topic::Fan))),
     ("rist gate --help", Some(Ask::HelpOf(Topic::Gate))),
     ("rist drill --help", Some(Ask::HelpOf(Topic::Drill))),
     ("rist", None),
@@ -43,7 +45,7 @@ fn all_asked(alloc: Global) -> Result<bool, Fail> {
 }
 
 /// Words that are no line, and what is said of them.
-static COMPLAINTS: [(&str, &str); 54] = [
+static COMPLAINTS: [(&str, &str); 58] = [
     ("rist", "a command is missing (rist --help)"),
     (
         "rist play a b",
@@ -220,6 +222,22 @@ static COMPLAINTS: [(&str, &str); 54] = [
     (
         "rist split  1968=a",
         "CAPTURE: a name isn't empty (rist split --help)",
+    ),
+    (
+        "rist fan 1969=a 127.0.0.1:5000",
+        "OUTS 1969=a: an even port from 2 to 65534 and a name, as 1968=a (rist fan --help)",
+    ),
+    (
+        "rist fan 1968=a 127.0.0.1",
+        "LINK 127.0.0.1: an address and a port, as 127.0.0.1:5000 (rist fan --help)",
+    ),
+    (
+        "rist fan 1968=a 127.0.0.1:5000 --keep 1",
+        "unexpected argument '--keep' found (rist fan --help)",
+    ),
+    (
+        "rist report a  --delay 5",
+        "OUT: a name isn't empty (rist report --help)",
     ),
     (
         "rist split - 1968=a --profile main",

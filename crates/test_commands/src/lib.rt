@@ -6,6 +6,8 @@ mod asks;
 #[cfg(test)]
 mod counts;
 #[cfg(test)]
+mod fan_words;
+#[cfg(test)]
 mod lines;
 #[cfg(test)]
 mod live_words;

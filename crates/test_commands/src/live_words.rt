@@ -9,7 +9,7 @@ use rist_words::{
 use std::alloc::Global;
 use std::test::Fail;
 
-const RECEIVER: ReceiverWords = ReceiverWords {
+pub const RECEIVER: ReceiverWords = ReceiverWords {
     delay: 1000,
     span: 2048,
     restart: 0,
@@ -21,7 +21,7 @@ const RECEIVER: ReceiverWords = ReceiverWords {
     own: 7,
 };
 
-const SERVING: ServingWords = ServingWords {
+pub const SERVING: ServingWords = ServingWords {
     turns: 1 << 40,
     idle: 0,
     keep: 0,
@@ -47,19 +47,22 @@ const LOW: (ReceiverWords, ServingWords) = (
     },
 );
 
+/// Each option of a receiver at its greatest.
+pub const HIGH_RECEIVER: ReceiverWords = ReceiverWords {
+    delay: 30_000,
+    span: 16_384,
+    restart: 60_000,
+    drift: true,
+    reorder: 1000,
+    least: 1000,
+    tries: 32,
+    nack: NackKind::Mask,
+    own: 4_294_967_295,
+};
+
 /// Each option at its greatest.
 const HIGH: (ReceiverWords, ServingWords) = (
-    ReceiverWords {
-        delay: 30_000,
-        span: 16_384,
-        restart: 60_000,
-        drift: true,
-        reorder: 1000,
-        least: 1000,
-        tries: 32,
-        nack: NackKind::Mask,
-        own: 4_294_967_295,
-    },
+    HIGH_RECEIVER,
     ServingWords {
         turns: 1 << 40,
         idle: 86_400_000,

@@ -284,6 +284,33 @@ fn all_shown(alloc: Global) -> Result<bool, Fail> {
     )
 }
 
+fn all_reported(alloc: Global) -> Result<bool, Fail> {
+    let plain = ReplayLine {
+        capture: "a",
+        out: "b.html",
+        session: PLAIN,
+        delay: 1000,
+        span: 2048,
+        restart: 0,
+        drift: false,
+        pcap: None,
+    };
+    let set = ReplayLine {
+        delay: 30_000,
+        span: 8,
+        restart: 60_000,
+        drift: true,
+        pcap: Some(2),
+        ..plain
+    };
+    let text = "rist report --pcap --drift a --udp 2 b.html --restart 60000 --span=8 --delay 30000";
+    Ok(
+        reads(alloc, "rist report a b.html", Ok(Line::Report(plain)))?
+            && reads(alloc, text, Ok(Line::Report(set)))?
+            && reads(alloc, "rist report a", Err(Refused::Usage))?,
+    )
+}
+
 fn all_counted(alloc: Global) -> Result<bool, Fail> {
     let plain = CountLine {
         capture: "a",
@@ -426,6 +453,7 @@ fn words_are_a_line_or_refused(rt: HostRuntime) -> Result<(), Fail> {
     assert!(rt; all_replays(alloc)?);
     assert!(rt; all_shown(alloc)?);
     assert!(rt; all_counted(alloc)?);
+    assert!(rt; all_reported(alloc)?);
     assert!(rt; all_packed(alloc)?);
     assert!(rt; all_sent(alloc)?);
     assert!(rt; all_drills(alloc)?);

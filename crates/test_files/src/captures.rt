@@ -17,11 +17,13 @@ use std::test::Fail;
 
 pub(crate) const NAME: &[u8] = b"RISTCAP1";
 
-const A: &[u8] = b"\0\0\0\x0D\0\0\0\0\0\0\0\0\x80\x21\0\x0A\0\0\0\0\x10\x20\x30\x40A";
+pub(crate) const A: &[u8] = b"\0\0\0\x0D\0\0\0\0\0\0\0\0\x80\x21\0\x0A\0\0\0\0\x10\x20\x30\x40A";
 
-const B: &[u8] = b"\0\0\0\x0D\0\0\0\0\0\0\x27\x10\x80\x21\0\x0B\0\0\x03\x84\x10\x20\x30\x40B";
+pub(crate) const B: &[u8] =
+    b"\0\0\0\x0D\0\0\0\0\0\0\x27\x10\x80\x21\0\x0B\0\0\x03\x84\x10\x20\x30\x40B";
 
-const C: &[u8] = b"\0\0\0\x0D\0\0\0\0\0\0\x4E\x20\x80\x21\0\x0C\0\0\x07\x08\x10\x20\x30\x40C";
+pub(crate) const C: &[u8] =
+    b"\0\0\0\x0D\0\0\0\0\0\0\x4E\x20\x80\x21\0\x0C\0\0\x07\x08\x10\x20\x30\x40C";
 
 /// The datagrams of the last two records exchanged, their times kept.
 const C_EARLY: &[u8] = b"\0\0\0\x0D\0\0\0\0\0\0\x27\x10\x80\x21\0\x0C\0\0\x07\x08\x10\x20\x30\x40C";
@@ -327,10 +329,12 @@ fn a_source_comes_back_where_its_sink_cannot_be_opened(rt: HostRuntime) -> Resul
 }
 
 /// Lines with their statuses. None of them names `other`.
-static NAMING: [(&str, Ending); 5] = [
+static NAMING: [(&str, Ending); 7] = [
     ("replay - -", Ending::Done),
     ("show -", Ending::Done),
     ("pack - -", Ending::Done),
+    ("report - -", Ending::Done),
+    ("report file -", Ending::OpenFault),
     ("replay - file", Ending::OpenFault),
     ("replay file -", Ending::OpenFault),
 ];

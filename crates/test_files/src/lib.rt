@@ -1,5 +1,5 @@
-//! Worked lines over a host in memory: captures that are packed, replayed, split, shown and counted, and simulated
-//! runs. There are tests alone.
+//! Worked lines over a host in memory: captures that are packed, replayed, split, shown, counted and
+//! reported, and simulated runs. There are tests alone.
 #![tactic(auto)]
 
 #[cfg(test)]
@@ -8,5 +8,7 @@ mod captures;
 mod drills;
 #[cfg(test)]
 mod pcaps;
+#[cfg(test)]
+mod reports;
 #[cfg(test)]
 mod splits;

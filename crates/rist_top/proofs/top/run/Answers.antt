@@ -1,13 +1,15 @@
 -- What the words are is done as their line says, and nothing else is.
 use Rattle.std.proofs.Common.{◌∙◌, subst, sym}
 use Rattle.rist_words.proofs.RangeLemmas.{line_range}
-use Rattle.rist_words.specs.CommandLine.{Gate, Recv}
+use Rattle.rist_words.specs.CommandLine.{Fan, Gate, Recv}
 use Rattle.rist_help.proofs.AskLemmas.{asks_none}
 use Rattle.run_files.specs.Works.{IsOverFiles}
 use Rattle.rist_top.proofs.AskLemmas.{line_asks_nothing}
-use Rattle.rist_top.proofs.LineLemmas.{gate_is_none, is_line, no_both, no_files, no_gate, no_receiving, no_sending}
-use Rattle.rist_top.proofs.LineLemmas.{receiving_is_none, same_gate, same_line, same_receiving, no_drill, no_split}
+use Rattle.rist_top.proofs.LineLemmas.{fan_is_none, gate_is_none, is_line, no_both, no_fan, no_fan_gate, no_fan_received, no_files}
+use Rattle.rist_top.proofs.LineLemmas.{no_gate, no_receiving, no_sending}
+use Rattle.rist_top.proofs.LineLemmas.{receiving_is_none, same_fan, same_gate, same_line, same_receiving, no_drill, no_split}
 use Rattle.run_files.proofs.DoesFilesLemmas.{files_nothing, files_same}
+use Rattle.run_fan.proofs.DoesFanLemmas.{fan_same, fans_nothing}
 use Rattle.run_gate.proofs.DoesGateLemmas.{gate_same, gates_nothing}
 use Rattle.run_receive.proofs.DoesReceiveLemmas.{receive_same, receives_nothing}
 use Rattle.run_send.proofs.DoesSendLemmas.{sends_nothing}
@@ -17,6 +19,9 @@ use Rattle.rist_top.proofs.top.run.Goals as goal
 
 pub receive_line-requires-clause-range : goal.receive_line-requires-clause-range
 receive_line-requires-clause-range g c = λ κs within. line_range _ (Recv _) (c.read_line.ensures.receive _ c.in-Receive.is)
+
+pub fan_line-requires-clause-range : goal.fan_line-requires-clause-range
+fan_line-requires-clause-range g c = λ κs within. line_range _ (Fan _) (c.read_line.ensures.fan _ c.in-Fan.is)
 
 pub gate_line-requires-clause-range : goal.gate_line-requires-clause-range
 gate_line-requires-clause-range g c = λ κs within. line_range _ (Gate _) (c.read_line.ensures.gate _ c.in-Gate.is)
@@ -36,6 +41,10 @@ returns-in-Receive-clause-receives g c k is =
 pub returns-in-Receive-clause-gates : goal.returns-in-Receive-clause-gates
 returns-in-Receive-clause-gates g c k is =
     absurd (no_both _ _ k (c.read_line.ensures.receive _ c.in-Receive.is) is)
+
+pub returns-in-Receive-clause-fans : goal.returns-in-Receive-clause-fans
+returns-in-Receive-clause-fans g c k is =
+    absurd (no_fan_received _ _ k (c.read_line.ensures.receive _ c.in-Receive.is) is)
 
 pub returns-in-Receive-clause-files : goal.returns-in-Receive-clause-files
 returns-in-Receive-clause-files g c k is files =
@@ -65,6 +74,48 @@ pub returns-in-Receive-clause-same : goal.returns-in-Receive-clause-same
 returns-in-Receive-clause-same g c tells none =
     absurd (is_line _ _ (c.read_line.ensures.receive _ c.in-Receive.is) none)
 
+-- ---- a receiving of several flows
+
+pub returns-in-Fan-clause-gates : goal.returns-in-Fan-clause-gates
+returns-in-Fan-clause-gates g c k is =
+    absurd (no_fan_gate _ _ k (c.read_line.ensures.fan _ c.in-Fan.is) is)
+
+pub returns-in-Fan-clause-receives : goal.returns-in-Fan-clause-receives
+returns-in-Fan-clause-receives g c k is =
+    absurd (no_fan_received _ k _ is (c.read_line.ensures.fan _ c.in-Fan.is))
+
+pub returns-in-Fan-clause-fans : goal.returns-in-Fan-clause-fans
+returns-in-Fan-clause-fans g c k is =
+    fan_same _ _ _ _ k _ _ _ _ _ (same_fan _ _ k (c.read_line.ensures.fan _ c.in-Fan.is) is) c.fan_line.ensures.does
+
+pub returns-in-Fan-clause-files : goal.returns-in-Fan-clause-files
+returns-in-Fan-clause-files g c k is files =
+    absurd (no_files _ k (fan_is_none _ _ (c.read_line.ensures.fan _ c.in-Fan.is)) is files)
+
+pub returns-in-Fan-clause-sends : goal.returns-in-Fan-clause-sends
+returns-in-Fan-clause-sends g c k is =
+    absurd (no_sending _ k (fan_is_none _ _ (c.read_line.ensures.fan _ c.in-Fan.is)) is)
+
+pub returns-in-Fan-clause-splits : goal.returns-in-Fan-clause-splits
+returns-in-Fan-clause-splits g c k is =
+    absurd (no_split _ k (fan_is_none _ _ (c.read_line.ensures.fan _ c.in-Fan.is)) is)
+
+pub returns-in-Fan-clause-drills : goal.returns-in-Fan-clause-drills
+returns-in-Fan-clause-drills g c k is =
+    absurd (no_drill _ k (fan_is_none _ _ (c.read_line.ensures.fan _ c.in-Fan.is)) is)
+
+pub returns-in-Fan-clause-asks : goal.returns-in-Fan-clause-asks
+returns-in-Fan-clause-asks g c ask is =
+    absurd (is_line _ _ (c.read_line.ensures.fan _ c.in-Fan.is) (asks_none _ ask is))
+
+pub returns-in-Fan-clause-refused : goal.returns-in-Fan-clause-refused
+returns-in-Fan-clause-refused g c none =
+    absurd (is_line _ _ (c.read_line.ensures.fan _ c.in-Fan.is) none)
+
+pub returns-in-Fan-clause-same : goal.returns-in-Fan-clause-same
+returns-in-Fan-clause-same g c tells none =
+    absurd (is_line _ _ (c.read_line.ensures.fan _ c.in-Fan.is) none)
+
 -- ---- a gateway
 
 pub returns-in-Gate-clause-gates : goal.returns-in-Gate-clause-gates
@@ -74,6 +125,10 @@ returns-in-Gate-clause-gates g c k is =
 pub returns-in-Gate-clause-receives : goal.returns-in-Gate-clause-receives
 returns-in-Gate-clause-receives g c k is =
     absurd (no_both _ k _ is (c.read_line.ensures.gate _ c.in-Gate.is))
+
+pub returns-in-Gate-clause-fans : goal.returns-in-Gate-clause-fans
+returns-in-Gate-clause-fans g c k is =
+    absurd (no_fan_gate _ k _ is (c.read_line.ensures.gate _ c.in-Gate.is))
 
 pub returns-in-Gate-clause-files : goal.returns-in-Gate-clause-files
 returns-in-Gate-clause-files g c k is files =
@@ -126,6 +181,10 @@ pub returns-in-Plain-clause-receives : goal.returns-in-Plain-clause-receives
 returns-in-Plain-clause-receives g c k is =
     absurd (no_receiving _ _ k (c.read_line.ensures.line _ c.in-Plain.is) (c.read_line.ensures.plain _ c.in-Plain.is) is)
 
+pub returns-in-Plain-clause-fans : goal.returns-in-Plain-clause-fans
+returns-in-Plain-clause-fans g c k is =
+    absurd (no_fan _ _ k (c.read_line.ensures.line _ c.in-Plain.is) (c.read_line.ensures.plain _ c.in-Plain.is) is)
+
 pub returns-in-Plain-clause-gates : goal.returns-in-Plain-clause-gates
 returns-in-Plain-clause-gates g c k is =
     absurd (no_gate _ _ k (c.read_line.ensures.line _ c.in-Plain.is) (c.read_line.ensures.plain _ c.in-Plain.is) is)
@@ -160,6 +219,10 @@ pub returns-in-NoLine-clause-receives : goal.returns-in-NoLine-clause-receives
 returns-in-NoLine-clause-receives g c k is =
     absurd (is_line _ _ is (c.read_line.ensures.none c.in-NoLine.is))
 
+pub returns-in-NoLine-clause-fans : goal.returns-in-NoLine-clause-fans
+returns-in-NoLine-clause-fans g c k is =
+    absurd (is_line _ _ is (c.read_line.ensures.none c.in-NoLine.is))
+
 pub returns-in-NoLine-clause-gates : goal.returns-in-NoLine-clause-gates
 returns-in-NoLine-clause-gates g c k is =
     absurd (is_line _ _ is (c.read_line.ensures.none c.in-NoLine.is))
@@ -185,6 +248,10 @@ returns-in-Memory-clause-sends g c k is =
 pub returns-in-Memory-clause-receives : goal.returns-in-Memory-clause-receives
 returns-in-Memory-clause-receives g c k is =
     receives_nothing _ _ _ _ _ _
+
+pub returns-in-Memory-clause-fans : goal.returns-in-Memory-clause-fans
+returns-in-Memory-clause-fans g c k is =
+    fans_nothing _ _ _ _ _ _
 
 pub returns-in-Memory-clause-gates : goal.returns-in-Memory-clause-gates
 returns-in-Memory-clause-gates g c k is =

@@ -1,0 +1,48 @@
+//! Reports of captures, by the program's top call.
+use crate::captures::{A, B, C, Ending, NAME, NOTHING, joined, written};
+use capture_file::CapKind;
+use std::alloc::Global;
+use std::str;
+use std::test::Fail;
+
+/// Three packets that came in order within 20 ms, and what the page says of them; and the first two of them before a record
+/// that is cut.
+static PAGES: [(&[&[u8]], Ending, &[&str]); 2] = [
+    (
+        &[NAME, A, B, C],
+        Ending::Done,
+        &[
+            "<tr><th>Sent</th><td>3 packets</td>",
+            "<tr><th>First time</th><td>3 packets</td>",
+            "<tr><th>Recovered</th><td>0 packets</td>",
+            "<tr><th>Never written</th><td>0 packets</td>",
+            "<tr><th>Written</th><td>3 octets</td>",
+        ],
+    ),
+    (
+        &[NAME, A, B, b"\0\x02\0"],
+        Ending::BadCapture(CapKind::Truncated, 58),
+        &["<tr><th>Sent</th><td>2 packets</td>", "</body></html>"],
+    ),
+];
+
+fn says_all(page: &[u8], texts: &[&str]) -> bool {
+    match str::from_utf8(page) {
+        Ok(page) => texts.iter().all(|text| page.contains(*text)),
+        Err(_) => false,
+    }
+}
+
+fn reports(alloc: Global, parts: &[&[u8]], ending: Ending, texts: &[&str]) -> Result<bool, Fail> {
+    let capture = joined(alloc, parts)?;
+    let page = written(alloc, "report - -", capture.as_slice(), &NOTHING, ending)?;
+    Ok(says_all(page.as_slice(), texts))
+}
+
+#[test]
+fn a_page_says_what_a_receiver_would_make_of_a_capture(rt: HostRuntime) -> Result<(), Fail> {
+    for (parts, ending, texts) in &PAGES {
+        assert!(rt; reports(rt.alloc(), parts, *ending, texts)?);
+    }
+    Ok(())
+}
