@@ -1,4 +1,6 @@
--- How the program ends where a passphrase can't be had.
+-- How the program ends where a passphrase can't be had, or a link has no address.
+use Rattle.link_words.specs.declared.no_link.NoLink.{NoLink}
+use Rattle.link_words.specs.declared.no_link.NoLink.TheVariants as links
 use Rattle.pass_words.specs.declared.resolving.NoPass.{NoPass}
 use Rattle.pass_words.specs.declared.resolving.NoPass.TheVariants as refused
 use Rattle.run_parts.specs.declared.status.Status.{Status}
@@ -11,3 +13,12 @@ pass_status (refused.Words fault) = Usage
 pass_status (refused.Closed name error) = OpenFault
 pass_status (refused.Line name fault) = OpenFault
 pass_status refused.Variable = Usage
+
+-- a name without an address is a link that can't be opened
+abbrev pub link_status : NoLink → Status
+link_status links.Memory = Memory
+link_status (links.NoEndpoint url) = Usage
+link_status (links.Listens url) = Usage
+link_status (links.Parameter name url) = Usage
+link_status (links.TooMany url) = Usage
+link_status (links.Unknown name) = OpenFault

@@ -8,8 +8,9 @@ ghost use Rattle.std.specs.declared.io.ErrorKind.TheVariants.{OutOfMemory};
 ghost use Rattle.outside_io.specs.Causes.{Rose};
 ghost use Rattle.run_parts.specs.ExitCodes.{exit_code_of};
 ghost use Rattle.rist_top.specs.Lines.{AsksNothing, IsNoLine};
-ghost use Rattle.rist.specs.NoWords.{pass_status};
+ghost use Rattle.rist.specs.NoWords.{link_status, pass_status};
 
+use link_words::{NoLink, SystemNames, with_addresses};
 use outside_host::RealHost;
 use pass_words::{NoPass, with_passphrases};
 use rist_top::{Status, complaint, run};
@@ -27,9 +28,12 @@ enum NoWords {
     Given(Status),
     /// A passphrase that a file or the variable stands for can't be had.
     Pass(NoPass),
+    /// A link has no address.
+    Link(NoLink),
 }
 
-/// The words of the command line, each passphrase of a file and that of the variable in its place.
+/// The words of the command line, each passphrase of a file and that of the variable in its place, and an address in that of
+/// each name.
 fn words_of(rt: &HostRuntime) -> Result<Vec<String>, NoWords> {
     let given = match env::args(rt) {
         Ok(args) => all_of(rt.alloc(), args),
@@ -37,10 +41,19 @@ fn words_of(rt: &HostRuntime) -> Result<Vec<String>, NoWords> {
     };
     match given {
         Ok(words) => match with_passphrases(rt, rt.alloc(), words) {
-            Ok(words) => Ok(words),
+            Ok(words) => addressed(rt, words),
             Err(refused) => Err(NoWords::Pass(refused)),
         },
         Err(status) => Err(NoWords::Given(status)),
+    }
+}
+
+/// The words with an address for each link that has a name or a URL, by the system's names.
+fn addressed(rt: &HostRuntime, words: Vec<String>) -> Result<Vec<String>, NoWords> {
+    let mut names = SystemNames(rt);
+    match with_addresses(rt.alloc(), &mut names, words) {
+        Ok(words) => Ok(words),
+        Err(refused) => Err(NoWords::Link(refused)),
     }
 }
 
@@ -57,13 +70,40 @@ fn status_of(refused: &NoPass) -> Status
     }
 }
 
+/// How the program ends where a link has no address: a name without one is a link that can't be opened.
+fn status_without(refused: &NoLink) -> Status
+    ensures { result ≡ link_status refused.now }
+{
+    match refused {
+        NoLink::Memory => Status::Memory,
+        NoLink::NoEndpoint(_) => Status::Usage,
+        NoLink::Listens(_) => Status::Usage,
+        NoLink::Parameter(..) => Status::Usage,
+        NoLink::TooMany(_) => Status::Usage,
+        NoLink::Unknown(_) => Status::OpenFault,
+    }
+}
+
 /// Says on the error output why there are no words, and gives the exit status.
 fn ended_before(rt: &HostRuntime, refused: &NoWords, host: &RealHost<'_, HostRuntime>) -> ExitCode {
     match refused {
         NoWords::Given(Status::Usage) => ended(rt, Status::Usage, &[], host),
         NoWords::Given(_) => ended(rt, Status::Memory, &[], host),
         NoWords::Pass(refused) => ended_without(rt, refused),
+        NoWords::Link(refused) => ended_unlinked(rt, refused),
     }
+}
+
+/// Says on the error output why a link has no address, and gives the exit status.
+fn ended_unlinked(rt: &HostRuntime, refused: &NoLink) -> ExitCode
+    ensures exit { exit_status result ≡ exit_code_of (link_status refused.now) }
+{
+    let status = status_without(refused);
+    // A text that can't be written changes no status.
+    let _ = eprintln!(rt; "rist: {status}");
+    let _ = eprintln!(rt; "rist: {refused}");
+    let code = status.exit_code();
+    ExitCode::from(code)
 }
 
 /// Says on the error output why a passphrase can't be had, and gives the exit status.
