@@ -4,8 +4,12 @@
     pieces.py make FILE COUNT [nulls]          writes COUNT pieces of 1,316 octets; piece k begins with 47 and k. With `nulls` each
                                                is seven transport packets, of which the fourth of every piece and the last of
                                                every other one are null packets
-    pieces.py feed FILE PORT GAP               sends them to a port of 127.0.0.1, GAP microseconds apart
-    pieces.py take FILE PORT                   writes what comes to a port of 127.0.0.1, until it is stopped
+    pieces.py feed FILE PORT GAP [FORM]        sends them to a port of 127.0.0.1, GAP microseconds apart: each in a datagram; with
+                                               `rtp` in an RTP packet, of which every third has two sources, an extension and
+                                               padding; with `thirds` in datagrams of up to three transport packets
+    pieces.py take FILE PORT [rtp]             writes what comes to a port of 127.0.0.1, until it is stopped; with `rtp` the payloads
+                                               of RTP packets: it says what is none, which numbers are missing, and whether a
+                                               timestamp fell, and ends there with status 1
     pieces.py compare FILE CAME FRONT END      compares octets. At most FRONT pieces may be missing before the first that
                                                came and END after the last, none between, and none may come twice or out of
                                                its place; its status is 1 where that doesn't hold
@@ -18,6 +22,7 @@
 """
 import random
 import socket
+import struct
 import sys
 import time
 
@@ -47,23 +52,57 @@ def pieces_of(name):
             yield piece
 
 
-def feed(name, port, gap):
+def rtp_packet(k, piece):
+    """An RTP packet by RFC 3550, section 5.1."""
+    rich = k % 3 == 2
+    head = bytes([0xB2 if rich else 0x80, 33]) + struct.pack('>HII', k & 0xFFFF, k * 90 & 0xFFFFFFFF, 0x10203040)
+    more = b'abcdefgh' + struct.pack('>HH', 0xBEDE, 1) + b'word' if rich else b''
+    return head + more + piece + (b'\0\0\0\4' if rich else b'')
+
+
+def datagrams_of(k, piece, form):
+    if form == 'rtp':
+        return [rtp_packet(k, piece)]
+    if form == 'thirds':
+        return [piece[at:at + 564] for at in range(0, LENGTH, 564)]
+    return [piece]
+
+
+def feed(name, port, gap, form=''):
     end = socket.socket(socket.AF_INET, socket.SOCK_DGRAM)
     start = time.monotonic()
     for k, piece in enumerate(pieces_of(name)):
         rest = start + k * int(gap) / 1e6 - time.monotonic()
         if rest > 0:
             time.sleep(rest)
-        end.sendto(piece, ('127.0.0.1', int(port)))
+        for datagram in datagrams_of(k, piece, form):
+            end.sendto(datagram, ('127.0.0.1', int(port)))
 
 
-def take(name, port):
+def payload_of(datagram, before):
+    """The payload of an RTP packet without sources, extension and padding that comes behind another one, and what is seen of its header."""
+    if len(datagram) < 12 or datagram[:2] != bytes([0x80, 33]):
+        sys.exit(f'no such RTP packet: {datagram[:12].hex()}')
+    number, stamp, ssrc = struct.unpack('>HII', datagram[2:12])
+    if before:
+        if number != (before[0] + 1) & 0xFFFF or ssrc != before[2]:
+            sys.exit(f'number {number} of source {ssrc} behind {before[0]} of {before[2]}')
+        if (stamp - before[1]) & 0x80000000:
+            sys.exit(f'timestamp {stamp} behind {before[1]}')
+    return datagram[12:], (number, stamp, ssrc)
+
+
+def take(name, port, form=''):
     end = socket.socket(socket.AF_INET, socket.SOCK_DGRAM)
     end.setsockopt(socket.SOL_SOCKET, socket.SO_RCVBUF, 8 << 20)
     end.bind(('127.0.0.1', int(port)))
+    before = None
     with open(name, 'wb', buffering=0) as out:
         while True:
-            out.write(end.recv(65536))
+            datagram = end.recv(65536)
+            if form == 'rtp':
+                datagram, before = payload_of(datagram, before)
+            out.write(datagram)
 
 
 class Came:
