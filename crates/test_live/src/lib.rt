@@ -1,6 +1,9 @@
-//! Sendings, receivings and gateways over a host in memory, and a receiving over the loopback interface. There are tests alone.
+//! Sendings, receivings of one flow and of several, and gateways over a host in memory, and a receiving over the
+//! loopback interface. There are tests alone.
 #![tactic(auto)]
 
+#[cfg(test)]
+mod fanning;
 #[cfg(test)]
 mod fixtures;
 #[cfg(test)]
