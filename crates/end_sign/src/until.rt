@@ -97,7 +97,15 @@ impl<L: Link, S: EndSign> Link for Until<L, S> {
         self.link.write(channel, octets)
     }
 
-    fn rest(&self) {
-        self.link.rest();
+    fn assign(&mut self, flow: u8) {
+        self.link.assign(flow);
+    }
+
+    fn address(&mut self, flow: u8) {
+        self.link.address(flow);
+    }
+
+    fn rest(&self, limit: u8) {
+        self.link.rest(limit);
     }
 }

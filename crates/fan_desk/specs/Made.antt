@@ -11,6 +11,8 @@ use Rattle.rist_reporter.specs.OneMore.{AreOpened}
 use Rattle.rist_wire.specs.declared.bad.WireBad.{WireBad}
 use Rattle.rist_wire.specs.declared.item.Item.{Item}
 use Rattle.rist_wire.specs.Among.{item_among}
+use Rattle.rist_ends.specs.declared.told.What.{What}
+use Rattle.rist_ends.specs.declared.told.What.TheVariants as whats
 use Rattle.rist_ends.specs.declared.outcome.Answer.{Answer}
 use Rattle.rist_ends.specs.declared.outcome.Answer.TheVariants as answers
 use Rattle.rist_desk.specs.declared.ended.Ended.{Ended}
@@ -30,6 +32,17 @@ use Rattle.rist_fan.specs.declared.flow.Came.{Came}
 use Rattle.rist_fan.specs.Seen.{FanStep, is_for, seen_in}
 use Rattle.rist_fan.specs.Fan.{outcome_in}
 use Rattle.fan_desk.specs.Rows.{is_stopped}
+
+-- ---- whose datagram came
+
+-- the place of the flow that a datagram came of: media's or control's port is of a flow, a keepalive is the tunnel's
+abbrev pub flow_of : Option ℕ → What → Option ℕ
+flow_of place (whats.Media arrival) = place
+flow_of place (whats.Control compound) = place
+flow_of place whats.Keepalive = None
+flow_of place whats.Refused = None
+flow_of place whats.Tick = None
+flow_of place whats.End = None
 
 -- ---- what is planned
 

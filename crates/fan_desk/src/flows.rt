@@ -2,7 +2,7 @@
 use crate::fan_step::FanStep;
 use crate::origin::FanOrigin;
 use crate::row_end::row_end;
-use crate::sending::send_row;
+use crate::sending::{flow_of, send_row};
 use crate::tunnel_desk::{RowPass, TunnelDesk};
 use link_channels::Channel;
 use outside_io::Sink;
@@ -62,7 +62,7 @@ impl<N: FanOrigin, K: Sink + Drop> Flows<RowPass<N, K>, ()> for TunnelDesk<N, K>
         let desk = &self.desk;
         desk.step_in_turn(rt, &mut own.pass, place, told, &mut own.came);
         let end = row_end(&own.came);
-        match send_row(link, &own.came) {
+        match send_row(link, flow_of(place, &told.what), &own.came) {
             Ok(()) => match end {
                 Some(end) => Err(end),
                 None => Ok(()),

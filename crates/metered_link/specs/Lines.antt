@@ -1,5 +1,5 @@
--- The line that tells how a link does (this profile): a JSON object (RFC 8259) without blanks, its members in the order of their
--- names, and a line feed.
+-- The line that tells how a link does (this profile): a JSON object (RFC 8259) without blanks, its members in the order
+-- of their names, and a line feed.
 use Rattle.std.specs.Prelude.{ℕ, ◌-◌, ◌*◌, ◌/◌, ◌^◌, min, max, List, [], ◌∷◌, ◌++◌, codes}
 use Rattle.serde_json.specs.Data.{Data, number, unsigned, string, object, member, no_members}
 use Rattle.serde_json.specs.Written.{compact_text}

@@ -97,7 +97,15 @@ impl<L: Link, C: Clock, T: Teller> Link for Metered<L, C, T> {
         answer
     }
 
-    fn rest(&self) {
-        self.link.rest();
+    fn assign(&mut self, flow: u8) {
+        self.link.assign(flow);
+    }
+
+    fn address(&mut self, flow: u8) {
+        self.link.address(flow);
+    }
+
+    fn rest(&self, limit: u8) {
+        self.link.rest(limit);
     }
 }

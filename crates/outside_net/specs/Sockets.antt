@@ -1,7 +1,8 @@
 -- What the calls of a socket mean: where it stands, whom it sends to, which errors are faults, and which socket comes
 -- next.
 use Rattle.std.specs.Prelude.{◌≡◌, ◌/◌, ◌-◌, ◌^◌, ℕ, List, [], ◌∷◌, min, if◌then◌else◌, not, Bool, true, false}
-use Rattle.std.specs.Prelude.{Option, None, Some}
+use Rattle.std.specs.Prelude.{Option, None, Some, slice_index_or, set, nat_lt}
+use Rattle.outside_net.specs.declared.port.TheConstants.{MAX_FLOWS}
 use Rattle.std.specs.Prelude.{Result, Ok, Err}
 use Rattle.std.specs.Duration.{as_nanos}
 use Rattle.std.specs.declared.time.Duration.{Duration}
@@ -53,6 +54,25 @@ Learns old new (Some (got.Datagram channel count)) = (from : SocketAddr) × (new
 Learns old new (Some got.Quiet) = new ≡ old
 Learns old new (Some got.End) = new ≡ old
 Learns old new (Some got.Failed) = new ≡ old
+
+-- who sent the last datagram of each flow, once one of this flow came from a peer that is learned; nothing changes
+-- where the peer was stated, or for a flow that a tunnel doesn't have
+abbrev pub assigned : ℕ → Peer → List (Option SocketAddr) → List (Option SocketAddr)
+assigned flow Unknown senders = senders
+assigned flow (Last from) senders = if nat_lt flow MAX_FLOWS then set senders flow (Some from) else senders
+assigned flow (Stated address) senders = senders
+
+-- who sent the last datagram of a flow, if one came
+abbrev pub sender_of : ℕ → List (Option SocketAddr) → Option SocketAddr
+sender_of flow senders = if nat_lt flow MAX_FLOWS then slice_index_or senders flow None else None
+
+-- Where a datagram goes: to a stated peer, whichever flow it is of; else to the peer of the flow that is answered, if
+-- one of it came, and else to who sent the last one.
+abbrev pub target : Peer → Option SocketAddr → Option SocketAddr
+target Unknown facing = None
+target (Last last) None = Some last
+target (Last last) (Some sender) = Some sender
+target (Stated address) facing = Some address
 
 -- Errors that are no fault of a link: nothing is there, or no room, a signal came, the peer's machine refuses, or no
 -- way leads there now.

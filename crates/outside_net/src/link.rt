@@ -24,7 +24,8 @@ pub enum Got {
     Failed,
 }
 
-/// Gives datagrams and takes datagrams, on channels. A datagram goes to its channel's peer.
+/// Gives datagrams and takes datagrams, on channels. A datagram goes to its channel's peer, or in a tunnel of several flows
+/// to that of its flow. No read waits.
 pub trait Link {
     /// The answers that its reads have still to give, by the number of the read from the next one on, where it tells
     /// them.
@@ -78,6 +79,28 @@ pub trait Link {
         ensures ends { ends self.new ≡ ends self.old }
         ensures cause { HasCause (faults self.old) (faults self.new) result };
 
-    /// Waits until a datagram is there, for about a millisecond at most, where the link can wait. It is no read.
-    fn rest(&self) {}
+    /// The datagram that the last read gave is for the flow at a place of its tunnel, from 0 on: who sent it is that flow's
+    /// peer. A link that has one peer for all flows does nothing.
+    fn assign(&mut self, flow: u8)
+        ensures peers { (c : Channel) → knows self.new c ≡ knows self.old c }
+        ensures before { (c : Channel) → knew self.new c ≡ knew self.old c }
+        ensures reads { reads self.new ≡ reads self.old }
+        ensures taken { taken self.new ≡ taken self.old }
+        ensures ends { ends self.new ≡ ends self.old }
+        ensures faults { faults self.new ≡ faults self.old }
+    {}
+
+    /// What is written from now on goes to the peer of the flow at a place, where a datagram was assigned to it, and else to
+    /// its channel's peer.
+    fn address(&mut self, flow: u8)
+        ensures peers { (c : Channel) → knows self.new c ≡ knows self.old c }
+        ensures before { (c : Channel) → knew self.new c ≡ knew self.old c }
+        ensures reads { reads self.new ≡ reads self.old }
+        ensures taken { taken self.new ≡ taken self.old }
+        ensures ends { ends self.new ≡ ends self.old }
+        ensures faults { faults self.new ≡ faults self.old }
+    {}
+
+    /// Waits until a datagram is there, for so many milliseconds at most, where the link can wait. It is no read.
+    fn rest(&self, limit: u8) {}
 }

@@ -21,10 +21,10 @@ impl LinkSpec {
 /// Which end of a link this is.
 #[derive(Clone, Copy, Debug, PartialEq, Eq)]
 pub enum Role {
-    /// It is bound to the address. A read of it may wait for a datagram for about a millisecond.
+    /// It is bound to the address, and answers whoever sends to it.
     Receives,
-    /// It sends to the address. A read of it never waits: who has nothing else to do rests on it.
+    /// It sends to the address what a source gives.
     Sends,
-    /// It sends to the address what others bring, who wait for who reads it. A read of it never waits.
+    /// It sends to the address what others bring.
     Forwards,
 }

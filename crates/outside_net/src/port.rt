@@ -1,9 +1,11 @@
 //! One socket of a link, and the peer of its channel.
-ghost use Rattle.std.specs.Prelude.{◌≡◌, ◌≤◌, take, true, IfOk};
+ghost use Rattle.std.specs.Prelude.{◌≡◌, ◌≤◌, take, true, is_some, IfOk};
 ghost use Rattle.outside_io.specs.Causes.{has_failed};
 ghost use Rattle.link_channels.specs.declared.bounds.TheConstants.{MAX_DATAGRAM as max_datagram};
 ghost use Rattle.outside_net.specs.Real.{is_known, is_sending};
 ghost use Rattle.outside_net.specs.Sockets.{IsAt, IsOwn, IsFirstPeer, is_no_fault, is_fault, answer_by};
+ghost use Rattle.outside_net.specs.Sockets.{assigned, sender_of, target};
+ghost use Rattle.outside_net.specs.declared.port.Peer.TheVariants.{Last};
 
 use crate::{Got, Role};
 use libc::net::{SO_RCVBUF, SOL_SOCKET, getsockopt, setsockopt};
@@ -27,18 +29,26 @@ pub enum Peer {
     Stated(SocketAddr),
 }
 
-/// A socket that never waits, its peer, and its peer before the last read of its link.
+/// How many flows a tunnel has at most (this profile).
+pub const MAX_FLOWS: usize = 8;
+
+/// A socket that never waits, its peer, and its peer before the last read of its link; who sent the last datagram of each
+/// flow of a tunnel, and whom the flow that is answered goes to.
 #[derive(Drop)]
 pub struct Port {
     socket: UdpSocket,
     peer: Peer,
     before: Peer,
+    senders: [Option<SocketAddr>; MAX_FLOWS],
+    facing: Option<SocketAddr>,
+    /// What the system hands over: an octet more than the longest datagram, so that a longer one is seen.
+    block: [u8; MAX_DATAGRAM + 1],
 }
 
 impl Port {
     ghost use Rattle.std.specs.Prelude.{◌≡◌, IfOk, IfSome, OnErr, true, false};
     ghost use Rattle.outside_net.specs.Links.{IsWithin, has_come_to_end};
-    ghost use Rattle.outside_net.specs.Sockets.{IsFirstPeer, IsOn, learned, Learns};
+    ghost use Rattle.outside_net.specs.Sockets.{IsFirstPeer, IsOn, learned, Learns, assigned, sender_of};
     ghost use Rattle.outside_net.specs.Real.{is_known, is_sending, PeerAfter};
 
     /// Bound to the address, or from any port of this machine to it.
@@ -53,6 +63,9 @@ impl Port {
                 socket,
                 peer,
                 before: peer,
+                senders: [None; MAX_FLOWS],
+                facing: None,
+                block: [0; MAX_DATAGRAM + 1],
             }),
             Err(_) => Err(Failed),
         }
@@ -97,6 +110,29 @@ impl Port {
         self.peer = self.before;
     }
 
+    /// Who sent the last datagram is the peer of the flow at a place, unless a peer was stated.
+    pub fn assign(&mut self, flow: u8)
+        ensures senders { self.new.senders ≡ assigned flow self.old.peer self.old.senders }
+        ensures facing { self.new.facing ≡ self.old.facing }
+        ensures peer { self.new.peer ≡ self.old.peer }
+        ensures before { self.new.before ≡ self.old.before }
+    {
+        match self.peer {
+            Peer::Last(from) => keep_sender(&mut self.senders, flow, from),
+            Peer::Unknown | Peer::Stated(_) => {}
+        }
+    }
+
+    /// What is sent from now on goes to the peer of the flow at a place, if a datagram of it came.
+    pub fn address(&mut self, flow: u8)
+        ensures facing { self.new.facing ≡ sender_of flow self.old.senders }
+        ensures senders { self.new.senders ≡ self.old.senders }
+        ensures peer { self.new.peer ≡ self.old.peer }
+        ensures before { self.new.before ≡ self.old.before }
+    {
+        self.facing = sender_of(&self.senders, flow);
+    }
+
     /// The next datagram, if one is there: its sender is the peer, unless one was stated. One of more than 2,048 octets
     /// is dropped, which answers Quiet, and its sender isn't.
     pub fn look(&mut self, channel: Channel, buf: &mut [u8; MAX_DATAGRAM]) -> Option<Got>
@@ -107,13 +143,12 @@ impl Port {
         ensures peer { PeerAfter channel (is_known self.old.peer) (is_known self.new.peer) result }
         ensures before { self.new.before ≡ self.old.before }
     {
-        let mut block = [0; MAX_DATAGRAM + 1];
-        match self.socket.recv_from(&mut block) {
+        match self.socket.recv_from(&mut self.block) {
             Ok((count, from)) => {
                 if count > MAX_DATAGRAM {
                     return Some(Got::Quiet);
                 }
-                give(&block, count, buf);
+                give(&self.block, count, buf);
                 self.learn(from);
                 Some(Got::Datagram(channel, count))
             }
@@ -132,18 +167,16 @@ impl Port {
         }
     }
 
-    /// Sends to the peer. A datagram that the peer's machine refuses, to which no way leads now, or for which the socket has no
+    /// Sends to the peer, or to that of the flow which is answered. A datagram that the peer's machine refuses, to which no way leads now, or for which the socket has no
     /// room, is lost.
     pub fn send(&self, octets: &[u8]) -> Result<bool, Failed>
         ensures peer { IfOk result (λ went. went ≡ is_known self.now.peer) }
         ensures known { OnErr result (is_known self.now.peer ≡ true) }
     {
-        let to = match self.peer {
-            Peer::Unknown => return Ok(false),
-            Peer::Last(to) => to,
-            Peer::Stated(to) => to,
-        };
-        outcome(self.socket.send_to(octets, to))
+        match target(self.peer, self.facing) {
+            None => Ok(false),
+            Some(to) => outcome(self.socket.send_to(octets, to)),
+        }
     }
 }
 
@@ -153,6 +186,40 @@ fn socket_address(address: [u8; 4], port: u16) -> SocketAddr
 {
     let [a, b, c, d] = address;
     SocketAddr::V4(SocketAddrV4::new(Ipv4Addr::new(a, b, c, d), port))
+}
+
+/// Who sent the last datagram of a flow is kept, if a tunnel has such a flow.
+fn keep_sender(senders: &mut [Option<SocketAddr>; MAX_FLOWS], flow: u8, from: SocketAddr)
+    ensures value { senders.new ≡ assigned flow (Last from) senders.old }
+{
+    let place = usize::from(flow);
+    if place < MAX_FLOWS {
+        senders[place] = Some(from);
+    }
+}
+
+/// Who sent the last datagram of a flow, if one came.
+fn sender_of(senders: &[Option<SocketAddr>; MAX_FLOWS], flow: u8) -> Option<SocketAddr>
+    ensures value { result ≡ sender_of flow senders.now }
+{
+    let place = usize::from(flow);
+    if place < MAX_FLOWS {
+        return senders[place];
+    }
+    None
+}
+
+/// Where a datagram goes: to a stated peer, else to that of the flow which is answered, else to who sent the last one. Nowhere
+/// as long as none came.
+fn target(peer: Peer, facing: Option<SocketAddr>) -> Option<SocketAddr>
+    ensures value { result ≡ target peer facing }
+    ensures known { is_some result ≡ is_known peer }
+{
+    match peer {
+        Peer::Unknown => None,
+        Peer::Stated(to) => Some(to),
+        Peer::Last(last) => Some(facing.unwrap_or(last)),
+    }
 }
 
 /// What the socket of a link is bound to: the link's address where it receives, and else any port of this machine.

@@ -12,23 +12,18 @@ use link_channels::{Channel, MAX_DATAGRAM, Profile};
 use outside_io::Failed;
 use std::net::Net;
 
-/// How long a read or a rest waits for a datagram where none is there, in milliseconds.
-const WAIT_MS: i32 = 1;
-
 /// A link over UDP: in the Simple Profile a socket for media and one for control, in the Main Profile one for the
 /// tunnel.
 ///
 /// A receiving link is bound to its address, and answers on each channel to whoever sent the last datagram on it that
-/// wasn't refused. A sending link sends to its address. A read looks at the socket first that gave a datagram least
-/// recently; where no socket has one a receiving link waits for 1 ms, unless a datagram was written since the last read.
+/// wasn't refused; in a tunnel of several flows, each flow to whoever sent its last datagram. A sending link sends to its
+/// address. A read looks at the socket first that gave a datagram least recently.
 #[derive(Drop)]
 pub struct UdpLink {
     media: Option<Port>,
     control: Option<Port>,
     tunnel: Option<Port>,
     next: Channel,
-    waits: bool,
-    is_patient: bool,
     faults: u64,
     ends: u64,
 }
@@ -53,7 +48,6 @@ impl UdpLink {
         ensures at { IfOk result (IsOpenedAt role profile spec.now) }
         ensures fresh { IfOk result IsUnused }
     {
-        let is_patient = role == Role::Receives;
         match profile {
             Profile::Simple => {
                 let Some(control) = spec.control_port() else {
@@ -66,8 +60,6 @@ impl UdpLink {
                     control: Some(control),
                     tunnel: None,
                     next: Channel::Media,
-                    waits: is_patient,
-                    is_patient,
                     faults: 0,
                     ends: 0,
                 })
@@ -79,8 +71,6 @@ impl UdpLink {
                     control: None,
                     tunnel: Some(tunnel),
                     next: Channel::Tunnel,
-                    waits: is_patient,
-                    is_patient,
                     faults: 0,
                     ends: 0,
                 })
@@ -146,36 +136,13 @@ impl UdpLink {
         self.look_at(second, buf)
     }
 
-    /// Looks at the sockets, and once more after a wait where the link receives and no datagram was written since the last
-    /// read.
-    fn look_or_wait(&mut self, buf: &mut [u8; MAX_DATAGRAM]) -> Option<Got>
-        ensures within { IfSome result IsWithin }
-        ensures turns { IfSome result (TakesTurns self.new.next) }
-        ensures going { IfSome result (λ got. has_come_to_end got ≡ false) }
-        ensures peer { KnowsAfterLook (knows_in_link self.old) (knows_in_link self.new) result }
-        ensures before { (c : ChannelValue) → knew_in_link self.new c ≡ knew_in_link self.old c }
-        ensures faults { self.new.faults ≡ self.old.faults }
-        ensures ends { self.new.ends ≡ self.old.ends }
-    {
-        let waits = self.waits;
-        self.waits = self.is_patient;
-        if let Some(got) = self.look_at_all(buf) {
-            return Some(got);
-        }
-        if !waits {
-            return None;
-        }
-        self.wait();
-        self.look_at_all(buf)
-    }
-
-    /// Waits until a socket has a datagram, or 1 ms has passed.
-    fn wait(&self) {
+    /// Waits until a socket has a datagram, or so many milliseconds have passed.
+    fn wait(&self, limit: u8) {
         let mut ends = [end_of(&self.media), end_of(&self.control)];
         if self.tunnel.is_some() {
             ends[0] = end_of(&self.tunnel);
         }
-        poll_within(&mut ends, WAIT_MS);
+        poll_within(&mut ends, i32::from(limit));
     }
 }
 
@@ -231,6 +198,28 @@ fn refuse(port: &mut Option<Port>)
     }
 }
 
+/// Who sent the last datagram of a socket is the peer of a flow, if there is a socket.
+fn assign(port: &mut Option<Port>, flow: u8)
+    ensures peer { knows_at port.new ≡ knows_at port.old }
+    ensures before { knew_at port.new ≡ knew_at port.old }
+{
+    match port {
+        Some(port) => port.assign(flow),
+        None => {}
+    }
+}
+
+/// What a socket sends from now on goes to the peer of a flow, if there is a socket.
+fn address(port: &mut Option<Port>, flow: u8)
+    ensures peer { knows_at port.new ≡ knows_at port.old }
+    ensures before { knew_at port.new ≡ knew_at port.old }
+{
+    match port {
+        Some(port) => port.address(flow),
+        None => {}
+    }
+}
+
 /// Looks at a socket, if there is one. None where it has nothing.
 fn look(port: &mut Option<Port>, channel: Channel, buf: &mut [u8; MAX_DATAGRAM]) -> Option<Got>
     ensures within { IfSome result IsWithin }
@@ -274,7 +263,7 @@ impl Link for UdpLink {
 
     fn read(&mut self, buf: &mut [u8; MAX_DATAGRAM]) -> Got {
         self.begin();
-        match self.look_or_wait(buf) {
+        match self.look_at_all(buf) {
             None => Got::Quiet,
             Some(Got::Failed) => {
                 self.faults = self.faults.saturating_add(1);
@@ -291,7 +280,6 @@ impl Link for UdpLink {
     }
 
     fn write(&mut self, channel: Channel, octets: &[u8]) -> Result<bool, Failed> {
-        self.waits = false;
         let sent = match channel {
             Channel::Media => send(&self.media, octets),
             Channel::Control => send(&self.control, octets),
@@ -303,7 +291,15 @@ impl Link for UdpLink {
         sent
     }
 
-    fn rest(&self) {
-        self.wait();
+    fn assign(&mut self, flow: u8) {
+        assign(&mut self.tunnel, flow);
+    }
+
+    fn address(&mut self, flow: u8) {
+        address(&mut self.tunnel, flow);
+    }
+
+    fn rest(&self, limit: u8) {
+        self.wait(limit);
     }
 }

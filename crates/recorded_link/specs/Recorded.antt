@@ -16,15 +16,16 @@ pub record RecordingState : Type 0 where
 abbrev pub record_at : ℕ → Channel → List ℕ → ℕ → Record
 record_at place channel octets us = record { link = place; channel = channel; us = us; octets = octets }
 
--- By whether it was written: the sink has gained exactly the record of this datagram at some moment, or a front part of it.
+-- By whether it was written: the sink has gained exactly the record of this datagram at some moment, or a front part of
+-- it.
 abbrev pub Puts : ℕ → Channel → List ℕ → Bool → Option (List ℕ) → Option (List ℕ) → Type 0
 Puts place channel octets true old new =
     (us : ℕ) × (us < 2 ^ 64) × Appends old new (spelling (record_at place channel octets us))
 Puts place channel octets false old new =
     (us : ℕ) × (us < 2 ^ 64) × AppendsPart old new (spelling (record_at place channel octets us))
 
--- A recording that goes on has put the record of this datagram, and goes on where that was written. One that is over stays
--- as it is.
+-- A recording that goes on has put the record of this datagram, and goes on where that was written. One that is over
+-- stays as it is.
 pub record Keeps (channel : Channel) (octets : List ℕ) (old new : RecordingState) : Type 0 where
   pub place : new.place ≡ old.place
   pub puts : old.goes ≡ true → Puts old.place channel octets new.goes old.contents new.contents

@@ -79,7 +79,15 @@ impl<L: Link, K: Sink, C: Clock> Link for Recorded<L, K, C> {
         self.link.write(channel, octets)
     }
 
-    fn rest(&self) {
-        self.link.rest();
+    fn assign(&mut self, flow: u8) {
+        self.link.assign(flow);
+    }
+
+    fn address(&mut self, flow: u8) {
+        self.link.address(flow);
+    }
+
+    fn rest(&self, limit: u8) {
+        self.link.rest(limit);
     }
 }

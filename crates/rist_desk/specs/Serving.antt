@@ -44,8 +44,8 @@ pub record OwnTells (K U : Type 0) : Type 1 where
   pub Lacks : U → Type 0
   pub Keyed : Type 0
 
--- A worker at this place ended. Where it ended since a trace was full, there was no room; and where it ended since pairs
--- were wanting, they may be.
+-- A worker at this place ended. Where it ended since a trace was full, there was no room; and where it ended since
+-- pairs were wanting, they may be.
 pub record ServesWith {K P M L C U : Type 0} (work : Work K P M) (moments : C → Option (ℕ → ℕ)) (tells : LinkTells L)
     (own : OwnTells K U) (limits : ServingLimits) (place : ℕ) (old new : Worker L C U) : Type 0 where
   pub made : ServesBy work moments tells own.list limits place old new

@@ -1,6 +1,7 @@
 -- What workers make their steps on, whether it is the receiver of one flow or those of several: what is planned of a
 -- datagram, what was made of a plan, and what of it went to a worker's link.
-use Rattle.std.specs.Prelude.{◌≡◌, ◌<◌, ◌⊎◌, ℕ, List, [], ◌∷◌, ◌++◌, length, map, Option, None, Some, option_map, Result}
+use Rattle.std.specs.Prelude.{◌≡◌, ◌<◌, ◌⊎◌, ℕ, List, [], ◌∷◌, ◌++◌, length, map, Option, None, Some}
+use Rattle.std.specs.Prelude.{option_map, Result}
 use Rattle.link_channels.specs.declared.channel.Channel.{Channel}
 use Rattle.outside_net.specs.Links.{Datagram}
 use Rattle.rist_wire.specs.declared.session.Session.{Session}

@@ -1,12 +1,19 @@
 //! When a turn is made, and what a worker keeps from one turn to the next.
-ghost use Rattle.std.specs.Prelude.{◌≡◌};
+ghost use Rattle.std.specs.Prelude.{◌≡◌, ◌<◌};
 ghost use Rattle.outside_net.specs.Links.{answer_of};
-ghost use Rattle.rist_desk.specs.Turns.{is_tick_due, quiet_since, is_idle};
+ghost use Rattle.rist_desk.specs.Turns.{is_tick_due, quiet_since, is_idle, rest_after, rest_in_quiet};
+ghost use Rattle.rist_desk.specs.Turns.{since_tick, tick_interval};
 
 use outside_net::Got;
 
 /// How long after a tick the next one is due, in microseconds (this profile).
 const TICK_INTERVAL: u64 = 5_000;
+
+/// How long nothing has come of a link on which a worker rests longer, in microseconds.
+const SILENCE: u64 = 1_000_000;
+
+/// How long it rests then, in milliseconds.
+const LONG_REST: u8 = 20;
 
 /// A turn of a worker.
 #[derive(Clone, Copy)]
@@ -26,6 +33,8 @@ pub struct Pace {
     pub ticked: Option<u64>,
     /// The moment from which quiet counts, in microseconds.
     pub since: Option<u64>,
+    /// How long it rests on its link before the next turn, in milliseconds, unless a datagram comes.
+    pub rest: u8,
 }
 
 /// The interval passed since the last tick, or there was none.
@@ -49,6 +58,41 @@ pub fn since_then(since: Option<u64>, us: u64, got: &Got) -> u64
             Got::Quiet | Got::End | Got::Failed => since,
         },
     }
+}
+
+/// How long a worker rests before its next turn, in milliseconds. After a datagram it doesn't, as more may be there; else
+/// it rests until the next tick is due, and longer on a link on which nothing came for a second.
+pub fn rest_after(ticked: Option<u64>, since: u64, us: u64, got: &Got) -> u8
+    ensures value { (buf : _) → result ≡ rest_after ticked since us (answer_of got.now buf) }
+{
+    match got {
+        Got::Datagram(..) | Got::End | Got::Failed => 0,
+        Got::Quiet => rest_in_quiet(ticked, since, us),
+    }
+}
+
+/// How long ago the last tick is after a turn at this moment, in microseconds: less than the interval of ticks.
+fn since_tick(ticked: Option<u64>, us: u64) -> u64
+    ensures value { result ≡ since_tick ticked us }
+    ensures less { result < tick_interval }
+{
+    match ticked {
+        None => 0,
+        Some(last) => {
+            let passed = us.saturating_sub(last);
+            if passed < TICK_INTERVAL { passed } else { 0 }
+        }
+    }
+}
+
+/// The same where nothing was there.
+fn rest_in_quiet(ticked: Option<u64>, since: u64, us: u64) -> u8
+    ensures value { result ≡ rest_in_quiet ticked since us }
+{
+    if us.saturating_sub(since) >= SILENCE {
+        return LONG_REST;
+    }
+    ((TICK_INTERVAL - since_tick(ticked, us) + 999) / 1_000) as u8
 }
 
 /// Whether nothing came for so long.

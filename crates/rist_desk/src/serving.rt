@@ -55,10 +55,12 @@ fn all_turns<S: Flows<U, M>, U, M: Drop, L: Link, C: Clock, R: Wait>(
     let mut pace = Pace {
         ticked: None,
         since: None,
+        rest: 0,
     };
     let mut made: u64 = 0;
     'turns: loop {
         let last = made + 1 >= limits.turns;
+        worker.link.rest(pace.rest);
         match make_turn(&mut access, worker, place, limits, last, &mut pace) {
             Ok(()) => made += 1,
             Err(end) => return end,

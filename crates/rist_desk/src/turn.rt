@@ -11,7 +11,7 @@ ghost use Rattle.rist_desk.specs.Inside.Going.{IsTask, IsGoing, KeepsRest, has_l
 use crate::access::Access;
 use crate::ended::Ended;
 use crate::flows::Flows;
-use crate::pace::{Pace, Turn, is_idle, since_then};
+use crate::pace::{Pace, Turn, is_idle, rest_after, since_then};
 use crate::stepping::{step_datagram, step_tick};
 use crate::worker::{ServingLimits, Worker};
 use link_channels::{Channel, MAX_DATAGRAM};
@@ -150,6 +150,7 @@ pub fn make_turn<S: Flows<U, M>, U, M, L: Link, C: Clock, R: Wait>(
     let got = worker.link.read(&mut block);
     let from = since_then(pace.since, us, &got);
     pace.since = Some(from);
+    pace.rest = rest_after(pace.ticked, from, us, &got);
     let turn = Turn { place, us, last };
     match got {
         Got::End => Err(Ended::End),

@@ -1,6 +1,6 @@
 -- The turns of a side worker: one moment of its clock, and one aside.
-use Rattle.std.specs.Prelude.{◌≡◌, ◌<◌, ℕ, ◌+◌, nat_le, nat_lt, List, [], ◌∷◌, length, Bool, false, if◌then◌else◌}
-use Rattle.std.specs.Prelude.{Option, None, Some}
+use Rattle.std.specs.Prelude.{◌≡◌, ◌<◌, ℕ, ◌+◌, ◌-◌, ◌^◌, ◌==◌, min, nat_le, nat_lt, List, [], ◌∷◌, length, Bool, false}
+use Rattle.std.specs.Prelude.{if◌then◌else◌, Option, None, Some}
 use Rattle.std.specs.Option.{option_map}
 use Rattle.outside_net.specs.Streams.{later, IsFirst}
 use Rattle.rist_desk.specs.declared.beside.Side.{Side}
@@ -25,6 +25,17 @@ found_after found moment (sides.Quiet puts) = found_with found moment puts
 found_after found moment sides.End = found
 found_after found moment sides.Failed = found
 found_after found moment (sides.Bad bad) = found
+
+-- how many turns there were since the sink was put to, after one more, by what was found before it and after it
+abbrev pub still_after : ℕ → Option Found → Option Found → ℕ
+still_after still None found = 0
+still_after still (Some before) None = 0
+still_after still (Some before) (Some found) =
+    if before.puts == found.puts then min (still + 1) (2 ^ 64 - 1) else 0
+
+-- how long a side worker waits before its next turn, in microseconds: longer once nothing was put for so many turns
+abbrev pub pause_micros : ℕ → ℕ
+pause_micros still = if nat_lt still 2000 then 500 else 5000
 
 -- nothing was put for so long, where that matters
 abbrev pub is_quiet : ℕ → Option Found → ℕ → Bool

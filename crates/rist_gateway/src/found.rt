@@ -1,9 +1,12 @@
 //! What a side worker keeps between its turns.
 ghost use Rattle.std.specs.Prelude.{◌≡◌, if◌then◌else◌, None, Some, IfNone, false};
-ghost use Rattle.rist_gateway.specs.Sides.{found_with, found_after, is_quiet, end_by};
+ghost use Rattle.rist_gateway.specs.Sides.{found_with, found_after, is_quiet, end_by, pause_micros, still_after};
 
 use crate::side_worker::SideEnded;
 use rist_desk::Side;
+
+/// For how many turns since the sink was put to a side worker looks often.
+const OFTEN: u64 = 2_000;
 
 /// How often the sink was put to, and the moment of the turn that found it so, in microseconds.
 #[derive(Clone, Copy)]
@@ -45,6 +48,24 @@ pub(crate) fn is_quiet(idle: u64, found: Option<Found>, us: u64) -> bool
         None => false,
         Some(found) => idle > 0 && us.saturating_sub(found.since) >= idle,
     }
+}
+
+/// How many turns there were since the sink was put to, after one more, by what was found before it and after it.
+pub(crate) fn still_after(still: u64, before: Option<Found>, found: Option<Found>) -> u64
+    ensures value { result ≡ still_after still before found }
+{
+    match (before, found) {
+        (Some(before), Some(found)) if before.puts == found.puts => still.saturating_add(1),
+        _ => 0,
+    }
+}
+
+/// How long a side worker waits before its next turn, in microseconds: half a millisecond, and longer where nothing was put for
+/// so many turns, as who gets the stream asks for nothing then.
+pub(crate) fn pause_micros(still: u64) -> u64
+    ensures value { result ≡ pause_micros still }
+{
+    if still < OFTEN { 500 } else { 5_000 }
 }
 
 /// Why a turn is the last, if it is.

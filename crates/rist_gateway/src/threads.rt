@@ -4,7 +4,7 @@ ghost use Rattle.rist_gateway.specs.Workers.{IsPlaced, LooksWith, MayBegin, MayL
 ghost use Rattle.rist_gateway.specs.Sides.{IsSideServed, SideTurn};
 
 use crate::either_worker::EitherWorker;
-use crate::found::{Found, end_by, found_after, is_quiet};
+use crate::found::{Found, end_by, found_after, is_quiet, pause_micros, still_after};
 use crate::shares_beside::SharesBeside;
 use crate::side_worker::{SideEnded, SideWorker};
 use outside_net::{Clock, Link, TellingLink};
@@ -15,9 +15,10 @@ use std::thread;
 use std::thread::Threads;
 use std::time::Duration;
 
-/// Waits for half a millisecond. Nothing that is shared is held meanwhile.
-fn pause<R: Wait>(rt: &R) {
-    AtomicU64::new(0).park_timeout(rt, 0, Duration::from_micros(500));
+/// Waits between two turns, by how many there were since the sink was put to last. Nothing that is shared is held meanwhile.
+fn pause<R: Wait>(rt: &R, still: u64) {
+    let micros = pause_micros(still);
+    AtomicU64::new(0).park_timeout(rt, 0, Duration::from_micros(micros));
 }
 
 /// Makes one turn: one moment, and one aside. It says why it is the last, if it is.
@@ -63,13 +64,16 @@ fn side_turns<S: SharesBeside<P>, P, C: Clock, R: Wait>(
 {
     let mut found = None;
     let mut made: u64 = 0;
+    let mut still: u64 = 0;
     'turns: loop {
         let last = made + 1 >= limits.turns;
+        let before = found;
         match side_turn(rt, desk, side, limits.idle, last, &mut found) {
             Some(end) => return end,
             None => {}
         }
-        pause(rt);
+        still = still_after(still, before, found);
+        pause(rt, still);
         made += 1;
     }
 }

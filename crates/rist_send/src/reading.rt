@@ -21,6 +21,9 @@ use rist_sender::{Sender, read_at};
 use rist_wire::{Item, Opener};
 use rtcp_compound::Compound;
 
+/// How long a turn rests on a link after which no piece is due, in milliseconds.
+const REST_MS: u8 = 1;
+
 // Answers a compound that came on a link.
 fn feed<L: Link>(
     sender: &mut Sender,
@@ -154,7 +157,7 @@ pub(crate) fn rest<L: Link>(sender: &Sender, links: &[L], progress: &Progress)
 {
     for link in 0..links.len() as u8 {
         if is_read(sender, link, progress) {
-            links[usize::from(link)].rest();
+            links[usize::from(link)].rest(REST_MS);
             return;
         }
     }

@@ -6,7 +6,7 @@ use Rattle.rist_desk.specs.Links.{SentPart}
 use Rattle.rist_fan.specs.declared.flow.Came.{Came}
 use Rattle.fan_desk.specs.Made.{outs_of_came}
 use Rattle.fan_desk.proofs.WriteLemmas.{wrote_more, wrote_part}
-use Rattle.fan_desk.proofs.sending.send_row.Goals as goal
+use Rattle.fan_desk.proofs.sending.send_each.Goals as goal
 
 pub returns-in_err-send_came-clause-err : goal.returns-in_err-send_came-clause-err
 returns-in_err-send_came-clause-err g c =

@@ -3,7 +3,7 @@ use Rattle.std.proofs.Common.{◌≡◌, ◌++◌, take, option_map}
 use Rattle.rist_desk.specs.Sending.{written}
 use Rattle.rist_desk.specs.Links.{IsKept}
 use Rattle.fan_desk.specs.Made.{all_outs}
-use Rattle.fan_desk.proofs.sending.send_row.Given as goal
+use Rattle.fan_desk.proofs.sending.send_each.Given as goal
 
 abbrev pub invariant-loop-v : goal.invariant-loop-v
 invariant-loop-v g l = record {
