@@ -25,9 +25,9 @@ use Rattle.rist_words.specs.Outs.{outs_of, ports}
 -- an option; that the session of a gateway's inputs has its profile; that the first sequence number, the two options of
 -- a pcap file and the kind of requests read; that there are one to sixteen links, and each is one; that some of a
 -- gateway's receive and not all, and each is one in the profile of its end; that each link that sends has a weight
--- where they share; that the outputs of a tunnel's flows read; that the passphrase, the tunnel, the two options of a pcap
--- file and the links read in the Main Profile, for a command that is always in it; that a name and a number that may be
--- left out read; and that a file for statistics is named only where these are told
+-- where they share; that the outputs of a tunnel's flows read; that the passphrase, the tunnel, the two options of a
+-- pcap file and the links read in the Main Profile, for a command that is always in it; that a name and a number that
+-- may be left out read; and that a file for statistics is named only where these are told
 pub data Check : Type 0 where
   Name : Text → Check
   NumberAt : Text → Numbers → Check

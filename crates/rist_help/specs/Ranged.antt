@@ -1,5 +1,6 @@
 -- The numbers that the help names are those by which the words are taken.
-use Rattle.std.specs.Prelude.{ℕ, ◌+◌, ◌-◌, ◌*◌, List, [], ◌∷◌, ◌++◌, Option, None, Some, unwrap_or, if◌then◌else◌, true, false}
+use Rattle.std.specs.Prelude.{ℕ, ◌+◌, ◌-◌, ◌*◌, List, [], ◌∷◌, ◌++◌, Option, None, Some, unwrap_or}
+use Rattle.std.specs.Prelude.{if◌then◌else◌, true, false}
 use Rattle.std.specs.Char.{is_ascii_digit}
 use Rattle.clap.specs.Words.{Text}
 use Rattle.rist_words.specs.declared.values.Numbers.{Numbers}
@@ -12,11 +13,12 @@ use Rattle.rist_words.specs.declared.drilling.TheConstants.{NUMBER, COUNT, LINKS
 use Rattle.link_channels.specs.declared.profile.Profile.TheVariants.{Main}
 use Rattle.rist_words.specs.CommandLine.{firsts}
 use Rattle.rist_words.specs.Links.{link_ports, link_weights}
+use Rattle.rist_words.specs.Values.{phrase_octets}
 use Rattle.rist_help.specs.declared.help.TheConstants.{DELAY_ROW, SPAN_ROW, RESTART_ROW, REORDER_ROW, LEAST_ROW}
 use Rattle.rist_help.specs.declared.help.TheConstants.{TRIES_ROW, OWN_ROW, TURNS_ROW, IDLE_ROW, KEEP_ROW, GAP_ROW}
 use Rattle.rist_help.specs.declared.help.TheConstants.{LEAD_ROW, STORE_ROW, HOLD_ROW, LINGER_ROW, PORT_ROW, BITS_ROW}
 use Rattle.rist_help.specs.declared.help.TheConstants.{FLOW_ROW, FIRST_ROW, STATS_ROW, IN_PORT_ROW, IN_BITS_ROW, DRILL}
-use Rattle.rist_help.specs.declared.help.TheConstants.{SHARE_ROW, UDP_ROW, SPLIT, SEND, RECV, FAN, GATE}
+use Rattle.rist_help.specs.declared.help.TheConstants.{PASS_ROW, SHARE_ROW, UDP_ROW, SPLIT, SEND, RECV, FAN, GATE}
 
 -- the number that ends in one more decimal digit
 abbrev pub with_digit : Option ℕ → ℕ → ℕ
@@ -80,8 +82,8 @@ abbrev pub between : Numbers → List ℕ
 between n = n.least ∷ n.most ∷ []
 
 -- The other rows with ranges: the first number's most is another with numbers of 32 bits, statistics are off where no
--- interval is given, weights and the ports of links, of a pcap file and of a tunnel's flows have no default, nor have the
--- arguments of a simulated run. Of a thousand datagrams some are lost.
+-- interval is given, weights and the ports of links, of a pcap file and of a tunnel's flows have no default, nor have
+-- the arguments of a simulated run. Of a thousand datagrams some are lost.
 abbrev pub named_bounds : List Named
 named_bounds =
     record {
@@ -89,6 +91,7 @@ named_bounds =
       numbers = (firsts false).least ∷ (firsts false).most ∷ ranged (firsts true);
     }
     ∷ record { row = STATS_ROW.now; numbers = between STATS }
+    ∷ record { row = PASS_ROW.now; numbers = between phrase_octets }
     ∷ record { row = SHARE_ROW.now; numbers = between link_weights }
     ∷ record { row = UDP_ROW.now; numbers = between (link_ports Main) }
     ∷ record { row = SEND.now; numbers = between (link_ports Main) }

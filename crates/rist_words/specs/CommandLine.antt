@@ -88,9 +88,9 @@ pub record SplitCommand : Type 0 where
   pub drift : Bool
   pub pcap : Option ℕ
 
--- what is kept and told of a run beside its own output: the name of a capture of what comes on its links, if there is to
--- be one; after how many milliseconds statistics are told, if they are; and the name of a file for these, if they go to
--- one
+-- what is kept and told of a run beside its own output: the name of a capture of what comes on its links, if there is
+-- to be one; after how many milliseconds statistics are told, if they are; and the name of a file for these, if they go
+-- to one
 pub record Watching : Type 0 where
   pub capture : Option Text
   pub stats : Option ℕ
@@ -323,8 +323,8 @@ incoming_of session rows =
     if is_some (first_of incoming_names.profile rows) then session_named incoming_names false rows
     else (if are_unset incoming_names rows then Some session else None)
 
--- The session of a command that is always in the Main Profile, at this port. One that makes no datagrams has no flag for
--- full ones.
+-- The session of a command that is always in the Main Profile, at this port. One that makes no datagrams has no flag
+-- for full ones.
 abbrev pub tunnel_session_of : ℕ → List Row → Option Session
 tunnel_session_of port rows = do
   pass ← phrase_of Main (first_of session_names.pass rows)

@@ -128,8 +128,8 @@ recv_app =
     with_rules Positions (with_arguments (session_app (codes "recv")) receiver_options
     (codes "full" ∷ codes "drift" ∷ []) (codes "out" ∷ [])) (codes "link" ∷ [])
 
--- a receiving of several flows that come in one tunnel: its options, its flags and its positions, of which the last takes
--- one link or more
+-- a receiving of several flows that come in one tunnel: its options, its flags and its positions, of which the last
+-- takes one link or more
 abbrev pub fan_app : App
 fan_app =
     with_rules Positions (with_arguments (tunnel_app (codes "fan")) tunnel_receiver_options

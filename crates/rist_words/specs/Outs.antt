@@ -51,7 +51,8 @@ abbrev pub are_different : {A : Type 0} → (A → A → Bool) → List A → Bo
 are_different same [] = true
 are_different same (x ∷ xs) = not (list_any (λ y. same y x) xs) && are_different same xs
 
--- the outputs of a command for a tunnel: one to eight, of different ports and of different names, in the order of the line
+-- the outputs of a command for a tunnel: one to eight, of different ports and of different names, in the order of the
+-- line
 abbrev pub outs_of : Option Text → Option (List ℕ × List Text)
 outs_of None = None
 outs_of (Some text) = do

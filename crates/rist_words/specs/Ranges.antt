@@ -17,6 +17,7 @@ use Rattle.rist_words.specs.CommandLine.{delays, spans, restarts, gaps, leads, s
 use Rattle.rist_words.specs.CommandLine.{reorders, retry_times, retry_counts, idle_times, kept_counts, stats_times}
 use Rattle.rist_words.specs.CommandLine.{drill_counts, drill_links, drill_losses}
 use Rattle.rist_words.specs.Links.{link_weights}
+use Rattle.rist_words.specs.Values.{phrase_octets}
 use Rattle.rist_words.specs.Outs.{ports}
 
 -- an even port, a key's length, and a passphrase, full datagrams and another tunnel in the Main Profile alone
@@ -25,7 +26,7 @@ pub record IsInSession (s : Session) : Type 0 where
   pub low : ports.least ≤ s.port
   pub high : s.port ≤ ports.most
   pub bits : (s.bits ≡ 128) ⊎ (s.bits ≡ 256)
-  pub pass : IfSome s.pass (λ p. (1 ≤ length p) × (length p ≤ 128))
+  pub pass : IfSome s.pass (λ p. (phrase_octets.least ≤ length p) × (length p ≤ phrase_octets.most))
   pub simple : s.profile ≡ Simple → s.pass ≡ None
   pub full : s.profile ≡ Simple → s.full ≡ false
   pub tunnel : s.profile ≡ Simple → s.tunnel ≡ Own

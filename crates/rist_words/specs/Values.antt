@@ -1,6 +1,6 @@
 -- How the values of a command line read (this profile).
-use Rattle.std.specs.Prelude.{ℕ, ◌%◌, ◌==◌, ◌&&◌, Bool, true, false, not, nat_lt, length, Option, Some, None, option_map}
-use Rattle.std.specs.Prelude.{if◌then◌else◌, codes}
+use Rattle.std.specs.Prelude.{ℕ, ◌+◌, ◌%◌, ◌==◌, ◌&&◌, Bool, true, false, not, nat_lt, length, Option, Some, None}
+use Rattle.std.specs.Prelude.{option_map, if◌then◌else◌, codes}
 use Rattle.std.specs.Char.{is_ascii_digit}
 use Rattle.std.specs.List.{list_all}
 use Rattle.std.specs.Str.{bytes_eq}
@@ -72,11 +72,16 @@ abbrev pub echo_of : Tunnel → Bool → Bool
 echo_of Own set = set
 echo_of Librist set = true
 
--- a passphrase of 1 to 128 octets, in the Main Profile; or none
+-- how many octets a passphrase has
+abbrev pub phrase_octets : Numbers
+phrase_octets = record { default = 1; least = 1; most = 128; multiple_of = 1 }
+
+-- a passphrase of so many octets, in the Main Profile; or none
 abbrev pub phrase_of : Profile → Option Text → Option (Option Text)
 phrase_of profile None = Some None
 phrase_of Simple (Some text) = None
-phrase_of Main (Some text) = if nat_lt 0 (length text) && nat_lt (length text) 129 then Some (Some text) else None
+phrase_of Main (Some text) =
+    if nat_lt 0 (length text) && nat_lt (length text) (phrase_octets.most + 1) then Some (Some text) else None
 
 -- a flag that is given has the value `true`
 abbrev pub is_set : Option Text → Bool
