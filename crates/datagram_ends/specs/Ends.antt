@@ -9,8 +9,8 @@ use Rattle.rtp_packet.specs.declared.writing.RtpHead.{RtpHead}
 use Rattle.datagram_ends.specs.Media.{datagram_of}
 use Rattle.datagram_ends.specs.declared.udp_out.UdpOut.{UdpOut}
 
--- the form, the number of the next packet and the source, where the form is RTP; the datagrams that were sent, where that
--- is told; and how many calls failed
+-- the form, the number of the next packet and the source, where the form is RTP; the datagrams that were sent, where
+-- that is told; and how many calls failed
 pub record DatagramSinkState : Type 0 where
   pub form : Form
   pub number : ℕ

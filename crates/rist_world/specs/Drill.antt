@@ -19,10 +19,9 @@ IsExact setup course =
     PlaysReached setup.control.limits setup.session.width (flows_of setup.flow setup.first course.work.history)
     (drop 1 (buffer_history course.steps)) (released_payloads setup.control.limits (buffer_history course.steps))
 
--- Moves, the oldest first, fewer than 2^27, were made from the beginning on: all those of a script, and memory lasted: no
--- link failed to take what the sender wrote on it. The counts are those of what was made, and the digest is that of all
--- that the receiver released. Where the moves are a short script,
--- that is what was reached, and nothing else.
+-- Moves, the oldest first, fewer than 2^27, were made from the beginning on: all those of a script, and memory lasted:
+-- no link failed to take what the sender wrote on it. The counts are those of what was made, and the digest is that of
+-- all that the receiver released. Where the moves are a short script, that is what was reached, and nothing else.
 pub record Drilled (setup : Setup) (near far : Option SealerState)
     (script : Setup → Course → List Move → Course → Type 0) (moves : List Move) (counts : Counts)
     (hash : List ℕ) : Type 0 where

@@ -98,8 +98,8 @@ pub record AreMarks (setup : Setup) (media : List (List (Option Bool))) (course 
       → get_or media link [] ≡ map (media_of setup.session) (forward_on setup course link)
 
 -- A world stands for a course: its sender for the work, its receiver for the steps, and each link holds what was put on
--- it, which is all that the sender wrote on it. What was written is what the steps released, the marks are those of what the sender put, and what is counted is
--- what came of it.
+-- it, which is all that the sender wrote on it. What was written is what the steps released, the marks are those of
+-- what the sender put, and what is counted is what came of it.
 pub record IsWorldAfter (setup : Setup) (w : WorldState) (course : Course) : Type 0 where
   pub sender : IsSenderAfter w.sender course.work
   pub rules : rules_of w.sender ≡ rules_after setup course.work.history

@@ -25,7 +25,7 @@ fn a_simulated_run_is_told_in_seven_lines(rt: HostRuntime) -> Result<(), Fail> {
 
 #[test]
 fn a_run_is_told_alike_again_and_in_part_where_the_room_ends(rt: HostRuntime) -> Result<(), Fail> {
-    let line = "drill 1 20 2 100";
+    let line = "drill 1 1000 2 100";
     let first = written(rt.alloc(), line, b"", &NOTHING, Ending::Done)?;
     let again = written(rt.alloc(), line, b"", &NOTHING, Ending::Done)?;
     assert!(rt; first.as_slice() == again.as_slice());
