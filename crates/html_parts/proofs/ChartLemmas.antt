@@ -10,9 +10,9 @@ greatest_push (p ∷ points) point = let rest = greatest_push points point in om
 
 -- points behind others go on from the next place
 pub points_push : (text : List ℕ) (place next : ℕ) (points : List ℕ) (point : ℕ) → next ≡ place + length points
-    → with_points text place (points ++ point ∷ []) ≡ with_point (with_points text place points) next point
+    → with_points text place (points ++ point ∷ []) ≡ with_point (with_points text place points) (next + 1) point
 points_push text place next [] point is = ap (λ (n : ℕ). with_point text n point) (omega (arith, is))
-points_push text place next (p ∷ points) point is = points_push (with_point text place p) (place + 1) next points point (omega (arith, is))
+points_push text place next (p ∷ points) point is = points_push (with_point text (place + 1) p) (place + 1) next points point (omega (arith, is))
 
 -- six parts that were put in turn
 pub six_in_turn : (front a b c d e f x y z w v whole : List ℕ) → x ≡ front ++ a → y ≡ x ++ b → z ≡ y ++ c → w ≡ z ++ d → v ≡ w ++ e → whole ≡ v ++ f
@@ -24,8 +24,8 @@ pub greatest_more : (points : List ℕ) (i before after : ℕ) → i < length po
 greatest_more points i before after low was is =
     is ∙ ap (λ (g : ℕ). max g (get_or points i 0)) was ∙ sym (ap greatest_of (take_more points i 0 low) ∙ greatest_push (take i points) (get_or points i 0))
 
-pub points_more : (points : List ℕ) (i : ℕ) (text before after : List ℕ) → i < length points → before ≡ with_points text 0 (take i points) → after ≡ with_point before i (get_or points i 0) → after ≡ with_points text 0 (take (i + 1) points)
+pub points_more : (points : List ℕ) (i : ℕ) (text before after : List ℕ) → i < length points → before ≡ with_points text 0 (take i points) → after ≡ with_point before (i + 1) (get_or points i 0) → after ≡ with_points text 0 (take (i + 1) points)
 points_more points i text before after low was is =
     let count : length (take i points) ≡ i = length-take i points ∙ omega (arith, low) in
-    is ∙ ap (λ (t : List ℕ). with_point t i (get_or points i 0)) was
+    is ∙ ap (λ (t : List ℕ). with_point t (i + 1) (get_or points i 0)) was
     ∙ sym (ap (with_points text 0) (take_more points i 0 low) ∙ points_push text 0 i (take i points) (get_or points i 0) (omega (arith, count)))

@@ -1,5 +1,6 @@
 -- A page that stands alone: HTML with no script and nothing to fetch. Each definition is a text with a part behind it.
-use Rattle.std.specs.Prelude.{ℕ, List, ◌++◌, codes, decimal}
+use Rattle.std.specs.Prelude.{ℕ, List, ◌++◌, codes}
+use Rattle.html_parts.specs.Numbers.{with_number, with_tenths}
 
 -- what the head says of itself
 abbrev pub head_line : List ℕ
@@ -20,9 +21,9 @@ abbrev pub chart_line : List ℕ
 chart_line =
     codes "svg{box-sizing:border-box;width:100%;height:8em;padding:6px;border:1px solid #999;overflow:visible}\n"
 
--- how their lines look
+-- how their lines look; and room below a table
 abbrev pub stroke_line : List ℕ
-stroke_line = codes "polyline{fill:none;stroke:#000;vector-effect:non-scaling-stroke}\n"
+stroke_line = codes "table{margin-bottom:1em}path{fill:none;stroke:#000;vector-effect:non-scaling-stroke}\n"
 
 -- where the page begins
 abbrev pub begin_line : List ℕ
@@ -35,8 +36,38 @@ with_head text = (((((text ++ head_line) ++ title_line) ++ table_line) ++ chart_
 -- a row of the table: a name, a number in decimal digits with its unit, and the rule that it is counted by
 abbrev pub with_row : List ℕ → List ℕ → ℕ → List ℕ → List ℕ → List ℕ
 with_row text name number unit rule =
-    ((((((((text ++ codes "<tr><th>") ++ name) ++ codes "</th><td>") ++ decimal number) ++ codes " ") ++ unit)
+    ((((with_number (((text ++ codes "<tr><th>") ++ name) ++ codes "</th><td>") number ++ codes " ") ++ unit)
     ++ codes "</td><td>") ++ rule) ++ codes "</td></tr>\n"
+
+-- a row of a number of tenths
+abbrev pub with_tenths_row : List ℕ → List ℕ → ℕ → List ℕ → List ℕ → List ℕ
+with_tenths_row text name tenths unit rule =
+    ((((with_tenths (((text ++ codes "<tr><th>") ++ name) ++ codes "</th><td>") tenths ++ codes " ") ++ unit)
+    ++ codes "</td><td>") ++ rule) ++ codes "</td></tr>\n"
+
+-- a sentence of a number between two texts
+abbrev pub with_note : List ℕ → List ℕ → ℕ → List ℕ → List ℕ
+with_note text before number after =
+    (with_number ((text ++ codes "<p>") ++ before) number ++ after) ++ codes "</p>\n"
+
+-- the name of a column
+abbrev pub with_name : List ℕ → List ℕ → List ℕ
+with_name text name = ((text ++ codes "<th>") ++ name) ++ codes "</th>"
+
+-- where a table of numbers begins: the names of its four columns
+abbrev pub with_columns : List ℕ → List ℕ → List ℕ → List ℕ → List ℕ → List ℕ
+with_columns text first second third fourth =
+    with_name (with_name (with_name (with_name (text ++ codes "<table>\n<tr>") first) second) third) fourth
+    ++ codes "</tr>\n"
+
+-- a number in a cell of its own
+abbrev pub with_cell : List ℕ → ℕ → List ℕ
+with_cell text number = with_number (text ++ codes "<td>") number ++ codes "</td>"
+
+-- a row of four numbers
+abbrev pub with_numbers : List ℕ → ℕ → ℕ → ℕ → ℕ → List ℕ
+with_numbers text first second third fourth =
+    with_cell (with_cell (with_cell (with_cell (text ++ codes "<tr>") first) second) third) fourth ++ codes "</tr>\n"
 
 -- the end of the table
 abbrev pub with_table_end : List ℕ → List ℕ

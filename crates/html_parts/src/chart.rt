@@ -1,9 +1,9 @@
 //! A chart of points.
 ghost use Rattle.std.specs.Prelude.{◌≡◌, ◌≤◌, ◌+◌, ◌*◌, length, take};
-ghost use Rattle.html_parts.specs.Chart.{with_number, with_title, with_numbered_title, with_caption, with_frame, with_point, with_points, with_chart};
+ghost use Rattle.html_parts.specs.Chart.{with_title, with_numbered_title, with_most, with_caption, with_label, with_frame, with_point, with_points, with_chart};
 
+use crate::digits::put_number;
 use crate::points::greatest;
-use itoa::Buffer;
 use octet_fields::put_at;
 
 /// The most points of a chart.
@@ -12,8 +12,8 @@ pub const MAX_POINTS: usize = 4096;
 /// How many octets a point has at most.
 const POINT_LEN: usize = 42;
 
-/// How many octets a chart has at most beside its name and its unit.
-pub const CHART_LEN: usize = 400 + MAX_POINTS * POINT_LEN;
+/// How many octets a chart has at most beside its name.
+pub const CHART_LEN: usize = 600 + MAX_POINTS * POINT_LEN;
 
 /// How many octets a title has at most beside its name.
 pub const TITLE_LEN: usize = 40;
@@ -39,28 +39,20 @@ pub fn put_numbered_title(out: &mut [u8], at: usize, name: &str, number: u64) ->
 }
 
 /// Puts a chart behind its title: the greatest of its points with their unit, how many seconds wide each bucket is, and a
-/// line through all points, the first at the left.
+/// step for each point, as wide as a bucket, the first at the left.
 pub fn put_chart(out: &mut [u8], at: usize, unit: &str, width: u64, points: &[u64]) -> usize
     requires few { length points.now ≤ MAX_POINTS }
-    requires room { at + length unit.now + CHART_LEN ≤ length out.old }
+    requires short { length unit.now ≤ 40 }
+    requires room { at + CHART_LEN ≤ length out.old }
     ensures octets { take result out.new ≡ with_chart (take at out.old) unit.now width points.now }
-    ensures within { result ≤ at + length unit.now + CHART_LEN }
+    ensures within { result ≤ at + CHART_LEN }
 {
     let most = greatest(points);
     let at = put_caption(out, at, unit, width, most);
+    let at = put_label(out, at, unit, width, most);
     let at = put_frame(out, at, points.len() as u64, most.max(1));
     let at = put_points(out, at, points);
     put_at(out, at, b"'/></svg></section>\n")
-}
-
-// A number in decimal digits.
-fn put_number(out: &mut [u8], at: usize, number: u64) -> usize
-    requires room { at + 20 ≤ length out.old }
-    ensures octets { take result out.new ≡ with_number (take at out.old) number }
-    ensures within { result ≤ at + 20 }
-{
-    let mut digits = Buffer::new();
-    put_at(out, at, digits.format(number).as_bytes())
 }
 
 // What stands above a chart.
@@ -69,13 +61,34 @@ fn put_caption(out: &mut [u8], at: usize, unit: &str, width: u64, most: u64) -> 
     ensures octets { take result out.new ≡ with_caption (take at out.old) unit.now width most }
     ensures within { result ≤ at + length unit.now + 100 }
 {
-    let at = put_at(out, at, b"</h2><p>At most ");
+    let at = put_at(out, at, b"</h2><p>");
+    let at = put_most(out, at, unit, width, most);
+    put_at(out, at, b"</p>\n")
+}
+
+// What a chart is called where it isn't seen.
+fn put_label(out: &mut [u8], at: usize, unit: &str, width: u64, most: u64) -> usize
+    requires room { at + length unit.now + 100 ≤ length out.old }
+    ensures octets { take result out.new ≡ with_label (take at out.old) unit.now width most }
+    ensures within { result ≤ at + length unit.now + 100 }
+{
+    let at = put_at(out, at, b"<svg role=img aria-label='");
+    put_most(out, at, unit, width, most)
+}
+
+// The greatest of some points.
+fn put_most(out: &mut [u8], at: usize, unit: &str, width: u64, most: u64) -> usize
+    requires room { at + length unit.now + 55 ≤ length out.old }
+    ensures octets { take result out.new ≡ with_most (take at out.old) unit.now width most }
+    ensures within { result ≤ at + length unit.now + 55 }
+{
+    let at = put_at(out, at, b"At most ");
     let at = put_number(out, at, most);
     let at = put_at(out, at, b" ");
     let at = put_at(out, at, unit.as_bytes());
     let at = put_at(out, at, b" in ");
     let at = put_number(out, at, width);
-    put_at(out, at, b" s</p>\n")
+    put_at(out, at, b" s")
 }
 
 // How the line is drawn: a unit of the frame is a bucket to the right, and one of what is counted upwards.
@@ -84,16 +97,16 @@ fn put_frame(out: &mut [u8], at: usize, count: u64, high: u64) -> usize
     ensures octets { take result out.new ≡ with_frame (take at out.old) count high }
     ensures within { result ≤ at + 200 }
 {
-    let at = put_at(out, at, b"<svg preserveAspectRatio=none viewBox='0 0 ");
+    let at = put_at(out, at, b"' preserveAspectRatio=none viewBox='0 0 ");
     let at = put_number(out, at, count);
     let at = put_at(out, at, b" ");
     let at = put_number(out, at, high);
-    let at = put_at(out, at, b"'><polyline transform='matrix(1 0 0 -1 0 ");
+    let at = put_at(out, at, b"'><path transform='matrix(1 0 0 -1 0 ");
     let at = put_number(out, at, high);
-    put_at(out, at, b")' points='")
+    put_at(out, at, b")' d='M0 0")
 }
 
-// The points, each with its place from 0 on.
+// The points, each with its place.
 fn put_points(out: &mut [u8], at: usize, points: &[u64]) -> usize
     requires few { length points.now ≤ MAX_POINTS }
     requires room { at + POINT_LEN * length points.now ≤ length out.old }
@@ -102,19 +115,19 @@ fn put_points(out: &mut [u8], at: usize, points: &[u64]) -> usize
 {
     let mut end = at;
     for (place, point) in points.iter().enumerate() {
-        end = put_point(out, end, place as u64, *point);
+        end = put_point(out, end, place as u64 + 1, *point);
     }
     end
 }
 
-// A point.
-fn put_point(out: &mut [u8], at: usize, place: u64, point: u64) -> usize
+// A step: upwards or down to a point, and to the right.
+fn put_point(out: &mut [u8], at: usize, right: u64, point: u64) -> usize
     requires room { at + POINT_LEN ≤ length out.old }
-    ensures octets { take result out.new ≡ with_point (take at out.old) place point }
+    ensures octets { take result out.new ≡ with_point (take at out.old) right point }
     ensures within { result ≤ at + POINT_LEN }
 {
-    let at = put_number(out, at, place);
-    let at = put_at(out, at, b",");
+    let at = put_at(out, at, b"V");
     let at = put_number(out, at, point);
-    put_at(out, at, b" ")
+    let at = put_at(out, at, b"H");
+    put_number(out, at, right)
 }

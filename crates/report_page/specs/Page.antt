@@ -1,7 +1,12 @@
 -- The page of a session's figures: a table of what it came to in all, and a chart of each figure over time.
-use Rattle.std.specs.Prelude.{ℕ, ◌+◌, ◌*◌, ◌/◌, List, [], ◌∷◌, codes, ◌==◌, if◌then◌else◌}
+use Rattle.std.specs.Prelude.{◌≡◌, ℕ, zero, suc, ◌+◌, ◌*◌, ◌/◌, List, [], ◌∷◌, length, slice_index_or, codes, ◌==◌}
+use Rattle.std.specs.Prelude.{if◌then◌else◌}
+use Rattle.link_channels.specs.declared.bounds.TheConstants.{MAX_LINKS}
+use Rattle.session_figures.specs.declared.table.Table.{Table}
 use Rattle.time_series.specs.Points.{capped}
-use Rattle.html_parts.specs.Page.{with_head, with_row, with_table_end, with_foot}
+use Rattle.value_histogram.specs.declared.spread.Spread.{Spread}
+use Rattle.html_parts.specs.Page.{with_head, with_row, with_tenths_row, with_columns, with_numbers, with_note}
+use Rattle.html_parts.specs.Page.{with_table_end, with_foot}
 use Rattle.html_parts.specs.Chart.{total_of, with_title, with_numbered_title, with_chart}
 use Rattle.session_figures.specs.Figures.{Figures}
 
@@ -30,16 +35,79 @@ with_came_rows text f =
     (codes "Recovered") f.recovered (codes "kept, and a retransmission"))
     (codes "Never written") f.missing (codes "numbers passed without a packet")
 
--- what came in vain, and how wide a bucket of the charts is
+-- how the jitter of packets is spread
+abbrev pub with_jitter_rows : List ℕ → Spread → List ℕ
+with_jitter_rows text jitter =
+    with_tenths_row (with_tenths_row (with_tenths_row text
+    (codes "Jitter, least") jitter.least (codes "ms")
+    (codes "time between two first-time packets, against that between their timestamps"))
+    (codes "Jitter, median") jitter.median (codes "ms") (codes "at most half are greater"))
+    (codes "Jitter, 99%") jitter.high (codes "ms") (codes "at most one in a hundred is greater")
+
+-- how round-trip times are spread, if there is any
+abbrev pub with_trip_rows : List ℕ → Spread → List ℕ
+with_trip_rows text trips =
+    if trips.count == 0 then text
+    else with_row (with_row (with_row (with_row text
+    (codes "Round trips") trips.count (codes "samples") (codes "responses to requests of at most ten seconds before"))
+    (codes "Round trip, least") trips.least (codes "ms")
+    (codes "from the moment in the response to its coming, less its delay"))
+    (codes "Round trip, median") trips.median (codes "ms") (codes "at most half are greater"))
+    (codes "Round trip, most") trips.greatest (codes "ms") (codes "none is greater")
+
+-- what came in vain, how often the flow restarted, and how wide a bucket of the charts is
 abbrev pub with_last_rows : List ℕ → Figures → List ℕ
 with_last_rows text f =
-    with_row (with_packets text
+    with_row (with_row (with_packets text
     (codes "Late") f.late (codes "came after their deadline or the playout"))
-    (codes "Bucket") f.width (codes "s") (codes "of the charts below: a second, or twice that as often as needed")
+    (codes "Restarts") (total_of f.restarts) (codes "restarts") (codes "another flow took the place of the one before"))
+    (codes "Bucket") f.width (codes "s") (codes "of the charts below: 1 s, doubled until 4,096 are enough")
 
 -- the table of all that
 abbrev pub with_table : List ℕ → Figures → List ℕ
-with_table text f = with_table_end (with_last_rows (with_came_rows (with_sent_rows text f) f) f)
+with_table text f =
+    with_table_end (with_last_rows (with_trip_rows (with_jitter_rows (with_came_rows (with_sent_rows text f) f)
+    f.jitter) f.trips) f)
+
+-- ---- links
+
+-- a table has three series for each link that there may be
+pub record HasAllLinks (t : Table) : Type 0 where
+  pub octets : length t.links.items ≡ MAX_LINKS
+  pub first : length t.first_links.items ≡ MAX_LINKS
+  pub recovered : length t.recovered_links.items ≡ MAX_LINKS
+
+-- the sum of a link's points, and 0 where there are none
+abbrev pub total_on : ℕ → List (List ℕ) → ℕ
+total_on link links = total_of (slice_index_or links link [])
+
+-- the row of a link, if any octet came on it: its place, its octets, and its packets that were received first time and
+-- that were recovered
+abbrev pub with_link_row : List ℕ → ℕ → ℕ → ℕ → ℕ → List ℕ
+with_link_row text link octets first recovered =
+    if octets == 0 then text else with_numbers text link octets first recovered
+
+-- the rows of so many links, from 0 on
+unfoldable pub with_link_rows : List ℕ → ℕ → List (List ℕ) → List (List ℕ) → List (List ℕ) → List ℕ
+with_link_rows text zero links firsts recovered = text
+with_link_rows text (suc link) links firsts recovered =
+    with_link_row (with_link_rows text link links firsts recovered) link (total_on link links) (total_on link firsts)
+    (total_on link recovered)
+
+-- how the charts are to be read, in a session of so many ticks
+abbrev pub with_reading : List ℕ → ℕ → List ℕ
+with_reading text ticks =
+    with_note text (codes "Each chart runs from 0 s to the end after ") (ticks / 90000)
+    (codes " s, and its lower edge is 0. Its last bucket is cut short by the end.")
+
+-- the table of links, and that
+abbrev pub with_link_table : List ℕ → ℕ → List (List ℕ) → List (List ℕ) → List (List ℕ) → List ℕ
+with_link_table text ticks links firsts recovered =
+    with_reading (with_table_end (with_link_rows
+    (with_columns text (codes "Link") (codes "Octets") (codes "First time") (codes "Recovered"))
+    MAX_LINKS links firsts recovered)) ticks
+
+-- ---- charts
 
 -- a chart with its title
 abbrev pub with_titled_chart : List ℕ → List ℕ → List ℕ → ℕ → List ℕ → List ℕ
@@ -53,28 +121,44 @@ with_came_charts text f =
     (codes "First time") (codes "packets") f.width f.first)
     (codes "Recovered") (codes "packets") f.width f.recovered
 
--- what was not, and what came in vain
+-- the same, if any of its points isn't 0
+abbrev pub with_some_chart : List ℕ → List ℕ → List ℕ → ℕ → List ℕ → List ℕ
+with_some_chart text name unit width points =
+    if total_of points == 0 then text else with_titled_chart text name unit width points
+
+-- what was not, what came in vain, and restarts, if there was any
 abbrev pub with_lost_charts : List ℕ → Figures → List ℕ
 with_lost_charts text f =
-    with_titled_chart (with_titled_chart text
+    with_some_chart (with_titled_chart (with_titled_chart text
     (codes "Never written") (codes "packets") f.width f.missing)
-    (codes "Late") (codes "packets") f.width f.late
+    (codes "Late") (codes "packets") f.width f.late)
+    (codes "Restarts") (codes "restarts") f.width f.restarts
 
--- the octets that came on a link, if any did
-abbrev pub with_link : List ℕ → ℕ → ℕ → List ℕ → List ℕ
-with_link text width link points =
-    if total_of points == 0 then text
-    else with_chart (with_numbered_title text (codes "Link ") link) (codes "octets") width points
+-- an amount that came on a link, if any did: under a name and the link's place
+abbrev pub with_link : List ℕ → List ℕ → List ℕ → ℕ → ℕ → List ℕ → List ℕ
+with_link text name unit width link points =
+    if total_of points == 0 then text else with_chart (with_numbered_title text name link) unit width points
 
 -- those of links from this one on
-abbrev pub with_links : List ℕ → ℕ → ℕ → List (List ℕ) → List ℕ
-with_links text width link [] = text
-with_links text width link (points ∷ links) = with_links (with_link text width link points) width (link + 1) links
+abbrev pub with_links : List ℕ → List ℕ → List ℕ → ℕ → ℕ → List (List ℕ) → List ℕ
+with_links text name unit width link [] = text
+with_links text name unit width link (points ∷ links) =
+    with_links (with_link text name unit width link points) name unit width (link + 1) links
+
+-- the octets that came on links, the packets that were received first time on each, and those that were recovered
+abbrev pub with_link_charts : List ℕ → Figures → List ℕ
+with_link_charts text f =
+    with_links (with_links (with_links text
+    (codes "Link ") (codes "octets") f.width 0 f.links)
+    (codes "First time, link ") (codes "packets") f.width 0 f.first_links)
+    (codes "Recovered, link ") (codes "packets") f.width 0 f.recovered_links
 
 -- the page up to where the charts of links begin
 abbrev pub front_of : Figures → List ℕ
-front_of f = with_lost_charts (with_came_charts (with_table (with_head []) f) f) f
+front_of f =
+    with_lost_charts (with_came_charts (with_link_table (with_table (with_head []) f) f.ticks f.links f.first_links
+    f.recovered_links) f) f
 
 -- the page
 abbrev pub page_of : Figures → List ℕ
-page_of f = with_foot (with_links (front_of f) f.width 0 f.links)
+page_of f = with_foot (with_link_charts (front_of f) f)

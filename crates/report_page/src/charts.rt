@@ -1,8 +1,8 @@
 //! The charts of the page.
 ghost use Rattle.std.specs.Prelude.{◌≡◌, ◌≤◌, ◌+◌, ◌*◌, length, take, map};
 ghost use Rattle.time_series.specs.Points.{shown_points};
-ghost use Rattle.session_figures.specs.Counting.{figures_in};
-ghost use Rattle.report_page.specs.Page.{with_came_charts, with_lost_charts, with_link, with_links, with_titled_chart};
+ghost use Rattle.session_figures.specs.Counting.{figures_seen};
+ghost use Rattle.report_page.specs.Page.{with_came_charts, with_lost_charts, with_link, with_links, with_some_chart, with_titled_chart};
 
 use html_parts::{CHART_LEN, put_chart, put_numbered_title, put_title, total};
 use session_figures::Figures;
@@ -15,7 +15,7 @@ pub const TITLED_LEN: usize = CHART_LEN + 100;
 pub fn put_came_charts(out: &mut [u8], at: usize, figures: &Figures<'_>) -> usize
     requires room { at + 3 * TITLED_LEN ≤ length out.old }
     ensures octets { take result out.new
-        ≡ with_came_charts (take at out.old) (figures_in figures.now.ticks figures.now.sent figures.now.table.now) }
+        ≡ with_came_charts (take at out.old) (figures_seen figures.now) }
     ensures within { result ≤ at + 3 * TITLED_LEN }
 {
     let table = figures.table;
@@ -25,28 +25,37 @@ pub fn put_came_charts(out: &mut [u8], at: usize, figures: &Figures<'_>) -> usiz
     put_titled(out, at, "Recovered", "packets", width, &table.recovered)
 }
 
-/// Puts the charts of what was not, and of what came in vain.
+/// Puts the charts of what was not, of what came in vain, and of restarts, if there was any.
 pub fn put_lost_charts(out: &mut [u8], at: usize, figures: &Figures<'_>) -> usize
-    requires room { at + 2 * TITLED_LEN ≤ length out.old }
+    requires room { at + 3 * TITLED_LEN ≤ length out.old }
     ensures octets { take result out.new
-        ≡ with_lost_charts (take at out.old) (figures_in figures.now.ticks figures.now.sent figures.now.table.now) }
-    ensures within { result ≤ at + 2 * TITLED_LEN }
+        ≡ with_lost_charts (take at out.old) (figures_seen figures.now) }
+    ensures within { result ≤ at + 3 * TITLED_LEN }
 {
     let table = figures.table;
     let width = table.kept.width();
     let at = put_titled(out, at, "Never written", "packets", width, &table.missing);
-    put_titled(out, at, "Late", "packets", width, &table.late)
+    let at = put_titled(out, at, "Late", "packets", width, &table.late);
+    put_some(out, at, "Restarts", "restarts", width, &table.restarts)
 }
 
-/// Puts the charts of the links on which any octet came.
-pub fn put_links(out: &mut [u8], at: usize, width: u64, links: &[Series]) -> usize
+/// Puts the charts of an amount that came on links, of each link on which any came.
+pub fn put_links(
+    out: &mut [u8],
+    at: usize,
+    name: &str,
+    unit: &str,
+    width: u64,
+    links: &[Series],
+) -> usize
+    requires short { length name.now + length unit.now ≤ 40 }
     requires room { at + TITLED_LEN * length links.now ≤ length out.old }
-    ensures octets { take result out.new ≡ with_links (take at out.old) width 0 (map shown_points links.now) }
+    ensures octets { take result out.new ≡ with_links (take at out.old) name.now unit.now width 0 (map shown_points links.now) }
     ensures within { result ≤ at + TITLED_LEN * length links.now }
 {
     let mut end = at;
     for (link, series) in links.iter().enumerate() {
-        end = put_link(out, end, width, link as u64, series);
+        end = put_link(out, end, name, unit, width, link as u64, series);
     }
     end
 }
@@ -70,16 +79,39 @@ fn put_titled(
     put_chart(out, at, unit, width, series.points())
 }
 
-// The chart of a link, if any octet came on it.
-fn put_link(out: &mut [u8], at: usize, width: u64, link: u64, series: &Series) -> usize
+// A chart with its title, if any of its points isn't 0.
+fn put_some(out: &mut [u8], at: usize, name: &str, unit: &str, width: u64, series: &Series) -> usize
+    requires short { length name.now + length unit.now ≤ 40 }
     requires room { at + TITLED_LEN ≤ length out.old }
-    ensures octets { take result out.new ≡ with_link (take at out.old) width link (shown_points series.now) }
+    ensures octets { take result out.new
+        ≡ with_some_chart (take at out.old) name.now unit.now width (shown_points series.now) }
+    ensures within { result ≤ at + TITLED_LEN }
+{
+    if total(series.points()) == 0 {
+        return at;
+    }
+    put_titled(out, at, name, unit, width, series)
+}
+
+// The chart of a link, if any of its points isn't 0.
+fn put_link(
+    out: &mut [u8],
+    at: usize,
+    name: &str,
+    unit: &str,
+    width: u64,
+    link: u64,
+    series: &Series,
+) -> usize
+    requires short { length name.now + length unit.now ≤ 40 }
+    requires room { at + TITLED_LEN ≤ length out.old }
+    ensures octets { take result out.new ≡ with_link (take at out.old) name.now unit.now width link (shown_points series.now) }
     ensures within { result ≤ at + TITLED_LEN }
 {
     let points = series.points();
     if total(points) == 0 {
         return at;
     }
-    let at = put_numbered_title(out, at, "Link ", link);
-    put_chart(out, at, "octets", width, points)
+    let at = put_numbered_title(out, at, name, link);
+    put_chart(out, at, unit, width, points)
 }

@@ -3,6 +3,7 @@
 #![tactic(auto)]
 
 mod charts;
+mod link_table;
 mod page;
 mod page_writer;
 mod reporting;

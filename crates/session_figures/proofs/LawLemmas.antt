@@ -17,7 +17,8 @@ use Rattle.receiver_rules.specs.ReceiverSteps.{buffer_event}
 use Rattle.request_rules.specs.Steps as inputs
 use Rattle.request_rules.specs.Steps.{Step as ReceiverStep, buffer_history}
 use Rattle.session_figures.specs.declared.amounts.Amounts.{Amounts}
-use Rattle.session_figures.specs.Amounts.{amounts_by, amounts_of, missing_by, one_if}
+use Rattle.session_figures.specs.declared.amounts.Passed.{Passed}
+use Rattle.session_figures.specs.Amounts.{amounts_by, amounts_of, passed_by, one_if}
 use Rattle.session_figures.specs.Figures.{Entry, entries_of, first_count, recovered_count}
 use Rattle.std.proofs.lemmas.List.Sums.{sum_by-cons}
 
@@ -222,18 +223,18 @@ sum_cons : (x : ℕ) (xs : List ℕ) → sum (x ∷ xs) ≡ x + sum xs
 sum_cons x xs = sum_by-cons (λ (n : ℕ). n) x xs
 
 -- what came with a step was kept, or not
-step_more : (limits : Limits) (before : List ReceiverStep) (link tick missing : ℕ) (input : inputs.Input)
-    → ((amounts_by limits before link tick missing input).first + (amounts_by limits before link tick missing input).recovered) + kept_over (epochs_of limits (buffer_history before))
+step_more : (limits : Limits) (before : List ReceiverStep) (link tick : ℕ) (passed : Passed) (input : inputs.Input)
+    → ((amounts_by limits before link tick passed input).first + (amounts_by limits before link tick passed input).recovered) + kept_over (epochs_of limits (buffer_history before))
     ≡ kept_over (epochs_after limits (epochs_of limits (buffer_history before)) (max tick (effective_time (buffer_history before))) (buffer_event (inputs.receiver_input input)))
-step_more limits before link tick missing (inputs.Media arrival) =
+step_more limits before link tick passed (inputs.Media arrival) =
     let both = one_of_both (is_kept (verdict limits (buffer_history before) tick arrival)) arrival.again in
     let more = arrival_more limits (epochs_of limits (buffer_history before)) (max tick (effective_time (buffer_history before))) arrival in
     omega (arith, both, more)
-step_more limits before link tick missing (inputs.Control sample request) = omega arith
-step_more limits before link tick missing inputs.Keepalive = omega arith
-step_more limits before link tick missing inputs.Refused = omega arith
-step_more limits before link tick missing (inputs.Tick micros) = omega arith
-step_more limits before link tick missing inputs.End = omega arith
+step_more limits before link tick passed (inputs.Control sample request) = omega arith
+step_more limits before link tick passed inputs.Keepalive = omega arith
+step_more limits before link tick passed inputs.Refused = omega arith
+step_more limits before link tick passed (inputs.Tick micros) = omega arith
+step_more limits before link tick passed inputs.End = omega arith
 
 came_is : (limits : Limits) (history : List ReceiverStep) → first_count limits history + recovered_count limits history ≡ kept_over (epochs_of limits (buffer_history history))
 came_is limits [] = refl
@@ -242,7 +243,7 @@ came_is limits (step ∷ before) =
     let firsts : List ℕ = map (λ (e : Entry). e.amounts.first) (entries_of limits before) in
     let recovered : List ℕ = map (λ (e : Entry). e.amounts.recovered) (entries_of limits before) in
     let rest = came_is limits before in
-    let more = step_more limits before step.link step.tick (missing_by limits before step) step.input in
+    let more = step_more limits before step.link step.tick (passed_by limits before step) step.input in
     ap (λ (n : ℕ). n + sum (a.recovered ∷ recovered)) (sum_cons a.first firsts) ∙ ap (λ (n : ℕ). (a.first + sum firsts) + n) (sum_cons a.recovered recovered) ∙ omega (arith, rest, more)
 
 -- what was sent came first time, was recovered or is missing

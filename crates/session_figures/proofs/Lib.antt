@@ -1,3 +1,4 @@
+pub mod JitterLemmas
 pub mod NumberLemmas
 pub mod FigureLemmas
 pub mod LawLemmas

@@ -4,11 +4,14 @@ use Rattle.std.specs.Option.{unwrap_or}
 use Rattle.std.specs.List.{range_with_len, sum}
 use Rattle.link_channels.specs.declared.bounds.TheConstants.{MAX_LINKS}
 use Rattle.time_series.specs.Points.{Mark, capped, points_of, width_of}
+use Rattle.value_histogram.specs.declared.spread.Spread.{Spread}
+use Rattle.value_histogram.specs.Ranks.{spread_of}
 use Rattle.receiver_rules.specs.declared.limits.Limits.{Limits}
 use Rattle.request_rules.specs.Steps.{Step, buffer_history, effective_time}
 use Rattle.session_figures.specs.declared.amounts.Amounts.{Amounts}
 use Rattle.session_figures.specs.Numbers.{sent_count}
-use Rattle.session_figures.specs.Amounts.{amounts_of, octets_on}
+use Rattle.session_figures.specs.Amounts.{amounts_of, first_on, octets_on, recovered_on}
+use Rattle.session_figures.specs.Spreads.{jitters_of, trips_of}
 
 -- ---- time
 
@@ -51,41 +54,58 @@ recovered_count limits history = sum (map (λ entry. entry.amounts.recovered) (e
 
 -- ---- the figures
 
--- how long it took, in ticks of 1/90,000 s; how many packets were sent; how many seconds wide a bucket is; and in each
--- bucket: the octets of payloads that came on each link, the octets of packets that were kept, the packets that were
--- received first time and those that a retransmission recovered, the numbers that the playout passed without a packet,
--- and the packets that came too late
+-- how long it took, in ticks of 1/90,000 s; how many packets were sent; how jitter is spread, in tenths of a
+-- millisecond, and how round-trip times are, in milliseconds; how many seconds wide a bucket is; and in each bucket: the
+-- octets of payloads that came on each link, the packets that were received first time on each and those that a
+-- retransmission on each recovered, the octets of packets that were kept, the packets that were received first time and
+-- those that a retransmission recovered, the numbers that the playout passed without a packet, the packets that came too
+-- late, and how often the flow restarted
 pub record Figures : Type 0 where
   pub ticks : ℕ
   pub sent : ℕ
+  pub jitter : Spread
+  pub trips : Spread
   pub width : ℕ
   pub links : List (List ℕ)
+  pub first_links : List (List ℕ)
+  pub recovered_links : List (List ℕ)
   pub kept : List ℕ
   pub first : List ℕ
   pub recovered : List ℕ
   pub missing : List ℕ
   pub late : List ℕ
+  pub restarts : List ℕ
 
 -- the sums of one amount in each bucket
 abbrev pub sums_by : (Amounts → ℕ) → List Entry → List ℕ
 sums_by amount entries = points_of (marks_by amount entries)
 
+-- the sums of one amount of each link
+abbrev pub links_by : (ℕ → Amounts → ℕ) → List Entry → List (List ℕ)
+links_by amount entries = map (λ link. sums_by (amount link) entries) (range_with_len 0 MAX_LINKS)
+
 -- the figures of what steps added
-abbrev pub figures_by : ℕ → ℕ → List Entry → Figures
-figures_by ticks sent entries =
+abbrev pub figures_by : ℕ → ℕ → Spread → Spread → List Entry → Figures
+figures_by ticks sent jitter trips entries =
     record {
       ticks = ticks;
       sent = sent;
+      jitter = jitter;
+      trips = trips;
       width = width_of (marks_by (λ a. a.kept) entries);
-      links = map (λ link. sums_by (octets_on link) entries) (range_with_len 0 MAX_LINKS);
+      links = links_by octets_on entries;
+      first_links = links_by first_on entries;
+      recovered_links = links_by recovered_on entries;
       kept = sums_by (λ a. a.kept) entries;
       first = sums_by (λ a. a.first) entries;
       recovered = sums_by (λ a. a.recovered) entries;
-      missing = sums_by (λ a. a.missing) entries;
+      missing = sums_by (λ a. a.passed.missing) entries;
       late = sums_by (λ a. a.late) entries;
+      restarts = sums_by (λ a. a.passed.restarts) entries;
     }
 
 -- the figures of a history
 abbrev pub figures_of : Limits → List Step → Figures
 figures_of limits history =
-    figures_by (ticks_of history) (capped (sent_count limits (buffer_history history))) (entries_of limits history)
+    figures_by (ticks_of history) (capped (sent_count limits (buffer_history history)))
+    (spread_of (jitters_of limits history)) (spread_of (trips_of history)) (entries_of limits history)

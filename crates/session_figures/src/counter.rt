@@ -2,17 +2,20 @@
 ghost use Rattle.std.specs.Prelude.{◌≡◌, ◌≢◌, ◌-◌, ◌/◌, List, ◌∷◌, Some, IfOk};
 ghost use Rattle.std.specs.Option.{unwrap_or};
 
-use crate::amounts::Amounts;
+use crate::amounts::{Amounts, Passed};
 use crate::figures::Figures;
+use crate::jitter::Jitter;
 use crate::numbers::Numbers;
-use crate::stepping::{flush, missing_now, sent_now, step_buffer};
+use crate::stepping::{flush, missing_now, sent_now, stamp_of, step_buffer};
 use crate::table::Table;
+use crate::trips::take_trip;
 use outside_io::NoMemory;
 use receiver_rules::tick_of;
 use reorder_buffer::Buffer;
 use rist_ends::{Settings, Told};
 use std::alloc::Global;
 use std::marker::Model;
+use value_histogram::Histogram;
 
 /// A playout buffer whose payloads nobody wants, and the figures of the steps that it was told.
 #[derive(Drop)]
@@ -26,6 +29,9 @@ pub struct Counter {
     /// How many numbers the playout has passed without a packet.
     missing: u64,
     table: Table,
+    jitter: Jitter,
+    /// How often each round-trip time came, in milliseconds.
+    trips: Histogram,
 }
 
 impl Model for Counter {
@@ -40,6 +46,8 @@ impl Model for Counter {
       numbers = c.numbers;
       missing = c.missing;
       table = c.table;
+      jitter = c.jitter;
+      trips = c.trips;
     } };
 
     ghost invariant = { λ c. IsInTime c.buffer c.time };
@@ -57,8 +65,8 @@ impl Counter {
     ghost use Rattle.time_series.specs.Points.{capped};
     ghost use Rattle.session_figures.specs.Numbers.{missing_count};
     ghost use Rattle.session_figures.specs.Figures.{Entry, figures_of};
-    ghost use Rattle.session_figures.specs.Counting.{AreNumbersOf, AreSeriesOf, IsCountedAfter, end_told, figures_in};
-    ghost use Rattle.session_figures.specs.Inside.Taking.{with_missing};
+    ghost use Rattle.session_figures.specs.Counting.{AreNumbersOf, AreSeriesOf, IsCountedAfter, end_told, figures_seen};
+    ghost use Rattle.session_figures.specs.Inside.Taking.{with_passed};
 
     /// One that was told nothing, with the limits of these settings. All memory of a counting is taken here.
     pub fn with(alloc: Global, settings: &Settings) -> Result<Counter, NoMemory>
@@ -81,6 +89,8 @@ impl Counter {
             numbers: Numbers::none(),
             missing: 0,
             table: Table::new(alloc)?,
+            jitter: Jitter::new(alloc)?,
+            trips: Histogram::new(alloc)?,
         })
     }
 
@@ -96,10 +106,15 @@ impl Counter {
         if self.buffer.ended() {
             return;
         }
+        let epoch = self.buffer.epoch();
         let amounts = step_buffer(&mut self.buffer, &mut self.numbers, self.time, told);
+        let restarts = self.buffer.epoch().saturating_sub(epoch);
         let tick = tick_of(told.us);
+        self.jitter
+            .take(restarts, amounts.first, tick, stamp_of(&told.what));
+        take_trip(&mut self.trips, told);
         self.time = self.time.max(tick);
-        self.count(tick, amounts);
+        self.count(tick, amounts, 1, restarts);
     }
 
     /// Makes the step of the end, which moves no time. All that waits is let out.
@@ -113,26 +128,29 @@ impl Counter {
             return;
         }
         flush(&mut self.buffer);
-        self.count(0, Amounts::silent(0));
+        self.count(0, Amounts::silent(0), 0, 0);
     }
 
     /// The figures of the steps so far.
     pub fn figures(&self) -> Figures<'_>
         ensures value { self.now.buffer.phase ≢ Failed → (history : List Step) → IsCountedAfter self.now history
-            → figures_in result.ticks result.sent result.table.now
-            ≡ figures_of self.now.buffer.limits history }
+            → figures_seen result ≡ figures_of self.now.buffer.limits history }
     {
         Figures {
             ticks: self.time.saturating_sub(self.start.unwrap_or(0)),
             sent: sent_now(&self.buffer, &self.numbers),
+            jitter: self.jitter.values.spread(),
+            trips: self.trips.spread(),
             table: &self.table,
         }
     }
 
-    // Counts what a step added, which the buffer has made, and what the playout passed in it.
-    fn count(&mut self, tick: u64, amounts: Amounts)
+    // Counts what a step added, which the buffer has made, and what the playout passed in it: whether it is a record, and
+    // how often the flow restarted.
+    fn count(&mut self, tick: u64, amounts: Amounts, records: u64, restarts: u64)
         ensures same { (self.new.buffer ≡ self.old.buffer) × (self.new.numbers ≡ self.old.numbers)
-            × (self.new.time ≡ self.old.time) }
+            × ((self.new.time ≡ self.old.time) × ((self.new.jitter ≡ self.old.jitter)
+            × (self.new.trips ≡ self.old.trips))) }
         ensures start { self.new.start ≡ Some (unwrap_or self.old.start tick) }
         ensures missing { (history : List BufferStep) → IsStateAfter self.old.buffer history
             → self.old.buffer.phase ≢ Failed
@@ -141,13 +159,21 @@ impl Counter {
         ensures series { (entries : List Entry) → AreSeriesOf self.old.table entries
             → AreSeriesOf self.new.table (record {
               second = (self.old.time - unwrap_or self.old.start tick) / 90000;
-              amounts = with_missing amounts (self.new.missing - self.old.missing);
+              amounts = with_passed amounts (record {
+                records = records;
+                missing = self.new.missing - self.old.missing;
+                restarts = restarts;
+              });
             } ∷ entries) }
     {
         let start = self.start.unwrap_or(tick);
         let missing = missing_now(&self.buffer, &self.numbers);
         let mut added = amounts;
-        added.missing = missing.saturating_sub(self.missing);
+        added.passed = Passed {
+            records,
+            missing: missing.saturating_sub(self.missing),
+            restarts,
+        };
         self.table
             .add(self.time.saturating_sub(start) / 90_000, &added);
         self.start = Some(start);

@@ -1,5 +1,6 @@
 //! The figures of a session.
 use crate::table::Table;
+use value_histogram::Spread;
 
 /// The figures of the steps so far.
 #[derive(Clone, Copy)]
@@ -8,6 +9,10 @@ pub struct Figures<'a> {
     pub ticks: u64,
     /// How many packets were sent, by their numbers.
     pub sent: u64,
+    /// How jitter is spread, in tenths of a millisecond.
+    pub jitter: Spread,
+    /// How round-trip times are spread, in milliseconds.
+    pub trips: Spread,
     /// What was counted over time.
     pub table: &'a Table,
 }

@@ -1,5 +1,5 @@
 //! A step of the buffer, and what it adds.
-ghost use Rattle.std.specs.Prelude.{◌≡◌, ◌≢◌, ◌<◌, ◌≤◌, ◌^◌, max, length, List, ◌∷◌};
+ghost use Rattle.std.specs.Prelude.{◌≡◌, ◌≢◌, ◌<◌, ◌≤◌, ◌^◌, ℕ, max, length, List, ◌∷◌};
 ghost use Rattle.seq_unwrap.specs.Nearest.{cycle_of};
 ghost use Rattle.link_channels.specs.declared.bounds.TheConstants.{MAX_PAYLOAD};
 ghost use Rattle.time_series.specs.Points.{capped};
@@ -12,7 +12,8 @@ ghost use Rattle.reorder_buffer.specs.declared.phase.Phase.TheVariants.{Open, En
 ghost use Rattle.request_rules.specs.Steps.{Step as ReceiverStep, buffer_history};
 ghost use Rattle.rist_ends.specs.Told.{IsFit, IsFitArrival, IsNoEnd, step_of, buffer_step, input_of};
 ghost use Rattle.session_figures.specs.Numbers.{missing_count, sent_count};
-ghost use Rattle.session_figures.specs.Amounts.{amounts_by, media_amounts};
+ghost use Rattle.session_figures.specs.Amounts.{amounts_by, media_amounts, nothing_passed};
+ghost use Rattle.session_figures.specs.Spreads.{timestamp_in};
 ghost use Rattle.receiver_rules.specs.History.{verdict};
 ghost use Rattle.session_figures.specs.Counting.{AreNumbersOf};
 
@@ -35,7 +36,7 @@ pub fn step_buffer(buffer: &mut Buffer, numbers: &mut Numbers, now: u64, told: &
         → AreNumbersOf numbers.old (epochs_of buffer.old.limits (buffer_history history))
         → AreNumbersOf numbers.new (epochs_of buffer.old.limits (buffer_history (step_of told.now ∷ history))) }
     ensures amounts { (history : List ReceiverStep) → IsStateAfter buffer.old (buffer_history history)
-        → result ≡ amounts_by buffer.old.limits history told.now.link (tick_of told.now.us) 0
+        → result ≡ amounts_by buffer.old.limits history told.now.link (tick_of told.now.us) nothing_passed
         (input_of told.now.us told.now.what) }
     ensures time { (buffer.new.time ≡ max now (tick_of told.now.us)) × (buffer.new.phase ≡ Open) }
     ensures limits { buffer.new.limits ≡ buffer.old.limits }
@@ -47,6 +48,16 @@ pub fn step_buffer(buffer: &mut Buffer, numbers: &mut Numbers, now: u64, told: &
             release(buffer, now.max(tick));
             Amounts::silent(told.link)
         }
+    }
+}
+
+/// The timestamp of a media packet, and 0 where another thing came.
+pub fn stamp_of(what: &What<'_>) -> u32
+    ensures value { (us : ℕ) → result ≡ timestamp_in (input_of us what.now) }
+{
+    match what {
+        What::Media(arrival) => arrival.stamp,
+        What::Control(_) | What::Keepalive | What::Refused | What::Tick | What::End => 0,
     }
 }
 
@@ -69,7 +80,7 @@ fn step_media(
         → AreNumbersOf numbers.new (epochs_of buffer.old.limits (media_step tick (seen arrival.now) ∷ history)) }
     ensures amounts { (history : List Step) → IsStateAfter buffer.old history
         → result ≡ media_amounts link (verdict buffer.old.limits history tick (seen arrival.now)) arrival.now.again
-        (length arrival.now.payload.now) 0 }
+        (length arrival.now.payload.now) nothing_passed }
     ensures time { (buffer.new.time ≡ max now tick) × (buffer.new.phase ≡ Open) }
     ensures limits { buffer.new.limits ≡ buffer.old.limits }
 {

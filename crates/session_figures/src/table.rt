@@ -2,20 +2,24 @@
 ghost use Rattle.std.specs.Prelude.{◌≡◌, ◌≢◌, ◌<◌, ℕ, List, [], ◌∷◌, length, slice_index_or, IfOk};
 ghost use Rattle.link_channels.specs.declared.bounds.TheConstants.{MAX_LINKS};
 ghost use Rattle.time_series.specs.Points.{Mark, SeriesState, IsSeriesOf};
-ghost use Rattle.session_figures.specs.Amounts.{octets_on};
+ghost use Rattle.session_figures.specs.Amounts.{on_link};
 ghost use Rattle.session_figures.specs.Figures.{Entry};
 ghost use Rattle.session_figures.specs.Counting.{AreSeriesOf};
 
-use crate::amounts::Amounts;
+use crate::amounts::{Amounts, on_link};
 use link_channels::MAX_LINKS;
 use std::alloc::{AllocError, Global};
 use time_series::Series;
 
-/// A series for each link, and one for each thing that is counted.
+/// Three series for each link, and one for each thing that is counted.
 #[derive(Drop)]
 pub struct Table {
     /// The octets of payloads that came on each link.
     pub links: Vec<Series>,
+    /// The packets that were received first time on each link.
+    pub first_links: Vec<Series>,
+    /// The packets that a retransmission on each link recovered.
+    pub recovered_links: Vec<Series>,
     /// The octets of packets that were kept.
     pub kept: Series,
     /// The packets that were received first time.
@@ -26,6 +30,8 @@ pub struct Table {
     pub missing: Series,
     /// The packets that came too late.
     pub late: Series,
+    /// How often the flow restarted.
+    pub restarts: Series,
 }
 
 impl Table {
@@ -35,11 +41,14 @@ impl Table {
     {
         Ok(Table {
             links: new_links(alloc)?,
+            first_links: new_links(alloc)?,
+            recovered_links: new_links(alloc)?,
             kept: Series::new(alloc)?,
             first: Series::new(alloc)?,
             recovered: Series::new(alloc)?,
             missing: Series::new(alloc)?,
             late: Series::new(alloc)?,
+            restarts: Series::new(alloc)?,
         })
     }
 
@@ -48,12 +57,16 @@ impl Table {
         ensures series { (entries : List Entry) → AreSeriesOf self.old entries
             → AreSeriesOf self.new (record { second = second; amounts = amounts.now } ∷ entries) }
     {
-        add_to_links(&mut self.links, second, amounts);
+        let link = amounts.link;
+        add_to_all(&mut self.links, second, link, amounts.octets);
+        add_to_all(&mut self.first_links, second, link, amounts.first);
+        add_to_all(&mut self.recovered_links, second, link, amounts.recovered);
         self.kept.add(second, amounts.kept);
         self.first.add(second, amounts.first);
         self.recovered.add(second, amounts.recovered);
-        self.missing.add(second, amounts.missing);
+        self.missing.add(second, amounts.passed.missing);
         self.late.add(second, amounts.late);
+        self.restarts.add(second, amounts.passed.restarts);
     }
 }
 
@@ -70,27 +83,38 @@ fn new_links(alloc: Global) -> Result<Vec<Series>, AllocError>
     Ok(links)
 }
 
-// Adds the octets of a step to the series of its link, and none to each other.
-fn add_to_links(links: &mut [Series], second: u64, amounts: &Amounts)
+// Adds an amount to the series of the link that it came on, of all links.
+fn add_to_all(links: &mut Vec<Series>, second: u64, from: u8, amount: u64)
+    ensures count { length links.new.items ≡ length links.old.items }
+    ensures each { (link : ℕ) (d : SeriesState) (marks : List Mark) → link < length links.old.items
+        → IsSeriesOf (slice_index_or links.old.items link d) marks
+        → IsSeriesOf (slice_index_or links.new.items link d)
+        (record { second = second; amount = on_link link from amount } ∷ marks) }
+{
+    add_to_links(links, second, from, amount);
+}
+
+// Adds an amount to the series of the link that it came on, and none to each other.
+fn add_to_links(links: &mut [Series], second: u64, from: u8, amount: u64)
     ensures count { length links.new ≡ length links.old }
     ensures each { (link : ℕ) (d : SeriesState) (marks : List Mark) → link < length links.old
         → IsSeriesOf (slice_index_or links.old link d) marks
         → IsSeriesOf (slice_index_or links.new link d)
-        (record { second = second; amount = octets_on link amounts.now } ∷ marks) }
+        (record { second = second; amount = on_link link from amount } ∷ marks) }
 {
     for link in 0..links.len() {
-        add_at(links, link, second, amounts.octets_on(link));
+        add_at(links, link, second, on_link(link, from, amount));
     }
 }
 
-// Adds octets to the series of one link.
-fn add_at(links: &mut [Series], link: usize, second: u64, octets: u64)
+// Adds an amount to the series of one link.
+fn add_at(links: &mut [Series], link: usize, second: u64, amount: u64)
     requires among { link < length links.old }
     ensures count { length links.new ≡ length links.old }
     ensures added { (d : SeriesState) (marks : List Mark) → IsSeriesOf (slice_index_or links.old link d) marks
-        → IsSeriesOf (slice_index_or links.new link d) (record { second = second; amount = octets } ∷ marks) }
+        → IsSeriesOf (slice_index_or links.new link d) (record { second = second; amount = amount } ∷ marks) }
     ensures others { (w : ℕ) (d : SeriesState) → w ≢ link
         → slice_index_or links.new w d ≡ slice_index_or links.old w d }
 {
-    links[link].add(second, octets);
+    links[link].add(second, amount);
 }

@@ -1,5 +1,6 @@
 //! A worked capture and its page.
-ghost use Rattle.std.specs.Prelude.{◌≡◌, None};
+ghost use Rattle.std.specs.Prelude.{◌≡◌, ◌≤◌, None};
+ghost use Rattle.receiver_rules.specs.declared.bounds.TheConstants.{MAX_RESTART};
 ghost use Rattle.rist_wire.specs.Session.{IsSession};
 
 use capture_file::Reader;
@@ -30,7 +31,7 @@ pub const PAGE: &[u8] = b"<!DOCTYPE html>\n<html lang=en><head><meta charset=utf
 <title>RIST session</title><style>body{font-family:sans-serif;max-width:60em;margin:auto;padding:1em}\n\
 th,td{text-align:left;vertical-align:top;padding:.2em 1em .2em 0}section{break-inside:avoid}\n\
 svg{box-sizing:border-box;width:100%;height:8em;padding:6px;border:1px solid #999;overflow:visible}\n\
-polyline{fill:none;stroke:#000;vector-effect:non-scaling-stroke}\n\
+table{margin-bottom:1em}path{fill:none;stroke:#000;vector-effect:non-scaling-stroke}\n\
 </style></head><body><h1>RIST session</h1><table>\n\
 <tr><th>Length</th><td>3 s</td><td>from the first record to the last</td></tr>\n\
 <tr><th>Rate</th><td>0 kbit/s</td><td>octets written, over the length</td></tr>\n\
@@ -39,24 +40,61 @@ polyline{fill:none;stroke:#000;vector-effect:non-scaling-stroke}\n\
 <tr><th>First time</th><td>3 packets</td><td>kept, and no retransmission</td></tr>\n\
 <tr><th>Recovered</th><td>1 packets</td><td>kept, and a retransmission</td></tr>\n\
 <tr><th>Never written</th><td>2 packets</td><td>numbers passed without a packet</td></tr>\n\
+<tr><th>Jitter, least</th><td>0.0 ms</td><td>time between two first-time packets, against that between their timestamps</td></tr>\n\
+<tr><th>Jitter, median</th><td>0.0 ms</td><td>at most half are greater</td></tr>\n\
+<tr><th>Jitter, 99%</th><td>0.0 ms</td><td>at most one in a hundred is greater</td></tr>\n\
 <tr><th>Late</th><td>1 packets</td><td>came after their deadline or the playout</td></tr>\n\
-<tr><th>Bucket</th><td>1 s</td><td>of the charts below: a second, or twice that as often as needed</td></tr>\n\
+<tr><th>Restarts</th><td>0 restarts</td><td>another flow took the place of the one before</td></tr>\n\
+<tr><th>Bucket</th><td>1 s</td><td>of the charts below: 1 s, doubled until 4,096 are enough</td></tr>\n\
 </table>\n\
-<section><h2>Written</h2><p>At most 4 octets in 1 s</p>\n<svg preserveAspectRatio=none viewBox='0 0 4 4'>\
-<polyline transform='matrix(1 0 0 -1 0 4)' points='0,4 1,3 2,0 3,0 '/></svg></section>\n\
-<section><h2>First time</h2><p>At most 2 packets in 1 s</p>\n<svg preserveAspectRatio=none viewBox='0 0 4 2'>\
-<polyline transform='matrix(1 0 0 -1 0 2)' points='0,2 1,1 2,0 3,0 '/></svg></section>\n\
-<section><h2>Recovered</h2><p>At most 1 packets in 1 s</p>\n<svg preserveAspectRatio=none viewBox='0 0 4 1'>\
-<polyline transform='matrix(1 0 0 -1 0 1)' points='0,1 1,0 2,0 3,0 '/></svg></section>\n\
-<section><h2>Never written</h2><p>At most 2 packets in 1 s</p>\n<svg preserveAspectRatio=none viewBox='0 0 4 2'>\
-<polyline transform='matrix(1 0 0 -1 0 2)' points='0,0 1,0 2,0 3,2 '/></svg></section>\n\
-<section><h2>Late</h2><p>At most 1 packets in 1 s</p>\n<svg preserveAspectRatio=none viewBox='0 0 4 1'>\
-<polyline transform='matrix(1 0 0 -1 0 1)' points='0,0 1,1 2,0 3,0 '/></svg></section>\n\
-<section><h2>Link 0</h2><p>At most 3 octets in 1 s</p>\n<svg preserveAspectRatio=none viewBox='0 0 4 3'>\
-<polyline transform='matrix(1 0 0 -1 0 3)' points='0,3 1,3 2,0 3,0 '/></svg></section>\n\
-<section><h2>Link 1</h2><p>At most 2 octets in 1 s</p>\n<svg preserveAspectRatio=none viewBox='0 0 4 2'>\
-<polyline transform='matrix(1 0 0 -1 0 2)' points='0,1 1,2 2,0 3,0 '/></svg></section>\n\
+<table>\n<tr><th>Link</th><th>Octets</th><th>First time</th><th>Recovered</th></tr>\n\
+<tr><td>0</td><td>6</td><td>3</td><td>0</td></tr>\n<tr><td>1</td><td>3</td><td>0</td><td>1</td></tr>\n</table>\n\
+<p>Each chart runs from 0 s to the end after 3 s, and its lower edge is 0. Its last bucket is cut short by the end.</p>\n\
+<section><h2>Written</h2><p>At most 4 octets in 1 s</p>\n<svg role=img aria-label='At most 4 octets in 1 s' preserveAspectRatio=none viewBox='0 0 4 4'>\
+<path transform='matrix(1 0 0 -1 0 4)' d='M0 0V4H1V3H2V0H3V0H4'/></svg></section>\n\
+<section><h2>First time</h2><p>At most 2 packets in 1 s</p>\n<svg role=img aria-label='At most 2 packets in 1 s' preserveAspectRatio=none viewBox='0 0 4 2'>\
+<path transform='matrix(1 0 0 -1 0 2)' d='M0 0V2H1V1H2V0H3V0H4'/></svg></section>\n\
+<section><h2>Recovered</h2><p>At most 1 packets in 1 s</p>\n<svg role=img aria-label='At most 1 packets in 1 s' preserveAspectRatio=none viewBox='0 0 4 1'>\
+<path transform='matrix(1 0 0 -1 0 1)' d='M0 0V1H1V0H2V0H3V0H4'/></svg></section>\n\
+<section><h2>Never written</h2><p>At most 2 packets in 1 s</p>\n<svg role=img aria-label='At most 2 packets in 1 s' preserveAspectRatio=none viewBox='0 0 4 2'>\
+<path transform='matrix(1 0 0 -1 0 2)' d='M0 0V0H1V0H2V0H3V2H4'/></svg></section>\n\
+<section><h2>Late</h2><p>At most 1 packets in 1 s</p>\n<svg role=img aria-label='At most 1 packets in 1 s' preserveAspectRatio=none viewBox='0 0 4 1'>\
+<path transform='matrix(1 0 0 -1 0 1)' d='M0 0V0H1V1H2V0H3V0H4'/></svg></section>\n\
+<section><h2>Link 0</h2><p>At most 3 octets in 1 s</p>\n<svg role=img aria-label='At most 3 octets in 1 s' preserveAspectRatio=none viewBox='0 0 4 3'>\
+<path transform='matrix(1 0 0 -1 0 3)' d='M0 0V3H1V3H2V0H3V0H4'/></svg></section>\n\
+<section><h2>Link 1</h2><p>At most 2 octets in 1 s</p>\n<svg role=img aria-label='At most 2 octets in 1 s' preserveAspectRatio=none viewBox='0 0 4 2'>\
+<path transform='matrix(1 0 0 -1 0 2)' d='M0 0V1H1V2H2V0H3V0H4'/></svg></section>\n\
+<section><h2>First time, link 0</h2><p>At most 2 packets in 1 s</p>\n<svg role=img aria-label='At most 2 packets in 1 s' preserveAspectRatio=none viewBox='0 0 4 2'>\
+<path transform='matrix(1 0 0 -1 0 2)' d='M0 0V2H1V1H2V0H3V0H4'/></svg></section>\n\
+<section><h2>Recovered, link 1</h2><p>At most 1 packets in 1 s</p>\n<svg role=img aria-label='At most 1 packets in 1 s' preserveAspectRatio=none viewBox='0 0 4 1'>\
+<path transform='matrix(1 0 0 -1 0 1)' d='M0 0V1H1V0H2V0H3V0H4'/></svg></section>\n\
 </body></html>\n";
+
+/// A flow on two links and, 1.5 s after its last packet, another one. Between the packets of the first lie 10 ms, and between
+/// their timestamps 5 and 8.8 ms; between those of the second 10 ms by both. Then a response comes on the first link, 50 ms
+/// after the start, to a request of 20 ms, which was answered in 3 ms.
+const TWO_FLOWS: &[u8] = b"RISTCAP1\
+    \x00\x00\x00\x0D\0\0\0\0\0\0\0\0\x80\x21\x00\x00\x00\x00\x00\x00\x10\x20\x30\x40A\
+    \x01\x00\x00\x0D\0\0\0\0\0\0\x27\x10\x80\x21\x00\x01\x00\x00\x01\xC2\x10\x20\x30\x40B\
+    \x00\x00\x00\x0D\0\0\0\0\0\0\x4E\x20\x80\x21\x00\x02\x00\x00\x04\xDA\x10\x20\x30\x40C\
+    \x00\x01\x00\x20\0\0\0\0\0\0\xC3\x50\x80\xC9\x00\x01\x10\x20\x30\x41\
+    \x83\xCC\x00\x05\x10\x20\x30\x40RIST\0\0\0\0\0\0\x4E\x20\0\0\x0B\xB8\
+    \x00\x00\x00\x0D\0\0\0\0\0\x17\x31\x80\x80\x21\x00\x07\x00\x01\x86\x9F\x50\x60\x70\x80D\
+    \x01\x00\x00\x0D\0\0\0\0\0\x17\x58\x90\x80\x21\x00\x08\x00\x01\x8A\x23\x50\x60\x70\x80E";
+
+/// Rows and charts of its page, where another flow may come half a second after the last packet of one.
+const TWO_FLOWS_PARTS: [&str; 9] = [
+    "<tr><th>Sent</th><td>5 packets</td>",
+    "<tr><th>Jitter, least</th><td>0.0 ms</td>",
+    "<tr><th>Jitter, median</th><td>1.2 ms</td>",
+    "<tr><th>Jitter, 99%</th><td>5.0 ms</td>",
+    "<tr><th>Round trips</th><td>1 samples</td>",
+    "<tr><th>Round trip, most</th><td>27 ms</td>",
+    "<tr><th>Restarts</th><td>1 restarts</td>",
+    "<tr><td>0</td><td>3</td><td>3</td><td>0</td></tr>\n<tr><td>1</td><td>2</td><td>2</td><td>0</td></tr>\n</table>",
+    "<h2>Restarts</h2><p>At most 1 restarts in 1 s</p>\n<svg role=img aria-label='At most 1 restarts in 1 s' preserveAspectRatio=none viewBox='0 0 2 1'>\
+<path transform='matrix(1 0 0 -1 0 1)' d='M0 0V0H1V1H2'/>",
+];
 
 fn simple_session() -> Session
     ensures session { IsSession result }
@@ -76,9 +114,21 @@ fn simple_session() -> Session
 }
 
 /// The page of a capture, with a delay of one second and a span of 8.
-pub fn reported(alloc: Global, source: Pieces, mut sink: Store8) -> (Result<(), WalkBad>, Store8) {
+pub fn reported(alloc: Global, source: Pieces, sink: Store8) -> (Result<(), WalkBad>, Store8) {
+    reported_with(alloc, 0, source, sink)
+}
+
+/// The same, where a flow may restart so many milliseconds after its last packet.
+fn reported_with(
+    alloc: Global,
+    restart: u64,
+    source: Pieces,
+    mut sink: Store8,
+) -> (Result<(), WalkBad>, Store8)
+    requires restart { restart ≤ MAX_RESTART }
+{
     let mut reader = Reader::over(source);
-    let settings = Settings::muted(1000, 8, 0, false);
+    let settings = Settings::muted(1000, 8, restart, false);
     let end = match PageWriter::with(alloc, &simple_session(), &settings) {
         Ok(writer) => report(writer, &mut reader, &mut sink),
         Err(_) => Err(WalkBad::Memory),
@@ -93,6 +143,24 @@ fn a_page_says_what_was_counted(rt: HostRuntime) -> Result<(), Fail> {
     let (end, sink) = reported(rt.alloc(), source, sink);
     assert!(rt; end == Ok(()));
     assert!(rt; sink.octets() == PAGE);
+    Ok(())
+}
+
+/// Whether a text stands in a page.
+fn is_part(page: &[u8], text: &str) -> bool {
+    page.windows(text.len().max(1))
+        .any(|part| part == text.as_bytes())
+}
+
+#[test]
+fn a_page_says_what_links_and_flows_did(rt: HostRuntime) -> Result<(), Fail> {
+    let source = Pieces::with(rt.alloc(), TWO_FLOWS, &[], &[])?;
+    let sink = Store8::with(rt.alloc(), 8192, &[])?;
+    let (end, sink) = reported_with(rt.alloc(), 500, source, sink);
+    assert!(rt; end == Ok(()));
+    for part in TWO_FLOWS_PARTS {
+        assert!(rt; is_part(sink.octets(), part));
+    }
     Ok(())
 }
 

@@ -1,5 +1,5 @@
 -- Buckets that are joined in pairs, and how often that is done.
-use Rattle.std.proofs.Common.{◌≡◌, ◌≢◌, ℕ, zero, suc, ◌+◌, ◌*◌, ◌/◌, ◌^◌, ◌<◌, ◌≤◌, List, [], ◌∷◌, map, length, take, replicate, refl, sym, ap, ◌∙◌, subst, inl, inr, arith, Bool, true, false}
+use Rattle.std.proofs.Common.{◌≡◌, ◌≢◌, ℕ, zero, suc, max, ◌+◌, ◌*◌, ◌/◌, ◌^◌, ◌<◌, ◌≤◌, List, [], ◌∷◌, map, length, take, replicate, refl, sym, ap, ◌∙◌, subst, inl, inr, arith, Bool, true, false}
 use Rattle.std.specs.Prelude.{nat_lt, ◌==◌, if◌then◌else◌, slice_index}
 use Rattle.std.specs.List.{range_with_len}
 use Rattle.std.proofs.lemmas.Nat.{shr-shr}
@@ -186,6 +186,26 @@ one_added scale second amount marks old below are =
             here ∙ before ∙ omega (arith, none)
       ];
     }
+
+-- nothing more came in a second that has a bucket
+pub nothing_added : (s : SeriesState) (second amount : ℕ) (marks : List Mark) → amount ≡ 0 → second ≤ s.latest → IsSeriesOf s marks
+    → IsSeriesOf s (record { second = second; amount = amount } ∷ marks)
+nothing_added s second amount marks none before is =
+    let low : second ≤ latest marks = omega (arith, before, is.newest) in
+    let same : max second (latest marks) ≡ latest marks = omega (arith, low) in
+    record {
+      newest = is.newest ∙ sym same;
+      doubled = is.doubled ∙ ap halvings (sym same);
+      room = is.room;
+      within = is.within;
+      sums = λ i inside.
+          let rest = is.sums i inside in
+          let zero_here = no_amount (second / 2 ^ s.scale) i amount none in
+          omega (arith, rest, zero_here);
+    }
+  where
+    no_amount : (q i a : ℕ) → a ≡ 0 → ◌≡◌ {A = ℕ} (if q == i then a else 0) 0
+    no_amount q i a none = grind (arith, nat_tests)
 
 -- and so of a series
 pub series_of : (points : List ℕ) (scale last : ℕ) (marks : List Mark) → scale ≡ halvings last → last ≡ latest marks → AreSums scale marks points → IsSeriesOf (record { points = points; scale = scale; latest = last }) marks

@@ -49,6 +49,17 @@ impl Series {
         ensures state { (marks : List Mark) → IsSeriesOf self.old marks
             → IsSeriesOf self.new (record { second = second; amount = amount } ∷ marks) }
     {
+        // Nothing more in a second that has a bucket leaves all sums as they are.
+        if amount > 0 || second > self.latest {
+            self.put(second, amount);
+        }
+    }
+
+    // Adds an amount to the bucket of its second, which may be a new one.
+    fn put(&mut self, second: u64, amount: u64)
+        ensures state { (marks : List Mark) → IsSeriesOf self.old marks
+            → IsSeriesOf self.new (record { second = second; amount = amount } ∷ marks) }
+    {
         let latest = self.latest.max(second);
         let scale = halvings(latest);
         add_at(&mut self.points, self.scale, scale, second, amount);

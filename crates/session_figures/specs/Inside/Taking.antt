@@ -6,6 +6,7 @@ use Rattle.seq_unwrap.specs.Nearest.{cycle_of, nearest}
 use Rattle.time_series.specs.Points.{capped}
 use Rattle.receiver_rules.specs.Steps.{Arrival}
 use Rattle.session_figures.specs.declared.amounts.Amounts.{Amounts}
+use Rattle.session_figures.specs.declared.amounts.Passed.{Passed}
 use Rattle.session_figures.specs.declared.numbers.Numbers.{Numbers}
 
 -- one above a number, and 0 where there is none
@@ -48,15 +49,15 @@ sent_of n high = capped (n.sent + (above_number high - n.low))
 abbrev pub missing_of : Numbers → ℕ → ℕ → ℕ
 missing_of n floor waiting = capped (n.missing + ((floor - n.low) - (n.kept - waiting)))
 
--- what a step adds, with what the playout passed
-abbrev pub with_missing : Amounts → ℕ → Amounts
-with_missing a missing =
+-- what a step adds, with what it adds whatever came with it
+abbrev pub with_passed : Amounts → Passed → Amounts
+with_passed a passed =
     record {
       link = a.link;
       octets = a.octets;
       kept = a.kept;
       first = a.first;
       recovered = a.recovered;
-      missing = missing;
       late = a.late;
+      passed = passed;
     }

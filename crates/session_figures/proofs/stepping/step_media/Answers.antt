@@ -4,7 +4,7 @@ use Rattle.receiver_rules.specs.Steps.{Media}
 use Rattle.receiver_rules.specs.declared.verdict.Verdict.{Verdict}
 use Rattle.receiver_rules.specs.Seen.{seen}
 use Rattle.rist_ends.proofs.SteppingLemmas.{state_told, verdict_told}
-use Rattle.session_figures.specs.Amounts.{media_amounts}
+use Rattle.session_figures.specs.Amounts.{media_amounts, nothing_passed}
 use Rattle.session_figures.proofs.FigureLemmas.{numbers_told}
 use Rattle.session_figures.proofs.stepping.step_media.Goals as goal
 
@@ -19,5 +19,5 @@ returns-clause-numbers c history s are =
 pub returns-clause-amounts : goal.returns-clause-amounts
 returns-clause-amounts c history s =
     c.media.ensures.value
-    ∙ ap (λ (v : Verdict). media_amounts c.args.link v c.args.arrival.now.again (length c.args.arrival.now.payload.now) 0)
+    ∙ ap (λ (v : Verdict). media_amounts c.args.link v c.args.arrival.now.again (length c.args.arrival.now.payload.now) nothing_passed)
     (c.receive-verdict.ensures.verdict history s ∙ verdict_told c.args.buffer.now history c.args.now c.args.tick c.max-at.result (seen c.args.arrival.now) (record { state = s; running = c.requires.running; clock = c.requires.clock; later = c.max-at.ensures }))

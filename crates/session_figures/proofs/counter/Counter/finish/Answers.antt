@@ -1,5 +1,5 @@
 -- All that waits is let out, and what the playout passed then is counted.
-use Rattle.std.proofs.Common.{◌≡◌, ◌≢◌, ◌∷◌, ◌∙◌, ◌-◌, ◌/◌, ℕ, ap, sym, subst, unwrap_or, arith}
+use Rattle.std.proofs.Common.{◌≡◌, ◌≢◌, ◌∷◌, ◌∙◌, ◌-◌, ◌/◌, ℕ, ap, refl, sym, subst, unwrap_or, arith}
 use Rattle.receiver_rules.specs.declared.limits.Limits.{Limits}
 use Rattle.receiver_rules.specs.Epochs.{epochs_of}
 use Rattle.reorder_buffer.specs.State.{State}
@@ -8,11 +8,14 @@ use Rattle.reorder_buffer.specs.declared.phase.Phase.{Phase}
 use Rattle.reorder_buffer.specs.declared.phase.Phase.TheVariants.{Ended, Failed}
 use Rattle.request_rules.specs.Steps.{buffer_history}
 use Rattle.time_series.specs.Points.{capped}
+use Rattle.value_histogram.specs.Ranks.{HistogramState, IsHistogramOf}
+use Rattle.session_figures.specs.declared.jitter.Jitter.{Jitter}
 use Rattle.session_figures.specs.declared.numbers.Numbers.{Numbers}
 use Rattle.session_figures.specs.Numbers.{missing_count}
-use Rattle.session_figures.specs.Counting.{AreNumbersOf, AreSeriesOf, CounterState, IsCountedAfter, end_told}
-use Rattle.session_figures.specs.Inside.Taking.{with_missing}
-use Rattle.session_figures.proofs.FigureLemmas.{counted_on}
+use Rattle.session_figures.specs.Spreads.{jitters_of, last_transit, trips_of}
+use Rattle.session_figures.specs.Counting.{AreJittersOf, AreNumbersOf, AreSeriesOf, CounterState, IsCountedAfter, end_told}
+use Rattle.session_figures.specs.Inside.Taking.{with_passed}
+use Rattle.session_figures.proofs.FigureLemmas.{counted_on, end_restarts, jitters_end}
 use Rattle.session_figures.proofs.counter.Counter.finish.Goals as goal
 
 over : (phase : Phase) → phase ≡ Ended → phase ≢ Failed
@@ -20,7 +23,7 @@ over phase e f = cc
 
 pub returns-clause-state : goal.returns-clause-state
 returns-clause-state c running history is =
-    let inside : CounterState = record { buffer = c.self.inside.buffer; time = c.self.inside.time; start = c.self.inside.start; numbers = c.self.inside.numbers; missing = c.self.inside.missing; table = c.self.inside.table } in
+    let inside : CounterState = record { buffer = c.self.inside.buffer; time = c.self.inside.time; start = c.self.inside.start; numbers = c.self.inside.numbers; missing = c.self.inside.missing; table = c.self.inside.table; jitter = c.self.inside.jitter; trips = c.self.inside.trips } in
     let here : IsCountedAfter inside history = subst (λ (x : CounterState). IsCountedAfter x history) (sym c.self.view_is) is in
     let counted = c.count.ensures in
     let new : CounterState = c.count.new.self in
@@ -31,8 +34,8 @@ returns-clause-state c running history is =
     let missing : new.missing ≡ capped (missing_count buffer.limits (buffer_history (end_told ∷ history))) =
     counted.missing (buffer_history (end_told ∷ history)) state (over buffer.phase c.flush.ensures.ended)
     (subst (λ (l : Limits). AreNumbersOf inside.numbers (epochs_of l (buffer_history (end_told ∷ history)))) (sym limits) are) in
-    let now : new.time ≡ inside.time = counted.same.2 in
-    counted_on inside new end_told history c.silent.result here
+    let now : new.time ≡ inside.time = counted.same.2.0 in
+    counted_on inside new end_told history c.silent.result 0 0 here
     (ap (λ (b : State). b.limits) counted.same.0 ∙ limits)
     (subst (λ (b : State). IsStateAfter b (buffer_history (end_told ∷ history))) (sym counted.same.0) state)
     (omega (arith, now))
@@ -40,4 +43,8 @@ returns-clause-state c running history is =
     (subst (λ (n : Numbers). AreNumbersOf n (epochs_of inside.buffer.limits (buffer_history (end_told ∷ history)))) (sym counted.same.1) are)
     (missing ∙ ap (λ (l : Limits). capped (missing_count l (buffer_history (end_told ∷ history)))) limits)
     c.silent.ensures.value
-    (λ entries series. subst (λ (t : ℕ). AreSeriesOf new.table (record { second = (t - unwrap_or inside.start 0) / 90000; amounts = with_missing c.silent.result (new.missing - inside.missing) } ∷ entries)) (sym now) (counted.series entries series))
+    refl
+    (end_restarts inside.buffer.limits history)
+    (subst (λ (j : Jitter). AreJittersOf j (last_transit inside.buffer.limits (end_told ∷ history)) (jitters_of inside.buffer.limits (end_told ∷ history))) (sym counted.same.2.1.0) (jitters_end inside.buffer.limits history inside.jitter here.jitters))
+    (subst (λ (h : HistogramState). IsHistogramOf h (trips_of (end_told ∷ history))) (sym counted.same.2.1.1) here.samples)
+    (λ entries series. subst (λ (t : ℕ). AreSeriesOf new.table (record { second = (t - unwrap_or inside.start 0) / 90000; amounts = with_passed c.silent.result (record { records = 0; missing = new.missing - inside.missing; restarts = 0 }) } ∷ entries)) (sym now) (counted.series entries series))

@@ -4,7 +4,7 @@ use Rattle.std.proofs.lemmas.List.{with_items_is}
 use Rattle.time_series.specs.Points.{IsSeriesOf, SeriesState, latest}
 use Rattle.time_series.specs.Inside.Widening.{AreSums, IsRoomy}
 use Rattle.time_series.proofs.SeriesLemmas.{later_more, room_for, sums_of, series_of}
-use Rattle.time_series.proofs.series.Series.add.Goals as goal
+use Rattle.time_series.proofs.series.Series.put.Goals as goal
 
 pub add_at-requires-clause-order : goal.add_at-requires-clause-order
 add_at-requires-clause-order c =
