@@ -43,7 +43,7 @@ input_ahead (inputs.Network input) = input.ahead
 
 -- how many calls of a sink failed
 abbrev pub output_faults : {R F O : Type 0} → RealOutput R F O → ℕ
-output_faults (outputs.Named sink) = sink_faults sink
+output_faults (outputs.Named sink line) = sink_faults sink
 output_faults (outputs.Network sink) = sink.faults
 
 -- the regular file that a source reads, if it reads one
@@ -62,7 +62,7 @@ IsInputNamed name (inputs.Network input) =
 
 -- likewise of a sink
 abbrev pub IsOutputNamed : {R F O : Type 0} → List ℕ → RealOutput R F O → Type 0
-IsOutputNamed name (outputs.Named sink) = (address_of name ≡ Ok None) × IsSinkNamed name sink
+IsOutputNamed name (outputs.Named sink line) = (address_of name ≡ Ok None) × IsSinkNamed name sink
 IsOutputNamed name (outputs.Network sink) =
     (address_of name ≢ Ok None)
     × ((address : MediaAddress) → address_of name ≡ Ok (Some address) → sink.form ≡ address.form)

@@ -18,6 +18,7 @@ mod report;
 mod room;
 mod sinks;
 mod slots;
+mod terminal;
 mod trouble;
 
 pub use clocks::{back_clocks, open_clocks};
@@ -31,4 +32,5 @@ pub use real_output::RealOutput;
 pub use record::RecordFile;
 pub use sinks::{back_sinks, open_sinks};
 pub use slots::Slot;
+pub use terminal::{ShownLine, StandingLine};
 pub use trouble::Trouble;

@@ -18,6 +18,7 @@ use crate::real_input::{NamedInput, NetworkInput, RealInput};
 use crate::real_output::RealOutput;
 use crate::record::RecordFile;
 use crate::room::{RoomText, is_small};
+use crate::terminal::{ShownLine, StandingLine, is_error_terminal, is_output_terminal, length_of};
 use crate::trouble::{Reason, Thing, Trouble};
 use crate::{Count, Host, HostBad};
 use datagram_ends::{DatagramSink, UdpOut, UdpSource};
@@ -28,6 +29,7 @@ use media_address::{MediaAddress, address_of};
 use metered_link::{LineOutput, Lines, Metered};
 use outside_io::{Entropy, FileIdentity, RealEntropy, create_sink, is_named, open_source};
 use outside_net::{LinkSpec, ProcessClock, Role, UdpLink};
+use progress_source::Progress;
 use recorded_link::{Recorded, Recording};
 use std::alloc::Global;
 use std::fs::{self, Files, OpenFile};
@@ -62,6 +64,8 @@ pub struct RealHost<'a, R: Files> {
     links: u8,
     /// Whether it was said that the system keeps too few octets of datagrams.
     has_told_room: bool,
+    /// The line that says how far the source was read, where one is shown.
+    line: Option<StandingLine>,
 }
 
 /// From one line of a link to the next, in milliseconds, and the file that they are put to, unless that is the error output.
@@ -98,6 +102,7 @@ impl<'a, R: Files> RealHost<'a, R> {
             statistics: None,
             links: 0,
             has_told_room: false,
+            line: None,
         }
     }
 
@@ -173,7 +178,10 @@ impl<'a, R: Files + Eprint> RealHost<'a, R> {
 }
 
 /// What is handed out as a source.
-type SourceOf<'a, R> = RealInput<'a, R, <R as Files>::File, <R as Input>::Reader>;
+type SourceOf<'a, R> = Progress<InputOf<'a, R>, ProcessClock<'a, R>, ShownLine>;
+
+/// What is read of it.
+type InputOf<'a, R> = RealInput<'a, R, <R as Files>::File, <R as Input>::Reader>;
 
 /// What is handed out as a sink.
 type SinkOf<'a, R> = RealOutput<'a, R, <R as Files>::File, Printer<'a, R>>;
@@ -261,13 +269,32 @@ impl<'a, R: Files + Clock> RealHost<'a, R> {
 }
 
 impl<'a, R: Files + Input + Net + Clock> RealHost<'a, R> {
+    /// The source of a name, which shows how far it is read where the error output is a terminal. It shows nothing where the system
+    /// gives it no clock or no memory.
+    fn showing(&mut self, name: &str, input: InputOf<'a, R>) -> SourceOf<'a, R>
+        ensures source { result.source ≡ input.entry }
+        ensures same { self.new ≡ self.old }
+    {
+        self.line = None;
+        let (Some(alloc), true) = (self.alloc, is_error_terminal()) else {
+            return Progress::silent(input);
+        };
+        let (Some(line), Ok(clock)) = (StandingLine::none(alloc), ProcessClock::start(self.rt))
+        else {
+            return Progress::silent(input);
+        };
+        self.line = line.again();
+        let total = length_of(self.rt, name);
+        Progress::over(input, total, clock, ShownLine::over(alloc, line))
+    }
+
     /// The file of this name, or standard input. What is read is taken down.
     fn named_source(&mut self, name: &str) -> Result<SourceOf<'a, R>, HostBad>
         requires name { address_of name.now ≡ Ok None }
         ensures cause { HasHostCause self.old.faults self.new.faults result }
         ensures only { FailsAlone result }
-        ensures named { IfOk result (λ source. IsInputNamed name.now source) }
-        ensures known { IfOk result (λ source. self.new.read ≡ file_read source) }
+        ensures named { IfOk result (λ source. IsInputNamed name.now source.source) }
+        ensures known { IfOk result (λ source. self.new.read ≡ file_read source.source) }
         ensures stays { OnErr result (self.new.read ≡ self.old.read) }
     {
         match open_source(self.rt, name) {
@@ -275,7 +302,7 @@ impl<'a, R: Files + Input + Net + Clock> RealHost<'a, R> {
                 self.read = source.file();
                 self.source = self.kept(name);
                 let input = NamedInput::over(self.rt, name, source);
-                Ok(RealInput::Named(Gathered::over(input)))
+                Ok(self.showing(name, RealInput::Named(Gathered::over(input))))
             }
             Err(error) => Err(self.refuse_name(name, Reason::System(error))),
         }
@@ -290,8 +317,8 @@ impl<'a, R: Files + Input + Net + Clock> RealHost<'a, R> {
         requires name { address_of name.now ≡ Ok (Some address.now) }
         ensures cause { HasHostCause self.old.faults self.new.faults result }
         ensures only { FailsAlone result }
-        ensures named { IfOk result (λ source. IsInputNamed name.now source) }
-        ensures known { IfOk result (λ source. self.new.read ≡ file_read source) }
+        ensures named { IfOk result (λ source. IsInputNamed name.now source.source) }
+        ensures known { IfOk result (λ source. self.new.read ≡ file_read source.source) }
         ensures stays { OnErr result (self.new.read ≡ self.old.read) }
     {
         match UdpSource::open(self.rt, address, ProcessSign::new(self.rt)) {
@@ -299,10 +326,21 @@ impl<'a, R: Files + Input + Net + Clock> RealHost<'a, R> {
                 self.read = None;
                 self.source = self.kept(name);
                 source.await_first();
-                Ok(RealInput::Network(Gathered::over(NetworkInput::over(source))))
+                let input = Gathered::over(NetworkInput::over(source));
+                Ok(Progress::silent(RealInput::Network(input)))
             }
             Err(error) => Err(self.refuse_name(name, Reason::System(error))),
         }
+    }
+}
+
+impl<'a, R: Files> RealHost<'a, R> {
+    /// The line that goes before anything is put to the sink of this name: the sink writes to a terminal too.
+    fn line_before(&self, name: &str) -> Option<StandingLine> {
+        if name != "-" || !is_output_terminal() {
+            return None;
+        }
+        self.line.as_ref()?.again()
     }
 }
 
@@ -321,7 +359,8 @@ impl<'a, R: Files + Print + Eprint + RandomSource + Net + Clock> RealHost<'a, R>
         match create_sink(self.rt, name) {
             Ok(sink) => {
                 self.sink = self.kept(name);
-                Ok(RealOutput::Named(sink))
+                let line = self.line_before(name);
+                Ok(RealOutput::Named(sink, line))
             }
             Err(error) => Err(self.refuse_name(name, Reason::System(error))),
         }
@@ -389,10 +428,10 @@ where
     fn source(&mut self, name: &str) -> Result<Self::Input, HostBad>
         ensures cause { HasHostCause self.old.faults self.new.faults result }
         ensures only { FailsAlone result }
-        ensures named { IfOk result (λ source. IsInputNamed name.now source) }
+        ensures named { IfOk result (λ source. IsInputNamed name.now source.source) }
         ensures faulty { (bad : AddressBad) → address_of name.now ≡ Err bad → result ≡ Err HostBad.Failed }
         // What it reads is taken down. Standard input and the network are no file that could be told from others.
-        ensures known { IfOk result (λ source. self.new.read ≡ file_read source) }
+        ensures known { IfOk result (λ source. self.new.read ≡ file_read source.source) }
         ensures stays { OnErr result (self.new.read ≡ self.old.read) }
     {
         match address_of(name) {
@@ -500,11 +539,13 @@ where
         self.started_clock()
     }
 
-    fn back_source(&mut self, _name: &str, _object: Self::Input)
+    fn back_source(&mut self, _name: &str, mut object: Self::Input)
         ensures cause { self.new.faults ≡ self.old.faults }
         ensures known { self.new.read ≡ None }
     {
+        object.end();
         self.read = None;
+        self.line = None;
     }
 
     fn back_sink(&mut self, _name: &str, _object: Self::Output) {}

@@ -14,7 +14,8 @@ pub record IsNextOut {L : Type 0} (old new : ℕ → Place L) (had has : List L)
   pub hands : HandsOut old new (length had) link
 
 -- links came behind those that were there, each of which knows the peers that its address states
-pub record GainKnowing {L : Type 0} (knows : L → Channel → Bool) (role : Role) (profile : Profile) (had has : List L) : Type 0 where
+pub record GainKnowing {L : Type 0} (knows : L → Channel → Bool) (role : Role) (profile : Profile) (had has : List L)
+    : Type 0 where
   pub first : (i : ℕ) (d : L) → i < length had → slice_index_or has i d ≡ slice_index_or had i d
   pub gained : KnowStatedFrom knows role profile (length had) has
 

@@ -1,0 +1,4 @@
+pub mod Extents
+pub mod Meters
+pub mod Outlets
+pub mod Showings
