@@ -1,14 +1,16 @@
 #!/bin/sh
 # Several streams of one tunnel, received live by `rist fan`, each into a file of its own. First two streams of one `ristsender` of librist's
-# (Debian: rist-tools 0.2.7) with different `stream-id`, through relay.py with 5 per cent of the datagrams lost each way, in clear and under
-# AES-128: each file is compared octet for octet with what was fed. At most two pieces before the first that came and twenty after the last
-# may be missing, since the sender is stopped, and none between. Then eight places at 20 Mbit/s each over loopback: eight captures of
-# `rist pack`, each at its own port of the tunnel, sent to one link by one C program (`recv_feed.c`), to one `rist fan`; and each to a
-# `rist recv` of its own: processor time of both, and their ratio.
+# (Debian: rist-tools 0.2.7) with different `stream-id`, which sends each from a socket of its own, through relay.py with 5 per cent of the
+# datagrams lost each way: as a NAT does, it has a port for each of these sockets, so an answer for one stream that goes to the other's reaches
+# nobody. In clear, under AES-128, and once more with all ports of the relay new after each 1,500 datagrams: each file is compared octet for
+# octet with what was fed. At most two pieces before the first that came and twenty after the last may be missing, since the sender is stopped,
+# and none between. Then eight places at 20 Mbit/s each over loopback: eight captures of `rist pack`, each at its own port of the tunnel, sent
+# to one link by one C program (`recv_feed.c`), to one `rist fan`; and each to a `rist recv` of its own: processor time of both, and their
+# ratio.
 #
-# COUNT, GAP (microseconds) and RIST in the environment stand for another count of pieces, another gap, and another program than the one
-# that is built here; SECONDS_EACH for how long the eight streams last. It takes two minutes, uses 127.0.0.1 alone and writes only below a
-# new folder in /tmp. It ends with 1 where something is missing; where a tool isn't there it says so and ends with status 3, without `fan`
+# COUNT, GAP (microseconds) and RIST in the environment stand for another count of pieces, another gap, and another program than the one that
+# is built here; SECONDS_EACH for how long the eight streams last. It takes two and a half minutes, uses 127.0.0.1 alone and writes only below
+# a new folder in /tmp. It ends with 1 where something is missing; where a tool isn't there it says so and ends with status 3, without `fan`
 # with status 4.
 set -eu
 here=$(cd "$(dirname "$0")" && pwd)
@@ -32,11 +34,12 @@ count=${COUNT:-3000} gap=${GAP:-3000}
 python3 "$here/pieces.py" make "$work/one" "$count"
 python3 "$here/pieces.py" make "$work/two" "$count" nulls
 
-# fanned NAME LIBRIST RIST: two streams of ristsender with the words LIBRIST to `rist fan` with the words RIST.
+# fanned NAME LIBRIST RIST RELAY: two streams of ristsender with the words LIBRIST to `rist fan` with the words RIST, through a relay with
+# the words RELAY.
 fanned() {
     echo "$1"
     rm -f "$work/first" "$work/second"
-    timeout 120 python3 "$here/relay.py" --one-port --lose 5 --lose-back 5 --delay 5 --seed 61 --quiet 4 --most 100 7000:5000 > "$work/relay" &
+    timeout 120 python3 "$here/relay.py" --one-port --lose 5 --lose-back 5 --delay 5 --seed 61 --quiet 4 --most 100 $4 7000:5000 > "$work/relay" &
     relay=$!
     started="$relay"
     await_ready "$work/relay"
@@ -69,8 +72,9 @@ fanned() {
 }
 
 bad=0
-fanned clear '' '' || bad=1
-fanned sealed '-s drill -e 128' '--pass drill --bits 128' || bad=1
+fanned clear '' '' '' || bad=1
+fanned sealed '-s drill -e 128' '--pass drill --bits 128' '' || bad=1
+fanned 'sealed, ports that change' '-s drill -e 128' '--pass drill --bits 128' '--forget 1500' || bad=1
 
 cc -O2 -o "$work/feed" "$here/recv_feed.c"
 python3 - "$RIST" "$work" "${SECONDS_EACH:-10}" <<'PYTHON' || bad=1

@@ -54,6 +54,7 @@ try 'straight' 'rist://127.0.0.1:5000' '' '127.0.0.1:5000' || bad=1
 lossy='--lose 4 --lose-back 4 --delay 5 --seed 7 --whole 100 --quiet 3'
 try '4 per cent lost each way, range requests' "$one" "$lossy 7000:5000" '127.0.0.1:5000 --nack range' || bad=1
 try '4 per cent lost each way, mask requests' "$one" "$lossy 7000:5000" '127.0.0.1:5000 --nack mask' || bad=1
+# After the cut half of the requests go to the dead link (docs/MANUAL.md).
 try 'two links, the second cut after 4,000, 4 per cent lost each way' "$one,rist://127.0.0.1:7100" \
-    "$lossy --cut 1@4000 7000:5000 7100:5100" '127.0.0.1:5000 127.0.0.1:5100' || bad=1
+    "$lossy --cut 1@4000 7000:5000 7100:5100" '127.0.0.1:5000 127.0.0.1:5100 --tries 20' || bad=1
 exit $bad

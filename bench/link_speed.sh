@@ -1,7 +1,7 @@
 #!/bin/bash
 # Measures links over UDP: a process that writes and one that reads datagrams of 1,328 octets over loopback, through
 # `outside_net::UdpLink` and through a pair of C programs that call `sendto` and `recvfrom`, in turn; and how long a read of
-# a quiet link takes. The writer doesn't wait, so the system drops what the reader can't take: the figures are datagrams a
+# a quiet link takes, and a rest of a millisecond. The writer doesn't wait, so the system drops what the reader can't take: the figures are datagrams a
 # second that were written and read, and processor time for each million of them. It takes some minutes, most of them for
 # the proofs, needs rt, bash and cc, and writes only below a new folder in /tmp.
 set -e
@@ -12,18 +12,18 @@ trap 'rm -rf "$work"' EXIT
 count=${1:-1000000}
 mkdir -p "$work/crates/speed/src"
 cp "$top/HANDLES" "$work/"
-for crate in outside_io outside_net; do
+for crate in link_channels outside_io outside_net; do
     mkdir "$work/crates/$crate"
     for part in src specs proofs; do
         cp -r "$top/crates/$crate/$part" "$work/crates/$crate/"
     done
 done
-sed -n -e '/^outside_io/p' -e '/^outside_net/p' "$top/crates.txt" > "$work/crates.txt"
-echo 'speed: outside_io outside_net' >> "$work/crates.txt"
+sed -n -e '/^link_channels:/p' -e '/^outside_io:/p' -e '/^outside_net:/p' "$top/crates.txt" > "$work/crates.txt"
+echo 'speed: link_channels outside_io outside_net' >> "$work/crates.txt"
 cat > "$work/crates/speed/src/main.rt" <<'RATTLE'
 #![tactic(auto)]
 
-use outside_io::{Channel, Profile};
+use link_channels::{Channel, Profile};
 use outside_net::{Clock, Got, Link, LinkSpec, ProcessClock, Role, UdpLink};
 use std::io::Print;
 use std::{env, io};
@@ -50,7 +50,10 @@ fn read_all(rt: &impl Print, link: &mut UdpLink, clock: &mut impl Clock) -> io::
                 taken = taken.saturating_add(1);
                 quiet = 0;
             }
-            _ => quiet = quiet.saturating_add(1),
+            _ => {
+                quiet = quiet.saturating_add(1);
+                link.rest(1);
+            }
         }
         if taken > 0 && quiet > 300 || quiet > 10_000 {
             break;
@@ -77,7 +80,12 @@ fn wait_quietly(rt: &impl Print, link: &mut UdpLink, clock: &mut impl Clock) -> 
     for _ in 0..1000 {
         let _ = link.read(&mut block);
     }
-    println!(rt; "{}", clock.now().saturating_sub(first) / 1000)
+    let between = clock.now();
+    for _ in 0..1000 {
+        link.rest(1);
+    }
+    let read = between.saturating_sub(first) / 1000;
+    println!(rt; "{read} {}", clock.now().saturating_sub(between) / 1000)
 }
 
 fn main(rt: HostRuntime) -> io::Result<()> {
@@ -170,4 +178,4 @@ for round in 1 2 3; do
     turn C "$work/pair"
     turn link "$link"
 done
-echo "a quiet read takes $("$link" quiet) us"
+echo "a quiet read and a rest of a millisecond take, in microseconds: $("$link" quiet)"

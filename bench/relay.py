@@ -3,10 +3,11 @@
 
     relay.py [OPTION..] IN:OUT..
 
-What comes to port IN of 127.0.0.1 goes to port OUT, and what the receiver answers goes back to where the last datagram came
-from; so do the two ports above, IN + 1 and OUT + 1, unless --one-port is given. Each IN:OUT is a link. Its first line of output is
-`ready`; at its end it prints what became of the datagrams of each link each way. It ends once nothing came for --quiet
-seconds after the first datagram, at the latest after --most seconds, or on SIGTERM.
+What comes to port IN of 127.0.0.1 goes to port OUT; so do the two ports above, IN + 1 and OUT + 1, unless --one-port is given. It
+does as a NAT: each address that sends to a port has a socket of its own towards the receiver, and what the receiver answers there
+goes back to that address. Above 64 addresses a port the one that was silent for longest loses its socket. Each IN:OUT is a link. Its
+first line of output is `ready`; at its end it prints what became of the datagrams of each link each way. It ends once nothing came
+for --quiet seconds after the first datagram, at the latest after --most seconds, or on SIGTERM.
 """
 import argparse
 import heapq
@@ -18,6 +19,7 @@ import sys
 import time
 
 WAYS = ('forward', 'back')
+MOST_PEERS = 64
 
 
 def read_options():
@@ -33,6 +35,8 @@ def read_options():
     options.add_argument('--whole', type=int, default=0, metavar='COUNT', help='none of the first datagrams of a way is lost')
     options.add_argument('--cut', default='', metavar='LINK@COUNT',
                          help='after so many datagrams forward to its IN port nothing passes on this link, from 0')
+    options.add_argument('--forget', type=int, default=0, metavar='COUNT',
+                         help='after each so many datagrams forward all senders have new sockets towards the receiver')
     options.add_argument('--one-port', action='store_true', help='media and control share a port')
     options.add_argument('--quiet', type=float, default=5, metavar='S')
     options.add_argument('--most', type=float, default=60, metavar='S')
@@ -57,6 +61,16 @@ class Way:
         self.came = self.lost = self.doubled = self.cut = 0
 
 
+class Channel:
+    """A port of a link: the socket that senders send to, and for each of their addresses the one towards the receiver."""
+
+    def __init__(self, link, into, out):
+        self.link = link
+        self.front = open_socket(into)
+        self.out = ('127.0.0.1', out)
+        self.backs = {}  # by address, the one that was silent for longest first
+
+
 class Link:
     def __init__(self, options, place, ports):
         into, out = (int(port) for port in ports.split(':'))
@@ -65,10 +79,7 @@ class Link:
         self.is_cut = False
         self.media = 0
         count = 1 if options.one_port else 2
-        self.fronts = [open_socket(into + i) for i in range(count)]
-        self.backs = [open_socket(0) for _ in range(count)]
-        self.outs = [('127.0.0.1', out + i) for i in range(count)]
-        self.peers = [None] * count
+        self.channels = [Channel(self, into + i, out + i) for i in range(count)]
 
 
 class Relay:
@@ -78,18 +89,40 @@ class Relay:
         cut, _, after = options.cut.partition('@')
         self.cut = (int(cut), int(after)) if options.cut else None
         self.waiting = []
-        self.order = 0
+        self.order = self.came = 0
         self.ready = selectors.DefaultSelector()
         for link in self.links:
-            for channel, (front, back) in enumerate(zip(link.fronts, link.backs)):
-                self.ready.register(front, selectors.EVENT_READ, (link, channel, 'forward'))
-                self.ready.register(back, selectors.EVENT_READ, (link, channel, 'back'))
+            for channel in link.channels:
+                self.ready.register(channel.front, selectors.EVENT_READ, (channel, None))
 
-    def put(self, now, link, channel, way, octets):
-        """Draws what becomes of a datagram, and queues what is left of it."""
-        options, draws = self.options, link.ways[way]
+    def close_first(self, channel):
+        """Closes the socket of the address that was silent for longest."""
+        idle = channel.backs.pop(next(iter(channel.backs)))
+        self.ready.unregister(idle)
+        idle.close()
+
+    def back_of(self, channel, peer):
+        """The socket of this address towards the receiver."""
+        self.came += 1
+        if self.options.forget and self.came % self.options.forget == 0:
+            for it in (it for link in self.links for it in link.channels):
+                while it.backs:
+                    self.close_first(it)
+        back = channel.backs.pop(peer, None)
+        if back is None:
+            if len(channel.backs) == MOST_PEERS:
+                self.close_first(channel)
+            back = open_socket(0)
+            self.ready.register(back, selectors.EVENT_READ, (channel, peer))
+        channel.backs[peer] = back
+        return back
+
+    def put(self, now, channel, way, end, to, octets):
+        """Draws what becomes of a datagram that is to leave by the socket `end`, and queues what is left of it."""
+        options, link = self.options, channel.link
+        draws = link.ways[way]
         draws.came += 1
-        if way == 'forward' and channel == 0:
+        if way == 'forward' and channel is link.channels[0]:
             link.media += 1
             if self.cut == (link.place, link.media - 1):
                 link.is_cut = True
@@ -109,38 +142,34 @@ class Relay:
             copies = 2
         for _ in range(copies):
             self.order += 1
-            heapq.heappush(self.waiting, (due, self.order, link, channel, way, octets))
+            heapq.heappush(self.waiting, (due, self.order, end, to, octets))
 
     def carry(self, now):
         """Sends what is due."""
         while self.waiting and self.waiting[0][0] <= now:
-            _, _, link, channel, way, octets = heapq.heappop(self.waiting)
-            if way == 'forward':
-                end, to = link.backs[channel], link.outs[channel]
-            else:
-                end, to = link.fronts[channel], link.peers[channel]
-            if to is None:
-                continue
+            _, _, end, to, octets = heapq.heappop(self.waiting)
             try:
                 end.sendto(octets, to)
             except OSError:
-                pass  # nobody listens there, or there is no room: it is lost
+                pass  # nobody listens there, there is no room, or the socket is gone: it is lost
 
-    def take(self, now, end, link, channel, way):
-        """Reads all that a socket has."""
+    def take(self, now, end, channel, peer):
+        """Reads all that a socket has: of a sender where `peer` is None, else of the receiver for that address."""
         some = False
-        while True:
+        while end.fileno() >= 0:  # the socket of an address may be closed meanwhile
             try:
-                octets, peer = end.recvfrom(2049)
+                octets, came_from = end.recvfrom(2049)
             except BlockingIOError:
                 return some
             except ConnectionRefusedError:
                 continue
             some = True
-            if way == 'forward':
-                link.peers[channel] = peer
-            self.put(now, link, channel, way, octets)
+            if peer is None:
+                self.put(now, channel, 'forward', self.back_of(channel, came_from), channel.out, octets)
+            else:
+                self.put(now, channel, 'back', channel.front, peer, octets)
             self.carry(time.monotonic())
+        return some
 
     def run(self):
         start = time.monotonic()
@@ -167,9 +196,14 @@ class Relay:
         sys.stdout.flush()
 
 
+def stop(*_):
+    signal.signal(signal.SIGTERM, signal.SIG_IGN)
+    sys.exit(0)
+
+
 def main():
     relay = Relay(read_options())
-    signal.signal(signal.SIGTERM, lambda *_: sys.exit(0))
+    signal.signal(signal.SIGTERM, stop)
     print('ready', flush=True)
     try:
         relay.run()

@@ -2,8 +2,9 @@
 # What `rist report` tells, beside what `rist count` and `rist replay` make of the same capture: packed captures, in clear, with null packets
 # deleted and enciphered, and a session from `rist send` to `rist recv --record` over loopback on two links that lose 5 per cent of the
 # datagrams each way. What was sent has to be what came first time, what was recovered and what was never written; kept and late packets
-# those of `count`, octets those of `replay`, and each chart has to add up to its row of the table. Then its processor time and its greatest
-# memory over millions of records from a pipe: the time at most twice that of `count`, the memory that of a hundredth of them.
+# those of `count`, octets those of `replay`, and each chart has to add up to its row of the table. In the Simple Profile what came on each
+# link, jitter and round trips have to be those that report_count.py counts apart. Then its processor time and its greatest memory over
+# millions of records from a pipe: the time at most twice that of `count`, the memory that of a hundredth of them.
 # The script ends with 1 where that doesn't hold. It takes two minutes, needs python3, and writes only below a new folder in /tmp.
 # Words: how many pieces are sent (10000), how many records are piped (3000000), and a built program that stands for bin/rist (none).
 set -eu
@@ -28,21 +29,37 @@ told() {
     "$program" report "$capture" "$work/page" "$@"
     "$program" count "$capture" "$@" > "$work/count"
     "$program" replay "$capture" "$work/back" "$@"
-    python3 - "$name" "$work/page" "$work/count" "$work/back" <<'PY' || bad=1
+    : > "$work/apart"
+    case " $* " in
+    *' main '*) ;;
+    *' --delay '*) python3 "$here/report_count.py" "$capture" "$2" > "$work/apart" ;;
+    *) python3 "$here/report_count.py" "$capture" 1000 > "$work/apart" ;;
+    esac
+    python3 - "$name" "$work/page" "$work/count" "$work/back" "$work/apart" <<'PY' || bad=1
 import os, re, sys
-name, page, counts, back = sys.argv[1:5]
+name, page, counts, back, apart = sys.argv[1:6]
 text = open(page, encoding='ascii').read()
 row = {it[0]: int(it[1]) for it in re.findall(r'<tr><th>([^<]*)</th><td>(\d+) ', text)}
-charts = {title: [int(it.split(',')[1]) for it in points.split()]
-          for title, points in re.findall(r"<h2>([^<]*)</h2>.*?points='([^']*)'", text, re.S)}
+charts = {title: [int(it) for it in re.findall(r'V(\d+)', steps)]
+          for title, steps in re.findall(r"<h2>([^<]*)</h2>.*? d='M0 0([^']*)'", text, re.S)}
 count = {line.split()[0]: int(line.split()[1]) for line in open(counts)}
 sums = {title: sum(points) for title, points in charts.items()}
 links = [total for title, total in sums.items() if title.startswith('Link ')]
+table = [[int(it) for it in numbers] for numbers in re.findall('<tr>' + r'<td>(\d+)</td>' * 4 + '</tr>', text)]
+counted = open(apart).read().splitlines()
+told = [f'link {" ".join(map(str, it))}' for it in table]
+told += [f'{it[0]} {it[1]}' for it in re.findall(r'<tr><th>((?:Jitter|Round)[^<]*)</th><td>([\d.]+) ', text)]
 tests = [
     ('sent', row['Sent'], row['First time'] + row['Recovered'] + row['Never written']),
     ('kept', row['First time'] + row['Recovered'], count['kept']),
     ('late', row['Late'], count['late'] + count['behind']),
     ('octets', row['Written'], os.path.getsize(back)),
+    ('octets by link', [it[1] for it in table], links),
+    ('first time by link', sum(it[2] for it in table), row['First time']),
+    ('recovered by link', sum(it[3] for it in table), row['Recovered']),
+    *((f'{kind} by link {it[0]}, its chart', it[at], sums.get(f'{kind}, link {it[0]}', 0))
+      for it in table for at, kind in ((2, 'First time'), (3, 'Recovered'))),
+    ('links, jitter and round trips', told, counted or told),
     *((f'chart of {title}', sums[title], row[title]) for title in ('Written', 'First time', 'Recovered', 'Never written', 'Late')),
 ]
 print(f'{name}: ' + ', '.join(f'{key} {value}' for key, value in row.items()) + f'; octets on links {links}')
@@ -98,8 +115,17 @@ if "$program" report "$work/nothing" "$work/page" 2> /dev/null || [ -e "$work/pa
 fi
 
 python3 - "$program" "$records" "$work/page" <<'PY' || bad=1
-import os, subprocess, sys
+import os, subprocess, sys, time
 program, records, page = sys.argv[1], int(sys.argv[2]), sys.argv[3]
+
+
+def peak(pid):
+    """The greatest memory of a process so far, in KB; 0 once it is gone. The `ru_maxrss` of a child is at least that of this program."""
+    try:
+        with open(f'/proc/{pid}/status') as told:
+            return max((int(line.split()[1]) for line in told if line.startswith('VmHWM:')), default=0)
+    except OSError:
+        return 0
 
 
 def piped(words, count, gap):
@@ -109,9 +135,13 @@ def piped(words, count, gap):
     source.stdout.close()
     told = subprocess.Popen([program, *words], stdin=pack.stdout, stdout=subprocess.DEVNULL)
     pack.stdout.close()
-    _, status, used = os.wait4(told.pid, 0)
+    most = ended = 0
+    while not ended:
+        most = max(most, peak(told.pid))
+        time.sleep(0.02)
+        ended, status, used = os.wait4(told.pid, os.WNOHANG)
     assert status == 0 and pack.wait() == 0, (words, status)
-    return used.ru_utime + used.ru_stime, used.ru_maxrss
+    return used.ru_utime + used.ru_stime, most
 
 
 bad = False

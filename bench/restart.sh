@@ -55,11 +55,11 @@ end 0 20 || bad=1
 # What is lost in the last moment before the first is killed, nobody can send again: here nothing is lost on the way.
 echo 'killed, and another started at once'
 begin '--delay 5 --whole 20'
-send first 270544960 0 &
+"$top/bin/rist" send "$work/first" 127.0.0.1:7000 --gap 1000 --flow 270544960 &
 first=$!
 started="$started $first"
 sleep 2
-pkill -P $first || true
+kill -KILL $first
 wait $first || true
 send second 541085010 30000
 # The first stream ends where it was killed; of the other, what came before the restart time was over is missing.
