@@ -8,7 +8,7 @@ ghost use Rattle.end_sign.specs.Until.{ends_with};
 use crate::EndSign;
 use link_channels::{Channel, MAX_DATAGRAM};
 use outside_io::Failed;
-use outside_net::{Got, Link};
+use outside_net::{Got, Link, ReceiverFigures};
 
 /// A link whose reads answer that none will come any more once a sign says that the program is to end. Before that they are the
 /// reads of the link behind, and its writes, its peers and its faults are that link's always. What the reads have still to give is
@@ -103,6 +103,14 @@ impl<L: Link, S: EndSign> Link for Until<L, S> {
 
     fn address(&mut self, flow: u8) {
         self.link.address(flow);
+    }
+
+    fn wants(&self, us: u64) -> bool {
+        self.link.wants(us)
+    }
+
+    fn tell(&mut self, us: u64, flow: u8, figures: &ReceiverFigures) {
+        self.link.tell(us, flow, figures);
     }
 
     fn rest(&self, limit: u8) {

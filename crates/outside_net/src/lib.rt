@@ -5,6 +5,7 @@
 
 mod call_list;
 mod clock;
+mod figures;
 mod link;
 mod link_spec;
 mod list_trace;
@@ -19,6 +20,7 @@ mod trace;
 mod udp_link;
 
 pub use clock::Clock;
+pub use figures::ReceiverFigures;
 pub use link::{Got, Link};
 pub use link_spec::{LinkSpec, Role};
 pub use list_trace::ListTrace;

@@ -8,6 +8,7 @@ ghost use Rattle.outside_net.specs.Streams.{later, IsFirst};
 ghost use Rattle.outside_net.specs.Links.{Answer, Datagram, answer_of, IsWithin, IsOver, KnowsAfter, has_read_failed};
 ghost use Rattle.outside_net.specs.Links.{has_come_to_end, taken_with, IsBefore};
 
+use crate::figures::ReceiverFigures;
 use link_channels::{Channel, MAX_DATAGRAM};
 use outside_io::Failed;
 
@@ -93,6 +94,22 @@ pub trait Link {
     /// What is written from now on goes to the peer of the flow at a place, where a datagram was assigned to it, and else to
     /// its channel's peer.
     fn address(&mut self, flow: u8)
+        ensures peers { (c : Channel) → knows self.new c ≡ knows self.old c }
+        ensures before { (c : Channel) → knew self.new c ≡ knew self.old c }
+        ensures reads { reads self.new ≡ reads self.old }
+        ensures taken { taken self.new ≡ taken self.old }
+        ensures ends { ends self.new ≡ ends self.old }
+        ensures faults { faults self.new ≡ faults self.old }
+    {}
+
+    /// Whether it wants to be told the figures of the receiver at a moment in microseconds.
+    fn wants(&self, us: u64) -> bool {
+        false
+    }
+
+    /// Is told the figures of the receiver of the flow at a place, from 0 on, at a moment in microseconds. It is no read and no
+    /// write.
+    fn tell(&mut self, us: u64, flow: u8, figures: &ReceiverFigures)
         ensures peers { (c : Channel) → knows self.new c ≡ knows self.old c }
         ensures before { (c : Channel) → knew self.new c ≡ knew self.old c }
         ensures reads { reads self.new ≡ reads self.old }

@@ -10,7 +10,7 @@ ghost use Rattle.recorded_link.specs.Recorded.{IsRecorded, KeepsWhere};
 use crate::Recording;
 use link_channels::{Channel, MAX_DATAGRAM};
 use outside_io::{Failed, Sink};
-use outside_net::{Clock, Got, Link};
+use outside_net::{Clock, Got, Link, ReceiverFigures};
 
 /// A link; what its reads give is recorded too, where a recording is. A recording that ends doesn't end the link. To whoever
 /// reads and writes it, it is the link behind.
@@ -85,6 +85,14 @@ impl<L: Link, K: Sink, C: Clock> Link for Recorded<L, K, C> {
 
     fn address(&mut self, flow: u8) {
         self.link.address(flow);
+    }
+
+    fn wants(&self, us: u64) -> bool {
+        self.link.wants(us)
+    }
+
+    fn tell(&mut self, us: u64, flow: u8, figures: &ReceiverFigures) {
+        self.link.tell(us, flow, figures);
     }
 
     fn rest(&self, limit: u8) {
