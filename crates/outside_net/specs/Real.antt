@@ -1,5 +1,6 @@
 -- What a contract sees of links over UDP: whose peers are known.
-use Rattle.std.specs.Prelude.{◌≡◌, ℕ, ◌+◌, List, Bool, true, false, Option, None, Some}
+use Rattle.std.specs.Prelude.{◌≡◌, ℕ, ◌+◌, Bool, true, false, Option, None, Some}
+use Rattle.std.specs.declared.net.ip_addr.IpAddr.{IpAddr}
 use Rattle.link_channels.specs.declared.channel.Channel.{Channel}
 use Rattle.link_channels.specs.declared.channel.Channel.TheVariants as channels
 use Rattle.link_channels.specs.declared.profile.Profile.{Profile}
@@ -60,7 +61,7 @@ stated_in role Main channels.Control = false
 stated_in role Main channels.Tunnel = is_sending role
 
 -- there is a socket, and this is its first peer
-abbrev pub StandsAt : Role → List ℕ → ℕ → Option Port → Type 0
+abbrev pub StandsAt : Role → IpAddr → ℕ → Option Port → Type 0
 StandsAt role address port None = ⊥
 StandsAt role address port (Some socket) = IsFirstPeer role address port socket.peer
 

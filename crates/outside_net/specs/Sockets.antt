@@ -6,10 +6,10 @@ use Rattle.outside_net.specs.declared.port.TheConstants.{MAX_FLOWS}
 use Rattle.std.specs.Prelude.{Result, Ok, Err}
 use Rattle.std.specs.Duration.{as_nanos}
 use Rattle.std.specs.declared.time.Duration.{Duration}
+use Rattle.std.specs.declared.net.ip_addr.IpAddr.{IpAddr}
+use Rattle.std.specs.declared.net.ip_addr.IpAddr.TheVariants.{V4, V6}
 use Rattle.std.specs.declared.net.socket_addr.SocketAddr.{SocketAddr}
-use Rattle.std.specs.declared.net.socket_addr.SocketAddr.TheVariants as addresses
-use Rattle.std.specs.Net.Addr.{ipv4_octets}
-use Rattle.std.specs.Net.Socket.{v4_ip, v4_port}
+use Rattle.std.specs.Net.Socket.{IsPlainSocket, socket_ip}
 use Rattle.std.specs.declared.io.Error.{Error}
 use Rattle.std.specs.declared.io.ErrorKind.{ErrorKind}
 use Rattle.std.specs.declared.io.ErrorKind.TheVariants as kinds
@@ -18,28 +18,42 @@ use Rattle.link_channels.specs.declared.channel.Channel.{Channel}
 use Rattle.link_channels.specs.declared.channel.Channel.TheVariants as channels
 use Rattle.outside_net.specs.declared.link.Got.{Got}
 use Rattle.outside_net.specs.declared.link.Got.TheVariants as got
+use Rattle.outside_net.specs.declared.link_spec.LinkSpec.{LinkSpec}
 use Rattle.outside_net.specs.declared.link_spec.Role.{Role}
 use Rattle.outside_net.specs.declared.link_spec.Role.TheVariants.{Receives, Sends, Forwards}
 use Rattle.outside_net.specs.declared.port.Peer.{Peer}
 use Rattle.outside_net.specs.declared.port.Peer.TheVariants.{Unknown, Last, Stated}
 
--- the address is IPv4, of these four octets and this port
-abbrev pub IsAt : List ℕ → ℕ → SocketAddr → Type 0
-IsAt octets port (addresses.V4 address) = (ipv4_octets (v4_ip address) ≡ octets) × (v4_port address ≡ port)
-IsAt octets port (addresses.V6 address) = ⊥
+-- a link of which nothing is stated but its address and its port
+abbrev pub plain_link : IpAddr → ℕ → LinkSpec
+plain_link address port = record { address = address; port = port; from = None; ttl = None }
 
--- where the socket of a link at this address and port stands: there where it receives, and at any port of this machine
--- where it sends
-abbrev pub IsOwn : Role → List ℕ → ℕ → SocketAddr → Type 0
-IsOwn Receives octets port own = IsAt octets port own
-IsOwn Sends octets port own = IsAt (0 ∷ 0 ∷ 0 ∷ 0 ∷ []) 0 own
-IsOwn Forwards octets port own = IsAt (0 ∷ 0 ∷ 0 ∷ 0 ∷ []) 0 own
+-- a socket's address is this one with this port, without a flow label and a scope
+abbrev pub IsAt : IpAddr → ℕ → SocketAddr → Type 0
+IsAt address port socket = (socket_ip socket ≡ address) × IsPlainSocket socket port
+
+-- any address of this machine of the same kind: `0.0.0.0`, or `::`
+abbrev pub any_of_kind : IpAddr → IpAddr
+any_of_kind (V4 address) = V4 (record { octets = 0 ∷ 0 ∷ 0 ∷ 0 ∷ [] })
+any_of_kind (V6 address) = V6 (record { segments = 0 ∷ 0 ∷ 0 ∷ 0 ∷ 0 ∷ 0 ∷ 0 ∷ 0 ∷ [] })
+
+-- the address that datagrams leave from: the one that is stated, else any of the kind of their destination
+abbrev pub source_of : Option IpAddr → IpAddr → IpAddr
+source_of None to = any_of_kind to
+source_of (Some from) to = from
+
+-- where the socket of a link stands for this port of it: there where it receives, and at any port of the address that it
+-- leaves from where it sends
+abbrev pub IsOwn : Role → LinkSpec → ℕ → SocketAddr → Type 0
+IsOwn Receives spec port own = IsAt spec.address port own
+IsOwn Sends spec port own = IsAt (source_of spec.from spec.address) 0 own
+IsOwn Forwards spec port own = IsAt (source_of spec.from spec.address) 0 own
 
 -- whom it sends to at first: nobody where it receives, and the address and port, which stay, where it sends
-abbrev pub IsFirstPeer : Role → List ℕ → ℕ → Peer → Type 0
-IsFirstPeer Receives octets port peer = peer ≡ Unknown
-IsFirstPeer Sends octets port peer = (stated : SocketAddr) × (peer ≡ Stated stated) × IsAt octets port stated
-IsFirstPeer Forwards octets port peer = (stated : SocketAddr) × (peer ≡ Stated stated) × IsAt octets port stated
+abbrev pub IsFirstPeer : Role → IpAddr → ℕ → Peer → Type 0
+IsFirstPeer Receives address port peer = peer ≡ Unknown
+IsFirstPeer Sends address port peer = (stated : SocketAddr) × (peer ≡ Stated stated) × IsAt address port stated
+IsFirstPeer Forwards address port peer = (stated : SocketAddr) × (peer ≡ Stated stated) × IsAt address port stated
 
 -- whom it sends to once a datagram came from an address: a stated peer stays, and else it is who sent the last one
 abbrev pub learned : Peer → SocketAddr → Peer

@@ -25,7 +25,7 @@ pub use link::{Got, Link};
 pub use link_spec::{LinkSpec, Role};
 pub use list_trace::ListTrace;
 pub use octets::Octets;
-pub use port::RECEIVE_BUFFER;
+pub use port::{RECEIVE_BUFFER, own_address, source_of};
 pub use process_clock::ProcessClock;
 pub use script_clock::ScriptClock;
 pub use script_link::{ScriptLink, ScriptRead};

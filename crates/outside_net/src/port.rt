@@ -3,16 +3,16 @@ ghost use Rattle.std.specs.Prelude.{◌≡◌, ◌≤◌, take, true, is_some, I
 ghost use Rattle.outside_io.specs.Causes.{has_failed};
 ghost use Rattle.link_channels.specs.declared.bounds.TheConstants.{MAX_DATAGRAM as max_datagram};
 ghost use Rattle.outside_net.specs.Real.{is_known, is_sending};
-ghost use Rattle.outside_net.specs.Sockets.{IsAt, IsOwn, IsFirstPeer, is_no_fault, is_fault, answer_by};
+ghost use Rattle.outside_net.specs.Sockets.{IsAt, IsOwn, IsFirstPeer, any_of_kind, source_of, is_no_fault, is_fault, answer_by};
 ghost use Rattle.outside_net.specs.Sockets.{assigned, sender_of, target};
 ghost use Rattle.outside_net.specs.declared.port.Peer.TheVariants.{Last};
 
-use crate::{Got, Role};
+use crate::{Got, LinkSpec, Role};
 use libc::net::{SO_RCVBUF, SOL_SOCKET, getsockopt, setsockopt};
 use link_channels::{Channel, MAX_DATAGRAM};
 use outside_io::Failed;
 use std::io::{self, ErrorKind};
-use std::net::{Ipv4Addr, Net, SocketAddr, SocketAddrV4, UdpSocket};
+use std::net::{IpAddr, Ipv4Addr, Ipv6Addr, Net, SocketAddr, UdpSocket};
 use std::os::fd::AsRawFd;
 
 /// How many octets a socket is asked to keep until they are read. The system may give less.
@@ -51,14 +51,14 @@ impl Port {
     ghost use Rattle.outside_net.specs.Sockets.{IsFirstPeer, IsOn, learned, Learns, assigned, sender_of};
     ghost use Rattle.outside_net.specs.Real.{is_known, is_sending, PeerAfter};
 
-    /// Bound to the address, or from any port of this machine to it.
-    pub fn open<R: Net>(rt: &R, address: [u8; 4], port: u16, role: Role) -> Result<Port, Failed>
-        ensures at { IfOk result (λ opened. IsFirstPeer role address port opened.peer) }
+    /// Bound to the link's address and this port, or from any port of this machine to them.
+    pub fn open<R: Net>(rt: &R, spec: &LinkSpec, port: u16, role: Role) -> Result<Port, Failed>
+        ensures at { IfOk result (λ opened. IsFirstPeer role spec.now.address port opened.peer) }
         ensures peer { IfOk result (λ opened. is_known opened.peer ≡ is_sending role) }
         ensures before { IfOk result (λ opened. opened.before ≡ opened.peer) }
     {
-        let peer = first_peer(role, address, port);
-        match quick_socket(rt, own_address(role, address, port)) {
+        let peer = first_peer(role, spec.address, port);
+        match quick_socket(rt, own_address(role, spec, port), spec.ttl) {
             Ok(socket) => Ok(Port {
                 socket,
                 peer,
@@ -180,14 +180,6 @@ impl Port {
     }
 }
 
-/// The address and the port, as the system has them.
-fn socket_address(address: [u8; 4], port: u16) -> SocketAddr
-    ensures value { IsAt address port result }
-{
-    let [a, b, c, d] = address;
-    SocketAddr::V4(SocketAddrV4::new(Ipv4Addr::new(a, b, c, d), port))
-}
-
 /// Who sent the last datagram of a flow is kept, if a tunnel has such a flow.
 fn keep_sender(senders: &mut [Option<SocketAddr>; MAX_FLOWS], flow: u8, from: SocketAddr)
     ensures value { senders.new ≡ assigned flow (Last from) senders.old }
@@ -222,31 +214,55 @@ fn target(peer: Peer, facing: Option<SocketAddr>) -> Option<SocketAddr>
     }
 }
 
-/// What the socket of a link is bound to: the link's address where it receives, and else any port of this machine.
-fn own_address(role: Role, address: [u8; 4], port: u16) -> SocketAddr
-    ensures value { IsOwn role address port result }
+/// What the socket of a link is bound to: the link's address where it receives, and else any port of the address that it sends from.
+pub fn own_address(role: Role, spec: &LinkSpec, port: u16) -> SocketAddr
+    ensures value { IsOwn role spec.now port result }
 {
     match role {
-        Role::Receives => socket_address(address, port),
-        Role::Sends | Role::Forwards => socket_address([0, 0, 0, 0], 0),
+        Role::Receives => SocketAddr::new(spec.address, port),
+        Role::Sends | Role::Forwards => SocketAddr::new(source_of(spec.from, spec.address), 0),
+    }
+}
+
+/// The address that datagrams to another one leave from: the one that is stated, else any of this machine's of the same kind.
+pub fn source_of(from: Option<IpAddr>, to: IpAddr) -> IpAddr
+    ensures value { result ≡ source_of from to }
+{
+    match from {
+        Some(address) => address,
+        None => any_of_kind(to),
+    }
+}
+
+/// Any address of this machine of the same kind.
+fn any_of_kind(address: IpAddr) -> IpAddr
+    ensures value { result ≡ any_of_kind address }
+{
+    match address {
+        IpAddr::V4(_) => IpAddr::V4(Ipv4Addr::UNSPECIFIED),
+        IpAddr::V6(_) => IpAddr::V6(Ipv6Addr::UNSPECIFIED),
     }
 }
 
 /// Whom the socket of a link sends to before a datagram came.
-fn first_peer(role: Role, address: [u8; 4], port: u16) -> Peer
+fn first_peer(role: Role, address: IpAddr, port: u16) -> Peer
     ensures value { IsFirstPeer role address port result }
     ensures known { is_known result ≡ is_sending role }
 {
     match role {
         Role::Receives => Peer::Unknown,
-        Role::Sends | Role::Forwards => Peer::Stated(socket_address(address, port)),
+        Role::Sends | Role::Forwards => Peer::Stated(SocketAddr::new(address, port)),
     }
 }
 
 /// A socket that never waits and has a large receive buffer, where the system gives one.
-fn quick_socket<R: Net>(rt: &R, own: SocketAddr) -> io::Result<UdpSocket> {
+fn quick_socket<R: Net>(rt: &R, own: SocketAddr, ttl: Option<u8>) -> io::Result<UdpSocket> {
     let socket = UdpSocket::bind(rt, own)?;
     socket.set_nonblocking(true)?;
+    if let Some(ttl) = ttl {
+        socket.set_ttl(u32::from(ttl))?;
+        socket.set_multicast_ttl_v4(u32::from(ttl))?;
+    }
     let mut value = [0; 16];
     value[..4].copy_from_slice(&RECEIVE_BUFFER.to_ne_bytes());
     let _ = unsafe { setsockopt(socket.as_raw_fd(), SOL_SOCKET, SO_RCVBUF, &value, 4) };

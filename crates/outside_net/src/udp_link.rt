@@ -35,8 +35,8 @@ impl UdpLink {
     ghost use Rattle.outside_net.specs.Real.{knows_in_link, knew_in_link, stated_in, IsOpenedAt, IsUnused, KnowsAfterLook};
     ghost use Rattle.outside_net.specs.Sockets.{IsOn, TakesTurns};
 
-    /// Opens a link: it is bound to its address, or sends to it. Where an address can't be bound or is none of this
-    /// machine's, it fails. In the Simple Profile control goes on the next port.
+    /// Opens a link: it is bound to its address, or sends to it from the address that is stated. Where an address can't be bound or
+    /// is none of this machine's, it fails. In the Simple Profile control goes on the next port.
     pub fn open<R: Net>(
         rt: &R,
         spec: &LinkSpec,
@@ -53,8 +53,8 @@ impl UdpLink {
                 let Some(control) = spec.control_port() else {
                     return Err(Failed);
                 };
-                let media = Port::open(rt, spec.address, spec.port, role)?;
-                let control = Port::open(rt, spec.address, control, role)?;
+                let media = Port::open(rt, spec, spec.port, role)?;
+                let control = Port::open(rt, spec, control, role)?;
                 Ok(UdpLink {
                     media: Some(media),
                     control: Some(control),
@@ -65,7 +65,7 @@ impl UdpLink {
                 })
             }
             Profile::Main => {
-                let tunnel = Port::open(rt, spec.address, spec.port, role)?;
+                let tunnel = Port::open(rt, spec, spec.port, role)?;
                 Ok(UdpLink {
                     media: None,
                     control: None,
