@@ -8,7 +8,7 @@ use Rattle.link_channels.specs.declared.profile.Profile.TheVariants.{Simple, Mai
 use Rattle.outside_net.specs.declared.link.Got.{Got}
 use Rattle.outside_net.specs.declared.link.Got.TheVariants as got
 use Rattle.outside_net.specs.declared.link_spec.Role.{Role}
-use Rattle.outside_net.specs.declared.link_spec.Role.TheVariants.{Receives, Sends, Forwards}
+use Rattle.outside_net.specs.declared.link_spec.Role.TheVariants as roles
 use Rattle.outside_net.specs.declared.link_spec.LinkSpec.{LinkSpec}
 use Rattle.outside_net.specs.declared.port.Peer.{Peer}
 use Rattle.outside_net.specs.declared.port.Peer.TheVariants.{Unknown, Last, Stated}
@@ -45,20 +45,22 @@ knew_in_link link channels.Media = knew_at link.media
 knew_in_link link channels.Control = knew_at link.control
 knew_in_link link channels.Tunnel = knew_at link.tunnel
 
--- the peers that are known at first: those of a sending link's channels
-abbrev pub is_sending : Role → Bool
-is_sending Receives = false
-is_sending Sends = true
-is_sending Forwards = true
+-- a link in this role calls: it sends to its address, whose peers it knows from the first; another one listens
+abbrev pub is_caller : Role → Bool
+is_caller roles.Receives = false
+is_caller roles.ReceivesCalling = true
+is_caller roles.Sends = true
+is_caller roles.SendsListening = false
+is_caller roles.Forwards = true
 
--- a link states the peers of its profile's channels where it sends, and none where it receives
+-- a link states the peers of its profile's channels where it calls, and none where it listens
 abbrev pub stated_in : Role → Profile → Channel → Bool
-stated_in role Simple channels.Media = is_sending role
-stated_in role Simple channels.Control = is_sending role
+stated_in role Simple channels.Media = is_caller role
+stated_in role Simple channels.Control = is_caller role
 stated_in role Simple channels.Tunnel = false
 stated_in role Main channels.Media = false
 stated_in role Main channels.Control = false
-stated_in role Main channels.Tunnel = is_sending role
+stated_in role Main channels.Tunnel = is_caller role
 
 -- there is a socket, and this is its first peer
 abbrev pub StandsAt : Role → IpAddr → ℕ → Option Port → Type 0

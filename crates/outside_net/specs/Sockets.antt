@@ -20,7 +20,7 @@ use Rattle.outside_net.specs.declared.link.Got.{Got}
 use Rattle.outside_net.specs.declared.link.Got.TheVariants as got
 use Rattle.outside_net.specs.declared.link_spec.LinkSpec.{LinkSpec}
 use Rattle.outside_net.specs.declared.link_spec.Role.{Role}
-use Rattle.outside_net.specs.declared.link_spec.Role.TheVariants.{Receives, Sends, Forwards}
+use Rattle.outside_net.specs.declared.link_spec.Role.TheVariants as roles
 use Rattle.outside_net.specs.declared.port.Peer.{Peer}
 use Rattle.outside_net.specs.declared.port.Peer.TheVariants.{Unknown, Last, Stated}
 
@@ -42,18 +42,26 @@ abbrev pub source_of : Option IpAddr → IpAddr → IpAddr
 source_of None to = any_of_kind to
 source_of (Some from) to = from
 
--- where the socket of a link stands for this port of it: there where it receives, and at any port of the address that it
--- leaves from where it sends
+-- where the socket of a link stands for this port of it: there where it listens, and at any port of the address that it
+-- leaves from where it calls
 abbrev pub IsOwn : Role → LinkSpec → ℕ → SocketAddr → Type 0
-IsOwn Receives spec port own = IsAt spec.address port own
-IsOwn Sends spec port own = IsAt (source_of spec.from spec.address) 0 own
-IsOwn Forwards spec port own = IsAt (source_of spec.from spec.address) 0 own
+IsOwn roles.Receives spec port own = IsAt spec.address port own
+IsOwn roles.ReceivesCalling spec port own = IsAt (source_of spec.from spec.address) 0 own
+IsOwn roles.Sends spec port own = IsAt (source_of spec.from spec.address) 0 own
+IsOwn roles.SendsListening spec port own = IsAt spec.address port own
+IsOwn roles.Forwards spec port own = IsAt (source_of spec.from spec.address) 0 own
 
--- whom it sends to at first: nobody where it receives, and the address and port, which stay, where it sends
+-- a peer that was stated at an address and port, which stay
+abbrev pub IsStatedAt : IpAddr → ℕ → Peer → Type 0
+IsStatedAt address port peer = (stated : SocketAddr) × (peer ≡ Stated stated) × IsAt address port stated
+
+-- whom it sends to at first: nobody where it listens, and the address and port where it calls
 abbrev pub IsFirstPeer : Role → IpAddr → ℕ → Peer → Type 0
-IsFirstPeer Receives address port peer = peer ≡ Unknown
-IsFirstPeer Sends address port peer = (stated : SocketAddr) × (peer ≡ Stated stated) × IsAt address port stated
-IsFirstPeer Forwards address port peer = (stated : SocketAddr) × (peer ≡ Stated stated) × IsAt address port stated
+IsFirstPeer roles.Receives address port peer = peer ≡ Unknown
+IsFirstPeer roles.ReceivesCalling address port peer = IsStatedAt address port peer
+IsFirstPeer roles.Sends address port peer = IsStatedAt address port peer
+IsFirstPeer roles.SendsListening address port peer = peer ≡ Unknown
+IsFirstPeer roles.Forwards address port peer = IsStatedAt address port peer
 
 -- whom it sends to once a datagram came from an address: a stated peer stays, and else it is who sent the last one
 abbrev pub learned : Peer → SocketAddr → Peer

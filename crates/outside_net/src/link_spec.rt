@@ -5,7 +5,7 @@ use std::net::IpAddr;
 /// An address of IPv4 or of IPv6 and a port of UDP; and how datagrams of a link that sends leave this machine.
 #[derive(Clone, Copy, Debug, PartialEq, Eq)]
 pub struct LinkSpec {
-    /// Where it is bound to, or sends to.
+    /// Where it is bound to as a listener, or sends to as a caller.
     pub address: IpAddr,
     /// The port, that of media in the Simple Profile.
     pub port: u16,
@@ -43,10 +43,14 @@ impl LinkSpec {
 /// Which end of a link this is.
 #[derive(Clone, Copy, Debug, PartialEq, Eq)]
 pub enum Role {
-    /// It is bound to the address, and answers whoever sends to it.
+    /// It receives as a listener: it is bound to the address, and answers whoever sends to it.
     Receives,
-    /// It sends to the address what a source gives.
+    /// It receives as a caller: it sends to the address from the first, and takes what comes.
+    ReceivesCalling,
+    /// It sends as a caller what a source gives: to the address.
     Sends,
-    /// It sends to the address what others bring.
+    /// It sends as a listener what a source gives: it is bound to the address, and sends to whoever sent to it.
+    SendsListening,
+    /// It sends as a caller what others bring: to the address.
     Forwards,
 }

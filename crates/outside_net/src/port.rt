@@ -2,7 +2,7 @@
 ghost use Rattle.std.specs.Prelude.{◌≡◌, ◌≤◌, take, true, is_some, IfOk};
 ghost use Rattle.outside_io.specs.Causes.{has_failed};
 ghost use Rattle.link_channels.specs.declared.bounds.TheConstants.{MAX_DATAGRAM as max_datagram};
-ghost use Rattle.outside_net.specs.Real.{is_known, is_sending};
+ghost use Rattle.outside_net.specs.Real.{is_known, is_caller};
 ghost use Rattle.outside_net.specs.Sockets.{IsAt, IsOwn, IsFirstPeer, any_of_kind, source_of, is_no_fault, is_fault, answer_by};
 ghost use Rattle.outside_net.specs.Sockets.{assigned, sender_of, target};
 ghost use Rattle.outside_net.specs.declared.port.Peer.TheVariants.{Last};
@@ -49,12 +49,12 @@ impl Port {
     ghost use Rattle.std.specs.Prelude.{◌≡◌, IfOk, IfSome, OnErr, true, false};
     ghost use Rattle.outside_net.specs.Links.{IsWithin, has_come_to_end};
     ghost use Rattle.outside_net.specs.Sockets.{IsFirstPeer, IsOn, learned, Learns, assigned, sender_of};
-    ghost use Rattle.outside_net.specs.Real.{is_known, is_sending, PeerAfter};
+    ghost use Rattle.outside_net.specs.Real.{is_known, is_caller, PeerAfter};
 
     /// Bound to the link's address and this port, or from any port of this machine to them.
     pub fn open<R: Net>(rt: &R, spec: &LinkSpec, port: u16, role: Role) -> Result<Port, Failed>
         ensures at { IfOk result (λ opened. IsFirstPeer role spec.now.address port opened.peer) }
-        ensures peer { IfOk result (λ opened. is_known opened.peer ≡ is_sending role) }
+        ensures peer { IfOk result (λ opened. is_known opened.peer ≡ is_caller role) }
         ensures before { IfOk result (λ opened. opened.before ≡ opened.peer) }
     {
         let peer = first_peer(role, spec.address, port);
@@ -214,13 +214,15 @@ fn target(peer: Peer, facing: Option<SocketAddr>) -> Option<SocketAddr>
     }
 }
 
-/// What the socket of a link is bound to: the link's address where it receives, and else any port of the address that it sends from.
+/// What the socket of a link is bound to: the link's address where it listens, and else any port of the address that it sends from.
 pub fn own_address(role: Role, spec: &LinkSpec, port: u16) -> SocketAddr
     ensures value { IsOwn role spec.now port result }
 {
     match role {
-        Role::Receives => SocketAddr::new(spec.address, port),
-        Role::Sends | Role::Forwards => SocketAddr::new(source_of(spec.from, spec.address), 0),
+        Role::Receives | Role::SendsListening => SocketAddr::new(spec.address, port),
+        Role::ReceivesCalling | Role::Sends | Role::Forwards => {
+            SocketAddr::new(source_of(spec.from, spec.address), 0)
+        }
     }
 }
 
@@ -247,11 +249,13 @@ fn any_of_kind(address: IpAddr) -> IpAddr
 /// Whom the socket of a link sends to before a datagram came.
 fn first_peer(role: Role, address: IpAddr, port: u16) -> Peer
     ensures value { IsFirstPeer role address port result }
-    ensures known { is_known result ≡ is_sending role }
+    ensures known { is_known result ≡ is_caller role }
 {
     match role {
-        Role::Receives => Peer::Unknown,
-        Role::Sends | Role::Forwards => Peer::Stated(SocketAddr::new(address, port)),
+        Role::Receives | Role::SendsListening => Peer::Unknown,
+        Role::ReceivesCalling | Role::Sends | Role::Forwards => {
+            Peer::Stated(SocketAddr::new(address, port))
+        }
     }
 }
 

@@ -15,8 +15,8 @@ use std::net::Net;
 /// A link over UDP: in the Simple Profile a socket for media and one for control, in the Main Profile one for the
 /// tunnel.
 ///
-/// A receiving link is bound to its address, and answers on each channel to whoever sent the last datagram on it that
-/// wasn't refused; in a tunnel of several flows, each flow to whoever sent its last datagram. A sending link sends to its
+/// A link that listens is bound to its address, and sends on each channel to whoever sent the last datagram on it that
+/// wasn't refused; in a tunnel of several flows, of each flow to whoever sent its last datagram. A link that calls sends to its
 /// address. A read looks at the socket first that gave a datagram least recently.
 #[derive(Drop)]
 pub struct UdpLink {
