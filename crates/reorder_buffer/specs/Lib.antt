@@ -1,4 +1,5 @@
 pub mod State
 pub mod StateAfter
 pub mod OneMore
+pub mod Fill
 pub mod Inside

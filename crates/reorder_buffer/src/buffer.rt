@@ -1,6 +1,7 @@
 ghost use Rattle.std.specs.Prelude.{◌≡◌, ◌<◌, ◌≤◌, ◌^◌};
 ghost use Rattle.link_channels.specs.declared.bounds.TheConstants.{MAX_PAYLOAD};
 
+use crate::fill::lead;
 use crate::phase::Phase;
 use crate::release::put_due;
 use crate::ring::Ring;
@@ -43,7 +44,7 @@ impl Model for Buffer {
 }
 
 impl Buffer {
-    ghost use Rattle.std.specs.Prelude.{◌≡◌, ◌≢◌, ◌↔◌, ◌≤◌, ◌<◌, ◌+◌, ◌*◌, ◌^◌, List, [], ◌∷◌, length, IsTrue, ◌==◌, nat_le, true, false, IfOk, IsOk, OnOk, OnErr, IsSome};
+    ghost use Rattle.std.specs.Prelude.{◌≡◌, ◌≢◌, ◌↔◌, ◌≤◌, ◌<◌, ◌+◌, ◌*◌, ◌^◌, List, [], ◌∷◌, length, IsTrue, ◌==◌, nat_le, true, false, Some, IfOk, IsOk, OnOk, OnErr, IsSome};
     ghost use Rattle.std.specs.List.{list_any, filter};
     ghost use Rattle.std.specs.Option.{option_map, ForSome};
     ghost use Rattle.outside_io.specs.Causes.{HasCause};
@@ -55,6 +56,7 @@ impl Buffer {
     ghost use Rattle.receiver_rules.specs.Bounds.{AreInRange, IsEarlyAnchor, IsClockWithin, IsNearBase};
     ghost use Rattle.reorder_buffer.specs.State.{failed, number_below, IsNoLower};
     ghost use Rattle.reorder_buffer.specs.StateAfter.{IsStateAfter};
+    ghost use Rattle.reorder_buffer.specs.Fill.{fill_of, lead_of, base_in};
     ghost use Rattle.reorder_buffer.specs.OneMore.{StandsAfter, Judges, Releases, ReleasesPart, ReleasesNothing, Counts, IsKept};
     ghost use Rattle.reorder_buffer.specs.Inside.Release.{octets_below, floor_then};
     ghost use Rattle.reorder_buffer.specs.Inside.Changes.{holding, moved, taken, raised, is_opening, next_epoch, begun, opened_at};
@@ -247,6 +249,30 @@ impl Buffer {
         self.anchor.map(|anchor| anchor.flow)
     }
 
+    /// What the deadlines of the epoch's next packets count from, in ticks of the receiver's clock: it moves only with drift.
+    pub fn base(&self) -> Option<i64>
+        ensures { result ≡ base_in self.now }
+    {
+        match self.anchor {
+            Some(_) => Some(self.clock.base),
+            None => None,
+        }
+    }
+
+    /// How far ahead the packet with the highest number is due, in ticks, by the base of now. Where nothing waits it is 0.
+    pub fn fill(&self) -> u64
+        requires running { self.now.phase ≢ Phase.Failed }
+        ensures value { result ≡ fill_of self.now }
+    {
+        if self.ring.count() == 0 {
+            return 0;
+        }
+        match (self.anchor, self.highest) {
+            (Some(anchor), Some(highest)) => self.lead(&anchor, &highest),
+            _ => 0,
+        }
+    }
+
     /// Whether the packet with this number waits. Above the highest number that was played out this says whether it was
     /// kept.
     pub fn has(&self, number: u64) -> bool
@@ -409,6 +435,23 @@ impl Buffer {
         } else {
             Verdict::Kept
         }
+    }
+
+    /// How far ahead a packet with the timestamp of the highest one is due.
+    fn lead(&self, anchor: &Anchor, highest: &Highest) -> u64
+        requires running { self.now.phase ≢ Phase.Failed }
+        requires anchor { self.now.anchor ≡ Some anchor.now }
+        requires highest { self.now.highest ≡ Some highest.now }
+        ensures value { result
+            ≡ lead_of self.now.limits self.now.anchor self.now.clock.base self.now.highest self.now.time }
+    {
+        lead(
+            &self.limits,
+            anchor,
+            &self.clock,
+            highest.timestamp,
+            self.time,
+        )
     }
 
     /// Puts a packet among those that wait.

@@ -3,6 +3,7 @@
 #![tactic(auto)]
 
 pub mod buffer;
+mod fill;
 mod phase;
 mod places;
 mod release;
