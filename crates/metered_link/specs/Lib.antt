@@ -1,3 +1,4 @@
 pub mod Meters
 pub mod Lines
+pub mod ReceiverLines
 pub mod Tellers

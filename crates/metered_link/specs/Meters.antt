@@ -1,6 +1,6 @@
 -- What is counted of a link, and when it is told (this profile).
 use Rattle.std.specs.Prelude.{◌≡◌, ℕ, ◌+◌, ◌-◌, ◌^◌, min, nat_le, if◌then◌else◌, Option, None, Some, Result}
-use Rattle.std.specs.Prelude.{Ok, Err, Bool, true, false}
+use Rattle.std.specs.Prelude.{Ok, Err, Bool, true, false, ◌==◌, ◌&&◌}
 use Rattle.outside_net.specs.declared.link.Got.{Got}
 use Rattle.outside_net.specs.declared.link.Got.TheVariants as got
 use Rattle.metered_link.specs.declared.meter.LinkTotals.{LinkTotals}
@@ -86,3 +86,7 @@ telling_of (Some event) since totals = Some (record { event = event; since = sin
 abbrev pub told_after : Option Telling → LinkTotals → LinkTotals
 told_after None told = told
 told_after (Some telling) told = telling.totals
+
+-- the receiver's figures are due where the interval since the last ones has passed, on the link at place 0
+abbrev pub wants_figures : ℕ → ℕ → ℕ → ℕ → Bool
+wants_figures place every last us = place == 0 && nat_le every (us - last)

@@ -1,10 +1,11 @@
 //! A link that tells how it does.
 ghost use Rattle.std.specs.Prelude.{◌≡◌};
+ghost use Rattle.metered_link.specs.Meters.{wants_figures};
 
 use crate::{Meter, Teller};
 use link_channels::{Channel, MAX_DATAGRAM};
 use outside_io::Failed;
-use outside_net::{Clock, Got, Link};
+use outside_net::{Clock, Got, Link, ReceiverFigures};
 
 /// What is counted of a link, by a clock of its own, and what it is told to.
 #[derive(Drop)]
@@ -13,6 +14,8 @@ struct Metering<C, T> {
     teller: T,
     place: u8,
     meter: Meter,
+    /// The moment of the receiver's last figures, in microseconds.
+    figured: u64,
 }
 
 impl<C: Clock, T: Teller> Metering<C, T> {
@@ -23,6 +26,23 @@ impl<C: Clock, T: Teller> Metering<C, T> {
             if !self.teller.tell(self.place, &telling) {
                 self.meter.drop_line();
             }
+        }
+    }
+
+    /// Whether the receiver's figures are due at a moment: they are the first link's to tell, once in an interval.
+    fn wants(&self, us: u64) -> bool
+        ensures value { result ≡ wants_figures self.now.place self.now.meter.every self.now.figured us }
+    {
+        self.place == 0 && us.saturating_sub(self.figured) >= self.meter.every
+    }
+
+    /// Tells the receiver's figures. A line that couldn't be told is counted.
+    fn tell(&mut self, us: u64, flow: u8, figures: &ReceiverFigures)
+        ensures told { self.new.figured ≡ us }
+    {
+        self.figured = us;
+        if !self.teller.tell_receiver(us, flow, figures) {
+            self.meter.drop_line();
         }
     }
 }
@@ -45,7 +65,8 @@ impl<L, C, T> Metered<L, C, T> {
         }
     }
 
-    /// The link at a place, which tells each `every` microseconds, and where it comes up or goes down.
+    /// The link at a place, which tells each `every` microseconds, and where it comes up or goes down. The one at place 0 tells
+    /// the receiver's figures too.
     pub fn over(link: L, clock: C, teller: T, place: u8, every: u64) -> Metered<L, C, T>
         ensures link { result.link ≡ link }
     {
@@ -56,6 +77,7 @@ impl<L, C, T> Metered<L, C, T> {
                 teller,
                 place,
                 meter: Meter::new(every),
+                figured: 0,
             }),
         }
     }
@@ -103,6 +125,19 @@ impl<L: Link, C: Clock, T: Teller> Link for Metered<L, C, T> {
 
     fn address(&mut self, flow: u8) {
         self.link.address(flow);
+    }
+
+    fn wants(&self, us: u64) -> bool {
+        match &self.metering {
+            Some(metering) => metering.wants(us),
+            None => false,
+        }
+    }
+
+    fn tell(&mut self, us: u64, flow: u8, figures: &ReceiverFigures) {
+        if let Some(metering) = &mut self.metering {
+            metering.tell(us, flow, figures);
+        }
     }
 
     fn rest(&self, limit: u8) {

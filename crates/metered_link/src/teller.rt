@@ -1,16 +1,28 @@
 //! What a link tells to.
 ghost use Rattle.std.specs.Prelude.{◌≡◌};
-ghost use Rattle.metered_link.specs.Tellers.{PutsLine};
+ghost use Rattle.metered_link.specs.Tellers.{PutsLine, PutsReceiverLine, PutsText};
 
 use crate::Telling;
 use crate::line::link_line;
+use crate::receiver::receiver_line;
 use outside_io::Sink;
+use outside_net::ReceiverFigures;
 use std::alloc::Global;
 
 /// Is told how a link does.
 pub trait Teller {
     /// What the link at a place came to. Whether it was told.
     fn tell(&mut self, place: u8, telling: &Telling) -> bool;
+
+    /// The figures of the receiver of the flow at a place, at a moment in microseconds. Whether they were told.
+    fn tell_receiver(&mut self, us: u64, flow: u8, figures: &ReceiverFigures) -> bool;
+}
+
+/// Puts a line to a sink, by one call. Whether that was done.
+fn put_line<K: Sink>(sink: &mut K, line: &[u8]) -> bool
+    ensures line { PutsText (K.contents sink.old) (K.contents sink.new) line.now result }
+{
+    sink.put(line).is_ok()
 }
 
 /// Puts lines of JSON to a sink, each by one call. A line that can't be made or put is left out.
@@ -35,7 +47,16 @@ impl<K: Sink> Teller for Lines<K> {
         ensures line { PutsLine (K.contents self.old.sink) (K.contents self.new.sink) place telling.now result }
     {
         match link_line(self.alloc, place, telling) {
-            Ok(line) => self.sink.put(&line).is_ok(),
+            Ok(line) => put_line(&mut self.sink, &line),
+            Err(_) => false,
+        }
+    }
+
+    fn tell_receiver(&mut self, us: u64, flow: u8, figures: &ReceiverFigures) -> bool
+        ensures line { PutsReceiverLine (K.contents self.old.sink) (K.contents self.new.sink) us flow figures.now result }
+    {
+        match receiver_line(self.alloc, us, flow, figures) {
+            Ok(line) => put_line(&mut self.sink, &line),
             Err(_) => false,
         }
     }
