@@ -5,5 +5,6 @@ use Rattle.media_address.specs.declared.bad.AddressBad.TheVariants.{NoAddress, N
 
 -- the text of each
 abbrev pub text_of : AddressBad → List ℕ
-text_of NoAddress = codes "no address a.b.c.d:port"
-text_of NoSetting = codes "behind ? stands neither ttl=1..255 nor from=a.b.c.d, or one twice"
+text_of NoAddress = codes "no address a.b.c.d:port or [IPv6]:port"
+text_of NoSetting =
+    codes "behind ? stands neither from= with an address of the same kind nor ttl=1..255 for IPv4, or one twice"

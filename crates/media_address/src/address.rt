@@ -3,8 +3,8 @@ ghost use Rattle.std.specs.Prelude.{◌≡◌, option_map};
 ghost use Rattle.media_address.specs.Address.{address_of, form_of, place_of, read_as, placed};
 
 use crate::bad::AddressBad;
-use crate::reading::{behind, host_of, number_in, split_at};
-use crate::settings::Settings;
+use host_text::{Settings, behind, first_part, number_in};
+use std::net::IpAddr;
 
 /// How a stream lies in datagrams of UDP.
 #[derive(Clone, Copy, Debug, PartialEq, Eq)]
@@ -20,8 +20,8 @@ pub enum Form {
 pub struct MediaAddress {
     /// How it lies in datagrams.
     pub form: Form,
-    /// The IPv4 address, that of a multicast group too.
-    pub host: [u8; 4],
+    /// The address of IPv4 or IPv6, that of a multicast group too.
+    pub host: IpAddr,
     /// The port, from 1 on.
     pub port: u16,
     /// How datagrams leave this machine.
@@ -58,34 +58,26 @@ fn form_of(word: &str) -> Option<(Form, &str)>
 fn read_as(form: Form, text: &str) -> Result<MediaAddress, AddressBad>
     ensures value { result ≡ read_as form text.now }
 {
-    match split_at(text, '?') {
-        None => match place_of(text) {
-            Some(place) => Ok(placed(form, place, Settings::none())),
-            None => Err(AddressBad::NoAddress),
-        },
-        Some((text, settings)) => {
-            let Some(place) = place_of(text) else {
-                return Err(AddressBad::NoAddress);
-            };
-            match Settings::of(settings) {
-                Some(settings) => Ok(placed(form, place, settings)),
-                None => Err(AddressBad::NoSetting),
-            }
-        }
+    let (text, settings) = first_part(text, '?');
+    let Some((host, port)) = place_of(text) else {
+        return Err(AddressBad::NoAddress);
+    };
+    match Settings::to(host, settings) {
+        Some(settings) => Ok(placed(form, (host, port), settings)),
+        None => Err(AddressBad::NoSetting),
     }
 }
 
-/// An IPv4 address and a port from 1 on.
-fn place_of(text: &str) -> Option<([u8; 4], u16)>
+/// An address and a port from 1 on.
+fn place_of(text: &str) -> Option<(IpAddr, u16)>
     ensures value { result ≡ place_of text.now }
 {
-    let (host, port) = split_at(text, ':')?;
-    let host = host_of(host)?;
+    let (host, port) = host_text::place_of(text)?;
     let port = number_in(port, 1, 65_535)? as u16;
     Some((host, port))
 }
 
-fn placed(form: Form, place: ([u8; 4], u16), settings: Settings) -> MediaAddress
+fn placed(form: Form, place: (IpAddr, u16), settings: Settings) -> MediaAddress
     ensures value { result ≡ placed form place settings }
 {
     let (host, port) = place;

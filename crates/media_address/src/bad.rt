@@ -3,9 +3,9 @@ use std::fmt::{self, Display, Formatter, Write};
 /// Why a word that begins as an address is none: the first test that fails.
 #[derive(Clone, Copy, Debug, PartialEq, Eq)]
 pub enum AddressBad {
-    /// No IPv4 address and port, from 1 on, stand before the question mark or the end.
+    /// No address and port, from 1 on, stand before the question mark or the end.
     NoAddress,
-    /// What stands behind the question mark is no setting, or two that are the same.
+    /// What stands behind the question mark is no setting, two that are the same, or one that doesn't fit the address.
     NoSetting,
 }
 
@@ -17,9 +17,9 @@ impl Display for AddressBad {
 
     fn fmt<W: Write>(&self, f: &mut Formatter<W>) -> fmt::Result {
         f.write_str(match self {
-            AddressBad::NoAddress => "no address a.b.c.d:port",
+            AddressBad::NoAddress => "no address a.b.c.d:port or [IPv6]:port",
             AddressBad::NoSetting =>
-                "behind ? stands neither ttl=1..255 nor from=a.b.c.d, or one twice",
+                "behind ? stands neither from= with an address of the same kind nor ttl=1..255 for IPv4, or one twice",
         })
     }
 }

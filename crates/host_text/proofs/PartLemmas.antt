@@ -14,7 +14,7 @@ use Rattle.std.specs.Str.Pattern.{FindsTextPrefix, StripsPrefix}
 use Rattle.std.proofs.Math.Seq.{take-append_seam}
 use Rattle.std.proofs.lemmas.List.{take-append-drop}
 use Rattle.std.proofs.lemmas.Slice.Eq.{bytes_eq-Decides}
-use Rattle.media_address.specs.Parts.{behind, is_numeral}
+use Rattle.host_text.specs.Parts.{behind, is_numeral}
 
 -- ---- digits parse to their number where it fits
 

@@ -1,5 +1,5 @@
-use Rattle.media_address.proofs.PartLemmas.{none_value, some_value}
-use Rattle.media_address.proofs.reading.digits_value.Goals as goal
+use Rattle.host_text.proofs.PartLemmas.{none_value, some_value}
+use Rattle.host_text.proofs.parts.digits_value.Goals as goal
 
 pub returns : goal.returns
 returns c = record {

@@ -1,5 +1,5 @@
 -- Parts of a text, which is its octets, and the numbers in them (this profile).
-use Rattle.std.specs.Prelude.{ℕ, List, [], ◌∷◌, length, take, drop, nat_lt, ◌&&◌, ◌==◌, Bool, not, if◌then◌else◌}
+use Rattle.std.specs.Prelude.{ℕ, List, length, take, drop, nat_lt, ◌&&◌, ◌==◌, Bool, not, if◌then◌else◌}
 use Rattle.std.specs.Prelude.{Option, Some, None}
 use Rattle.std.specs.Char.{is_ascii_digit}
 use Rattle.std.specs.List.{list_all, before_first, after_first, position_or_len}
@@ -27,6 +27,15 @@ split_at mark text =
     if nat_lt (position_or_len (λ c. c == mark) text) (length text)
     then Some (before_first (λ c. c == mark) text, after_first (λ c. c == mark) text) else None
 
+-- a text before its first mark, and what stands behind that, where it has one
+abbrev pub parts_by : Text → Option (Text × Text) → Text × Option Text
+parts_by text None = (text, None)
+parts_by text (Some parts) = (parts.0, Some parts.1)
+
+-- likewise
+abbrev pub first_part : ℕ → Text → Text × Option Text
+first_part mark text = parts_by text (split_at mark text)
+
 -- a number is 1 to 20 decimal digits, leading zeros among them, with no sign
 abbrev pub is_numeral : Text → Bool
 is_numeral text = nat_lt 0 (length text) && (nat_lt (length text) 21 && list_all is_ascii_digit text)
@@ -39,19 +48,3 @@ is_between least most n = not (nat_lt n least) && not (nat_lt most n)
 abbrev pub number_in : ℕ → ℕ → Text → Option ℕ
 number_in least most text =
     if is_numeral text && is_between least most (digits_value 10 text) then Some (digits_value 10 text) else None
-
--- the mark between the numbers of an address
-abbrev pub dot : ℕ
-dot = 46
-
--- an address of IPv4: four numbers below 256
-abbrev pub host_of : Text → Option (List ℕ)
-host_of text = do
-  first ← split_at dot text
-  second ← split_at dot first.1
-  third ← split_at dot second.1
-  a ← number_in 0 255 first.0
-  b ← number_in 0 255 second.0
-  c ← number_in 0 255 third.0
-  d ← number_in 0 255 third.1
-  Some (a ∷ b ∷ c ∷ d ∷ [])

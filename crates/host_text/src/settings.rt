@@ -1,8 +1,11 @@
 //! What stands behind the question mark of an address.
-ghost use Rattle.std.specs.Prelude.{◌≡◌};
-ghost use Rattle.media_address.specs.Address.{no_settings, settings_of, with_from_after, with_setting, with_ttl_after};
+ghost use Rattle.std.specs.Prelude.{◌≡◌, option_map};
+ghost use Rattle.std.specs.Net.Addr.{is_ipv4, is_ipv6};
+ghost use Rattle.host_text.specs.Settings.{fits, from_passes, no_settings, settings_for, settings_of, with_from_after, with_setting, with_ttl_after};
 
-use crate::reading::{host_of, number_in, split_at};
+use crate::hosts::address_of;
+use crate::parts::{number_in, split_at};
+use std::net::IpAddr;
 
 /// How datagrams leave this machine.
 #[derive(Clone, Copy, Debug, PartialEq, Eq)]
@@ -10,12 +13,12 @@ pub struct Settings {
     /// How many networks they may pass (RFC 791, section 3.1, "Time to Live").
     pub ttl: Option<u8>,
     /// The local address that they leave from.
-    pub from: Option<[u8; 4]>,
+    pub from: Option<IpAddr>,
 }
 
 impl Settings {
     /// None is set.
-    pub(crate) fn none() -> Settings
+    pub const fn none() -> Settings
         ensures value { result ≡ no_settings }
     {
         Settings {
@@ -24,8 +27,33 @@ impl Settings {
         }
     }
 
+    /// What a text sets for datagrams to an address; nothing where there is no text. A local address has to be of the same kind, and a
+    /// time to live is set over IPv4 alone.
+    pub fn to(address: IpAddr, text: Option<&str>) -> Option<Settings>
+        ensures value { result ≡ settings_for address (option_map (λ t. t.now) text.entry) }
+    {
+        let Some(text) = text else {
+            return Some(Settings::none());
+        };
+        let settings = Settings::of(text)?;
+        if settings.fits(address) {
+            return Some(settings);
+        }
+        None
+    }
+
+    /// Whether they fit an address that is sent to.
+    fn fits(self, address: IpAddr) -> bool
+        ensures value { result ≡ fits address self }
+    {
+        match address {
+            IpAddr::V4(_) => is_from_ipv4(self.from),
+            IpAddr::V6(_) => self.ttl.is_none() && is_from_ipv6(self.from),
+        }
+    }
+
     /// What a text sets: one setting, or two with an ampersand between them.
-    pub(crate) fn of(text: &str) -> Option<Settings>
+    pub fn of(text: &str) -> Option<Settings>
         ensures value { result ≡ settings_of text.now }
     {
         match split_at(text, '&') {
@@ -69,12 +97,30 @@ impl Settings {
         match self.from {
             Some(_) => None,
             None => {
-                let from = host_of(text)?;
+                let from = address_of(text)?;
                 Some(Settings {
                     ttl: self.ttl,
                     from: Some(from),
                 })
             }
         }
+    }
+}
+
+fn is_from_ipv4(from: Option<IpAddr>) -> bool
+    ensures value { result ≡ from_passes is_ipv4 from }
+{
+    match from {
+        Some(from) => from.is_ipv4(),
+        None => true,
+    }
+}
+
+fn is_from_ipv6(from: Option<IpAddr>) -> bool
+    ensures value { result ≡ from_passes is_ipv6 from }
+{
+    match from {
+        Some(from) => from.is_ipv6(),
+        None => true,
     }
 }

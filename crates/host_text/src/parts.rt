@@ -3,7 +3,7 @@ ghost use Rattle.std.specs.Prelude.{◌≡◌, ◌<◌, ◌≤◌, ◌^◌, IfNo
 ghost use Rattle.std.specs.Char.{is_ascii_digit};
 ghost use Rattle.std.specs.List.{list_all};
 ghost use Rattle.std.specs.Str.Parse.{digits_value};
-ghost use Rattle.media_address.specs.Parts.{behind, host_of, is_numeral, number_in, split_at};
+ghost use Rattle.host_text.specs.Parts.{behind, first_part, is_numeral, number_in, split_at};
 
 /// What stands behind this front, where the text begins with it.
 pub fn behind<'a>(front: &str, text: &'a str) -> Option<&'a str>
@@ -18,6 +18,17 @@ pub fn split_at<'a>(text: &'a str, mark: char) -> Option<(&'a str, &'a str)>
     ensures value { option_map (λ s. (s.0.now, s.1.now)) result ≡ split_at mark text.now }
 {
     text.split_once(mark)
+}
+
+/// A text before its first mark, and what stands behind that, where it has one.
+pub fn first_part(text: &str, mark: char) -> (&str, Option<&str>)
+    requires ascii { mark < 128 }
+    ensures value { (result.0.now, option_map (λ rest. rest.now) result.1) ≡ first_part mark text.now }
+{
+    match split_at(text, mark) {
+        Some((front, rest)) => (front, Some(rest)),
+        None => (text, None),
+    }
 }
 
 /// The number that a text is, if it lies between these two.
@@ -54,19 +65,4 @@ fn are_digits(octets: &[u8]) -> bool
     ensures value { result ≡ list_all is_ascii_digit octets.now }
 {
     octets.iter().all(|c| c.is_ascii_digit())
-}
-
-/// An address of IPv4.
-pub fn host_of(text: &str) -> Option<[u8; 4]>
-    ensures value { result ≡ host_of text.now }
-{
-    let (a, rest) = split_at(text, '.')?;
-    let (b, rest) = split_at(rest, '.')?;
-    let (c, d) = split_at(rest, '.')?;
-    Some([
-        number_in(a, 0, 255)? as u8,
-        number_in(b, 0, 255)? as u8,
-        number_in(c, 0, 255)? as u8,
-        number_in(d, 0, 255)? as u8,
-    ])
 }
