@@ -16,7 +16,7 @@ use Rattle.outside_io.specs.declared.mem_source.MemSource.{MemSource}
 use Rattle.outside_io.specs.declared.store.Store8.{Store8}
 use Rattle.outside_io.specs.declared.words.Words.{Words}
 use Rattle.outside_net.specs.declared.link_spec.Role.{Role}
-use Rattle.outside_net.specs.declared.link_spec.Role.TheVariants.{Receives, Sends, Forwards}
+use Rattle.outside_net.specs.declared.link_spec.Role.TheVariants as roles
 use Rattle.outside_net.specs.declared.script_link.ScriptLink.{ScriptLink}
 use Rattle.outside_net.specs.Scripts.{knows_in}
 use Rattle.outside_net.specs.declared.script_clock.ScriptClock.{ScriptClock}
@@ -60,9 +60,11 @@ are_sent_known knows Main = knows Tunnel
 
 -- the peers are known that an address states in this role and profile
 abbrev pub are_stated_known : (Channel → Bool) → Role → Profile → Bool
-are_stated_known knows Receives profile = true
-are_stated_known knows Sends profile = are_sent_known knows profile
-are_stated_known knows Forwards profile = are_sent_known knows profile
+are_stated_known knows roles.Receives profile = true
+are_stated_known knows roles.ReceivesCalling profile = are_sent_known knows profile
+are_stated_known knows roles.Sends profile = are_sent_known knows profile
+are_stated_known knows roles.SendsListening profile = true
+are_stated_known knows roles.Forwards profile = are_sent_known knows profile
 
 -- a link may be handed out in this role: it took nothing yet, and knows the peers that an address states there
 abbrev pub IsFitFor : ScriptLink → Role → Profile → Type 0

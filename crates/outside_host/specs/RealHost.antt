@@ -1,11 +1,13 @@
 -- What a contract sees of the system's host.
-use Rattle.std.specs.Prelude.{◌≡◌, ◌≢◌, ℕ, List, Option, Some, None, Ok, IfErr, Result}
+use Rattle.std.specs.Prelude.{◌≡◌, ◌≢◌, ℕ, List, Bool, true, false, Option, Some, None, Ok, IfErr, Result}
 use Rattle.outside_io.specs.Real.{IsSinkNamed, IsSourceNamed, file_of, sink_faults, source_faults}
 use Rattle.outside_io.specs.declared.file_identity.FileIdentity.{FileIdentity}
 use Rattle.end_sign.specs.Until.{source_behind}
 use Rattle.media_address.specs.Address.{address_of}
 use Rattle.media_address.specs.declared.address.MediaAddress.{MediaAddress}
 use Rattle.outside_net.specs.Links.{Datagram}
+use Rattle.outside_net.specs.declared.link_spec.Role.{Role}
+use Rattle.outside_net.specs.declared.link_spec.Role.TheVariants as roles
 use Rattle.outside_host.specs.declared.host.HostBad.{HostBad}
 use Rattle.outside_host.specs.declared.host.HostBad.TheVariants.{Failed}
 use Rattle.outside_host.specs.declared.real_input.NamedInput.{NamedInput}
@@ -22,6 +24,14 @@ pub record RealHostState : Type 0 where
 -- what a link over UDP took is not told
 abbrev pub untold : Option (List Datagram)
 untold = None
+
+-- a sender sends on a link in this role what its source gives
+abbrev pub is_senders : Role → Bool
+is_senders roles.Receives = false
+is_senders roles.ReceivesCalling = false
+is_senders roles.Sends = true
+is_senders roles.SendsListening = true
+is_senders roles.Forwards = false
 
 -- where nothing is handed out a call of the system failed: no want of memory is answered
 abbrev pub FailsAlone : {T : Type 0} → Result T HostBad → Type 0

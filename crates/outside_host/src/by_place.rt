@@ -55,11 +55,13 @@ fn knows_stated(link: &ScriptLink, role: Role, profile: Profile) -> bool
     ensures value { result ≡ are_stated_known (knows_in link.now.known) role profile }
 {
     match (role, profile) {
-        (Role::Receives, _) => true,
-        (Role::Sends | Role::Forwards, Profile::Simple) => {
+        (Role::Receives | Role::SendsListening, _) => true,
+        (Role::ReceivesCalling | Role::Sends | Role::Forwards, Profile::Simple) => {
             link.has_peer(Channel::Media) && link.has_peer(Channel::Control)
         }
-        (Role::Sends | Role::Forwards, Profile::Main) => link.has_peer(Channel::Tunnel),
+        (Role::ReceivesCalling | Role::Sends | Role::Forwards, Profile::Main) => {
+            link.has_peer(Channel::Tunnel)
+        }
     }
 }
 

@@ -1,16 +1,15 @@
 //! The host of the system. What its objects give and take is not told: the trusted edge of the system.
-ghost use Rattle.std.specs.Prelude.{◌≡◌, ℕ, Bool, false, Some, None, Ok, Err, IfOk, OnErr};
+ghost use Rattle.std.specs.Prelude.{◌≡◌, ℕ, Bool, true, false, Some, None, Ok, Err, IfOk, OnErr};
 ghost use Rattle.outside_io.specs.Causes.{Rose};
 ghost use Rattle.outside_io.specs.Real.{silent};
 ghost use Rattle.outside_io.specs.Told.{IsEmpty};
 ghost use Rattle.link_channels.specs.declared.channel.Channel.{Channel as ChannelValue};
 ghost use Rattle.outside_net.specs.Real.{knows_in_link, stated_in, IsOpenedAt};
-ghost use Rattle.outside_net.specs.declared.link_spec.Role.TheVariants.{Sends as RoleSends};
 ghost use Rattle.end_sign.specs.Status.{answers_of};
 ghost use Rattle.end_sign.specs.Until.{link_behind, sign_of};
 ghost use Rattle.media_address.specs.Address.{address_of};
 ghost use Rattle.media_address.specs.declared.bad.AddressBad.{AddressBad};
-ghost use Rattle.outside_host.specs.RealHost.{untold, file_read, FailsAlone, IsInputNamed, IsOutputNamed};
+ghost use Rattle.outside_host.specs.RealHost.{untold, file_read, is_senders, FailsAlone, IsInputNamed, IsOutputNamed};
 ghost use Rattle.outside_host.specs.Shelf.{nowhere, HasHostCause, IsUnwritten, KnowsStated};
 
 use crate::counts::ReportText;
@@ -219,7 +218,7 @@ impl<'a, R: Files + Eprint + Clock> RealHost<'a, R> {
         ensures stays { self.new.read ≡ self.old.read }
     {
         let place = self.recorded;
-        if role != Role::Receives || usize::from(place) >= MAX_LINKS {
+        if !receives(role) || usize::from(place) >= MAX_LINKS {
             return Ok(None);
         }
         let file = match &self.record {
@@ -470,12 +469,12 @@ where
             → knows_in_link (link_behind link.link.link) c ≡ stated_in role profile c) }
         ensures at { IfOk result (λ link. IsOpenedAt role profile spec.now (link_behind link.link.link)) }
         // No sign ends a link that a sender sends on.
-        ensures lasts { role ≡ RoleSends → IfOk result (λ link. sign_of link.link.link ≡ Some (λ k. false)) }
+        ensures lasts { is_senders role ≡ true → IfOk result (λ link. sign_of link.link.link ≡ Some (λ k. false)) }
         ensures stays { self.new.read ≡ self.old.read }
     {
         match UdpLink::open(self.rt, spec, role, profile) {
             Ok(link) => {
-                if role == Role::Receives {
+                if receives(role) {
                     self.tell_room(&link);
                 }
                 let link = Until::over(link, sign_for(self.rt, role));
@@ -586,13 +585,18 @@ fn why_no_link<R: Net>(rt: &R, spec: &LinkSpec, role: Role, profile: Profile) ->
     None
 }
 
+/// Whether a stream comes in on a link in this role.
+fn receives(role: Role) -> bool {
+    matches!(role, Role::Receives | Role::ReceivesCalling)
+}
+
 /// What a link in this role ends by. A link that a sender sends on ends by no sign: it answers requests until the sender's time is
 /// over.
 fn sign_for<R>(rt: &R, role: Role) -> ProcessSign<'_, R>
-    ensures lasts { role ≡ RoleSends → answers_of result.looks ≡ Some (λ k. false) }
+    ensures lasts { is_senders role ≡ true → answers_of result.looks ≡ Some (λ k. false) }
 {
     match role {
-        Role::Receives | Role::Forwards => ProcessSign::new(rt),
-        Role::Sends => ProcessSign::never(rt),
+        Role::Receives | Role::ReceivesCalling | Role::Forwards => ProcessSign::new(rt),
+        Role::Sends | Role::SendsListening => ProcessSign::never(rt),
     }
 }

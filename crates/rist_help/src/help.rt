@@ -221,6 +221,14 @@ const FULL_ROW: &str = "  --full
       write full datagrams, with IPv4 and UDP in the tunnel (main profile)
 ";
 
+const LISTEN_ROW: &str = "  --listen
+      be called: a link is bound to its LINK, and sends to whoever called it (main profile)
+";
+
+const CALL_ROW: &str = "  --call
+      call: each link sends to its LINK from the first, where a sender listens (main profile)
+";
+
 const STORE_ROW: &str = "  --store PACKETS
       packets kept for retransmission, 1 to 65536 (default 4096)
 ";
@@ -397,7 +405,7 @@ static SPLIT_PIECES: [&str; 10] = [
     TUNNEL_ROW,
 ];
 
-static SEND_PIECES: [&str; 20] = [
+static SEND_PIECES: [&str; 21] = [
     SEND,
     FLOW_ROW,
     FIRST_ROW,
@@ -407,6 +415,7 @@ static SEND_PIECES: [&str; 20] = [
     WIDE_ROW,
     FULL_ROW,
     ECHO_ROW,
+    LISTEN_ROW,
     STORE_ROW,
     HOLD_ROW,
     SHARE_ROW,
@@ -420,7 +429,7 @@ static SEND_PIECES: [&str; 20] = [
     TUNNEL_ROW,
 ];
 
-static RECV_PIECES: [&str; 21] = [
+static RECV_PIECES: [&str; 22] = [
     RECV,
     DELAY_ROW,
     SPAN_ROW,
@@ -437,6 +446,7 @@ static RECV_PIECES: [&str; 21] = [
     RECORD_ROW,
     STATS_ROW,
     FULL_ROW,
+    CALL_ROW,
     PROFILE_ROW,
     PORT_ROW,
     PASS_ROW,
@@ -444,7 +454,7 @@ static RECV_PIECES: [&str; 21] = [
     TUNNEL_ROW,
 ];
 
-static FAN_PIECES: [&str; 18] = [
+static FAN_PIECES: [&str; 19] = [
     FAN,
     DELAY_ROW,
     SPAN_ROW,
@@ -460,6 +470,7 @@ static FAN_PIECES: [&str; 18] = [
     RECORD_ROW,
     STATS_ROW,
     FULL_ROW,
+    CALL_ROW,
     PASS_ROW,
     BITS_ROW,
     TUNNEL_ROW,

@@ -5,7 +5,7 @@ use Rattle.link_channels.specs.declared.profile.Profile.TheVariants.{Main}
 use Rattle.std.specs.Str.{bytes_eq}
 use Rattle.clap.specs.Words.{Kinds, Row, Text, all_of, first_of}
 use Rattle.rist_words.specs.Commands.{faults_of, command_in}
-use Rattle.rist_words.specs.Values.{is_set, number_at, number_of, name_of}
+use Rattle.rist_words.specs.Values.{flag_of, is_set, number_at, number_of, name_of}
 use Rattle.rist_words.specs.CommandLine.{CommandLine, Replay, Show, Count, Report, Pack, Split, Send, Recv, Fan, Gate, Drill, ReplayCommand, ShowCommand, CountCommand, PackCommand, SplitCommand, SendCommand, RecvCommand, FanCommand, GateCommand, DrillCommand}
 use Rattle.rist_words.specs.CommandLine.{delays, spans, restarts, gaps, leads, stores, holds, lingers, turn_counts, incoming_of, session_of, tunnel_session_of, pcap_of, stream_of, receiver_of, serving_of, watching_of}
 use Rattle.rist_words.specs.CommandLine.{drill_numbers, drill_counts, drill_links, drill_losses}
@@ -13,7 +13,7 @@ use Rattle.rist_words.specs.CommandLine.{replay_of, show_of, count_of, pack_of, 
 use Rattle.rist_words.specs.Links.{gate_links_of, links_of, shares_of}
 use Rattle.rist_words.specs.Outs.{outs_of}
 use Rattle.rist_words.specs.Ranges.{IsInReplay, IsInShow, IsInCount, IsInPack, IsInSplit, IsInSend, IsInRecv, IsInFan, IsInGate, IsInDrill, IsInRange, AreOutputs}
-use Rattle.rist_words.proofs.PartRanges.{reads, same_some, number_range, position_range, session_range, incoming_range, tunnel_session_range, udp_range, option_range, stream_range, links_range, share_range, receiver_range, serving_range, watching_range, gate_links_range}
+use Rattle.rist_words.proofs.PartRanges.{reads, same_some, number_range, position_range, flag_simple, session_range, incoming_range, tunnel_session_range, udp_range, option_range, stream_range, links_range, share_range, receiver_range, serving_range, watching_range, gate_links_range}
 use Rattle.rist_words.proofs.OutLemmas.{AreSplitOuts, split_outs_range}
 use Rattle.rist_words.proofs.PartRanges.{default_gap, default_lead, default_store, default_hold, default_linger, default_turns}
 
@@ -129,7 +129,8 @@ send_range rows c e =
     let source = reads (name_of (first_of (codes "source") rows)) _ c e in
     let session = reads (session_of rows) _ c source.rest in
     let links = reads (links_of session.value.profile (all_of (codes "link") rows)) _ c session.rest in
-    let stream = reads (stream_of session.value.profile rows) _ c links.rest in
+    let listens = reads (flag_of session.value.profile (first_of (codes "listen") rows)) _ c links.rest in
+    let stream = reads (stream_of session.value.profile rows) _ c listens.rest in
     let gap = reads (number_of gaps (first_of (codes "gap") rows)) _ c stream.rest in
     let lead = reads (number_of leads (first_of (codes "lead") rows)) _ c gap.rest in
     let store = reads (number_of stores (first_of (codes "store") rows)) _ c lead.rest in
@@ -150,6 +151,7 @@ send_range rows c e =
       stream = stream_range session.value.profile rows stream.value stream.is;
       some_link = l.0;
       links = l.1;
+      listens = flag_simple session.value.profile (first_of (codes "listen") rows) listens.value listens.is;
       some_gap = g.least;
       gap = g.most;
       lead = d.most;
@@ -169,7 +171,8 @@ recv_range rows c e =
     let out = reads (name_of (first_of (codes "out") rows)) _ c e in
     let session = reads (session_of rows) _ c out.rest in
     let links = reads (links_of session.value.profile (all_of (codes "link") rows)) _ c session.rest in
-    let receiver = reads (receiver_of rows) _ c links.rest in
+    let calls = reads (flag_of session.value.profile (first_of (codes "call") rows)) _ c links.rest in
+    let receiver = reads (receiver_of rows) _ c calls.rest in
     let serving = reads (serving_of rows) _ c receiver.rest in
     let watching = reads (watching_of rows) _ c serving.rest in
     let l = links_range session.value.profile (all_of (codes "link") rows) links.value links.is in
@@ -177,6 +180,7 @@ recv_range rows c e =
       session = session_range rows session.value session.is;
       some_link = l.0;
       links = l.1;
+      calls = flag_simple session.value.profile (first_of (codes "call") rows) calls.value calls.is;
       receiver = receiver_range rows receiver.value receiver.is;
       serving = serving_range rows serving.value serving.is;
       watching = watching_range rows watching.value watching.is;

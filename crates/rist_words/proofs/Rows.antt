@@ -179,6 +179,7 @@ shared : line_of (codes "rist" ∷ codes "send" ∷ codes "-" ∷ codes "127.0.0
       share = Some (3 ∷ 1 ∷ []);
       linger = 1000;
       turns = 1099511627776;
+      listens = false;
       watching = unwatched;
     }))
 unfolding clap_on_literals faults_of command_in
@@ -197,6 +198,7 @@ led : line_of (codes "rist" ∷ codes "send" ∷ codes "--echo" ∷ codes "a" �
       share = None;
       linger = 1000;
       turns = 1099511627776;
+      listens = false;
       watching = unwatched;
     }))
 unfolding clap_on_literals faults_of command_in
@@ -225,6 +227,7 @@ received : line_of (codes "rist" ∷ codes "recv" ∷ codes "--nack=mask" ∷ co
       session = plain;
       receiver = record plain_receiver { nack = Mask };
       serving = record plain_serving { idle = 5 };
+      calls = false;
       watching = unwatched;
     }))
 unfolding clap_on_literals faults_of command_in
@@ -237,6 +240,7 @@ watched : line_of (codes "rist" ∷ codes "recv" ∷ codes "-" ∷ codes "127.0.
       session = plain;
       receiver = plain_receiver;
       serving = plain_serving;
+      calls = false;
       watching = record { capture = Some (codes "a"); stats = Some 100; stats_file = Some (codes "b") };
     }))
 unfolding clap_on_literals faults_of command_in
@@ -258,6 +262,7 @@ fanned : line_of (codes "rist" ∷ codes "fan" ∷ codes "1970=b,1968=c" ∷ cod
       session = record plain { profile = Main; port = 1970; pass = Some (codes "p"); full = true };
       receiver = record plain_receiver { drift = true };
       serving = record plain_serving { idle = 5 };
+      calls = false;
       watching = unwatched;
     }))
 unfolding clap_on_literals faults_of command_in
@@ -363,6 +368,19 @@ drill_on_five_links = refl
 loss_above_all : line_of (codes "rist" ∷ codes "drill" ∷ codes "7" ∷ codes "200" ∷ codes "2" ∷ codes "1001" ∷ []) ≡ None
 unfolding clap_on_literals faults_of command_in
 loss_above_all = refl
+
+-- a receiver calls, and a sender listens, in the Main Profile alone
+simple_receiver_that_calls : line_of (codes "rist" ∷ codes "recv" ∷ codes "-" ∷ codes "127.0.0.1:5000" ∷ codes "--call" ∷ []) ≡ None
+unfolding clap_on_literals faults_of command_in
+simple_receiver_that_calls = refl
+
+simple_sender_that_listens : line_of (codes "rist" ∷ codes "send" ∷ codes "-" ∷ codes "--listen" ∷ codes "127.0.0.1:5000" ∷ []) ≡ None
+unfolding clap_on_literals faults_of command_in
+simple_sender_that_listens = refl
+
+sender_that_calls : line_of (codes "rist" ∷ codes "send" ∷ codes "-" ∷ codes "127.0.0.1:5000" ∷ codes "--profile=main" ∷ codes "--call" ∷ []) ≡ None
+unfolding clap_on_literals faults_of command_in
+sender_that_calls = refl
 
 fifth_word : line_of (codes "rist" ∷ codes "drill" ∷ codes "7" ∷ codes "200" ∷ codes "2" ∷ codes "100" ∷ codes "1" ∷ []) ≡ None
 unfolding clap_on_literals faults_of command_in

@@ -96,12 +96,13 @@ pub record Watching : Type 0 where
   pub stats : Option ℕ
   pub stats_file : Option Text
 
--- a stream sent on links: the time between two datagrams in microseconds; the time before the first one, how many
+-- a stream sent on links; whether it listens, so that a link sends to whoever called it; the time between two datagrams in microseconds; the time before the first one, how many
 -- packets are stored, and for how many milliseconds none is sent again; the links' weights, where they share the
 -- stream; for how many milliseconds requests are answered after the source's end; how many turns are made at most
 pub record SendCommand : Type 0 where
   pub source : Text
   pub links : List LinkSpec
+  pub listens : Bool
   pub session : Session
   pub stream : Stream
   pub gap : ℕ
@@ -135,10 +136,11 @@ pub record Serving : Type 0 where
   pub idle : ℕ
   pub keep : ℕ
 
--- a stream received on links
+-- a stream received on links; whether it calls, so that each link sends to its address from the first
 pub record RecvCommand : Type 0 where
   pub out : Text
   pub links : List LinkSpec
+  pub calls : Bool
   pub session : Session
   pub receiver : Receiver
   pub serving : Serving
@@ -150,6 +152,7 @@ pub record FanCommand : Type 0 where
   pub ports : List ℕ
   pub names : List Text
   pub links : List LinkSpec
+  pub calls : Bool
   pub session : Session
   pub receiver : Receiver
   pub serving : Serving
@@ -474,6 +477,7 @@ send_of rows = do
   source ← name_of (first_of (codes "source") rows)
   session ← session_of rows
   links ← links_of session.profile (all_of (codes "link") rows)
+  listens ← flag_of session.profile (first_of (codes "listen") rows)
   stream ← stream_of session.profile rows
   gap ← number_of gaps (first_of (codes "gap") rows)
   lead ← number_of leads (first_of (codes "lead") rows)
@@ -486,6 +490,7 @@ send_of rows = do
   Some (record {
     source = source;
     links = links;
+    listens = listens;
     session = session;
     stream = stream;
     gap = gap;
@@ -535,12 +540,14 @@ recv_of rows = do
   out ← name_of (first_of (codes "out") rows)
   session ← session_of rows
   links ← links_of session.profile (all_of (codes "link") rows)
+  calls ← flag_of session.profile (first_of (codes "call") rows)
   receiver ← receiver_of rows
   serving ← serving_of rows
   watching ← watching_of rows
   Some (record {
     out = out;
     links = links;
+    calls = calls;
     session = session;
     receiver = receiver;
     serving = serving;
@@ -560,6 +567,7 @@ fan_of rows = do
     ports = outs.0;
     names = outs.1;
     links = links;
+    calls = is_set (first_of (codes "call") rows);
     session = session;
     receiver = receiver;
     serving = serving;

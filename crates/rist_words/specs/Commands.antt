@@ -109,7 +109,8 @@ abbrev pub send_app : App
 send_app = with_rules Positions (with_arguments (session_app (codes "send"))
     (codes "flow" ∷ codes "first" ∷ codes "gap" ∷ codes "lead" ∷ codes "store" ∷ codes "hold" ∷ codes "share"
     ∷ codes "linger" ∷ codes "turns" ∷ codes "stats" ∷ codes "stats-file" ∷ [])
-    (codes "nulls" ∷ codes "wide" ∷ codes "full" ∷ codes "echo" ∷ []) (codes "source" ∷ [])) (codes "link" ∷ [])
+    (codes "nulls" ∷ codes "wide" ∷ codes "full" ∷ codes "echo" ∷ codes "listen" ∷ []) (codes "source" ∷ []))
+    (codes "link" ∷ [])
 
 -- the options of a receiver and of its run, but for that of steps that are kept
 abbrev pub tunnel_receiver_options : List Text
@@ -126,14 +127,14 @@ receiver_options = codes "keep" ∷ tunnel_receiver_options
 abbrev pub recv_app : App
 recv_app =
     with_rules Positions (with_arguments (session_app (codes "recv")) receiver_options
-    (codes "full" ∷ codes "drift" ∷ []) (codes "out" ∷ [])) (codes "link" ∷ [])
+    (codes "full" ∷ codes "drift" ∷ codes "call" ∷ []) (codes "out" ∷ [])) (codes "link" ∷ [])
 
 -- a receiving of several flows that come in one tunnel: its options, its flags and its positions, of which the last
 -- takes one link or more
 abbrev pub fan_app : App
 fan_app =
     with_rules Positions (with_arguments (tunnel_app (codes "fan")) tunnel_receiver_options
-    (codes "full" ∷ codes "drift" ∷ []) (codes "outs" ∷ [])) (codes "link" ∷ [])
+    (codes "full" ∷ codes "drift" ∷ codes "call" ∷ []) (codes "outs" ∷ [])) (codes "link" ∷ [])
 
 -- a gateway: a receiver's options, its own, its flags and its links. The session of the links that are received on has
 -- options and a flag of its own

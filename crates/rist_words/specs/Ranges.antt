@@ -120,6 +120,7 @@ pub record IsInSend (c : SendCommand) : Type 0 where
   pub stream : IsInStream c.session.profile c.stream
   pub some_link : 1 ≤ length c.links
   pub links : length c.links ≤ MAX_LINKS
+  pub listens : c.session.profile ≡ Simple → c.listens ≡ false
   pub some_gap : gaps.least ≤ c.gap
   pub gap : c.gap ≤ gaps.most
   pub lead : c.lead ≤ leads.most
@@ -158,6 +159,7 @@ pub record IsInRecv (c : RecvCommand) : Type 0 where
   pub session : IsInSession c.session
   pub some_link : 1 ≤ length c.links
   pub links : length c.links ≤ MAX_LINKS
+  pub calls : c.session.profile ≡ Simple → c.calls ≡ false
   pub receiver : IsInReceiver c.receiver
   pub serving : IsInServing c.serving
   pub watching : IsInWatching c.watching

@@ -125,6 +125,7 @@ abbrev pub shown_send : SendLine → SendCommand
 shown_send l = record {
   source = l.source.now;
   links = l.links.items;
+  listens = l.listens;
   session = shown_session l.session;
   stream = shown_stream l.stream;
   gap = l.gap;
@@ -162,6 +163,7 @@ shown_recv l =
     record {
       out = l.out.now;
       links = l.links.items;
+      calls = l.calls;
       session = shown_session l.session;
       receiver = shown_receiver l.receiver;
       serving = shown_serving l.serving;
@@ -174,6 +176,7 @@ shown_fan l = record {
   ports = l.ports.items;
   names = map (λ name. name.now) l.names.items;
   links = l.links.items;
+  calls = l.calls;
   session = shown_session l.session;
   receiver = shown_receiver l.receiver;
   serving = shown_serving l.serving;

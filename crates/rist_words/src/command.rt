@@ -56,7 +56,7 @@ static SEND_OPTIONS: [&str; 11] = [
 ];
 
 /// The flags of a sending.
-static SEND_FLAGS: [&str; 4] = ["nulls", "wide", "full", "echo"];
+static SEND_FLAGS: [&str; 5] = ["nulls", "wide", "full", "echo", "listen"];
 
 /// The flags of a packing.
 static PACK_FLAGS: [&str; 3] = ["nulls", "wide", "full"];
@@ -66,7 +66,7 @@ static RECV: [&str; 1] = ["out"];
 static FAN: [&str; 1] = ["outs"];
 
 /// The flags of a receiving of one flow or several, which makes datagrams of control.
-static RECV_FLAGS: [&str; 2] = ["full", "drift"];
+static RECV_FLAGS: [&str; 3] = ["full", "drift", "call"];
 
 /// The options of each command that receives one flow.
 static RECEIVER_OPTIONS: [&str; 14] = [

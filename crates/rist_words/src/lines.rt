@@ -170,8 +170,10 @@ pub struct WatchingWords<'a> {
 pub struct SendLine<'a> {
     /// The stream's name.
     pub source: &'a str,
-    /// Where its datagrams go, one to sixteen addresses.
+    /// Where its datagrams go, one to sixteen addresses; where it listens, those at which it is called.
     pub links: Vec<LinkSpec>,
+    /// Whether it listens: a link sends to whoever called it. In the Main Profile only.
+    pub listens: bool,
     /// How they are made.
     pub session: SessionWords<'a>,
     /// What is in them.
@@ -235,8 +237,10 @@ pub struct ServingWords {
 pub struct RecvLine<'a> {
     /// The name of what is written.
     pub out: &'a str,
-    /// The addresses at which its datagrams come in, one to sixteen.
+    /// The addresses at which its datagrams come in, one to sixteen; where it calls, those of the senders.
     pub links: Vec<LinkSpec>,
+    /// Whether it calls: each link sends to its address from the first. In the Main Profile only.
+    pub calls: bool,
     /// How they are read, and how the answers are made.
     pub session: SessionWords<'a>,
     /// What its receiver is set to.
@@ -254,8 +258,10 @@ pub struct FanLine<'a> {
     pub ports: Vec<u16>,
     /// The name of each output, in the order of the ports, and no two the same.
     pub names: Vec<&'a str>,
-    /// The addresses at which the tunnel's datagrams come in, one to sixteen.
+    /// The addresses at which the tunnel's datagrams come in, one to sixteen; where it calls, those of the senders.
     pub links: Vec<LinkSpec>,
+    /// Whether it calls: each link sends to its address from the first.
+    pub calls: bool,
     /// How they are read, and how the answers are made: in the Main Profile, with the port of the first output.
     pub session: SessionWords<'a>,
     /// What each receiver is set to.

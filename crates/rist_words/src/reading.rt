@@ -15,7 +15,7 @@ use crate::outs::outs;
 use crate::pcap::pcap;
 use crate::receiving::{DELAY, RESTART, SPAN, TURNS, receiver, serving};
 use crate::session::{incoming, session, stream, tunnel_session};
-use crate::values::{Numbers, is_set, name, number};
+use crate::values::{Numbers, flag, is_set, name, number};
 use crate::watching::watching;
 use clap::ArgMatches;
 use link_channels::Profile;
@@ -199,6 +199,7 @@ fn send_line<'a>(alloc: Global, values: &ArgMatches<'a>) -> Result<SendLine<'a>,
     let source = name(values, "source").ok_or(Refused::Usage)?;
     let session = session(values).ok_or(Refused::Usage)?;
     let links = links(alloc, values, session.profile)?;
+    let listens = flag(values, "listen", session.profile).ok_or(Refused::Usage)?;
     let stream = stream(values, session.profile).ok_or(Refused::Usage)?;
     let gap = number(values, "gap", GAP).ok_or(Refused::Usage)?;
     let lead = number(values, "lead", LEAD).ok_or(Refused::Usage)?;
@@ -208,6 +209,7 @@ fn send_line<'a>(alloc: Global, values: &ArgMatches<'a>) -> Result<SendLine<'a>,
     Ok(SendLine {
         source,
         links,
+        listens,
         session,
         stream,
         gap,
@@ -228,9 +230,11 @@ fn recv_line<'a>(alloc: Global, values: &ArgMatches<'a>) -> Result<RecvLine<'a>,
     let out = name(values, "out").ok_or(Refused::Usage)?;
     let session = session(values).ok_or(Refused::Usage)?;
     let links = links(alloc, values, session.profile)?;
+    let calls = flag(values, "call", session.profile).ok_or(Refused::Usage)?;
     Ok(RecvLine {
         out,
         links,
+        calls,
         session,
         receiver: receiver(values).ok_or(Refused::Usage)?,
         serving: serving(values).ok_or(Refused::Usage)?,
@@ -250,6 +254,7 @@ fn fan_line<'a>(alloc: Global, values: &ArgMatches<'a>) -> Result<FanLine<'a>, R
         ports,
         names,
         links,
+        calls: is_set(values, "call"),
         session,
         receiver: receiver(values).ok_or(Refused::Usage)?,
         serving: serving(values).ok_or(Refused::Usage)?,

@@ -4,7 +4,9 @@ use mathlib.Core.Logic.{inl, inr}
 use Rattle.std.specs.Prelude.{IsTrue, Err}
 use Rattle.std.proofs.lemmas.Option.{slice_get_within}
 use Rattle.outside_io.specs.Causes.{HasOpenCause}
+use Rattle.outside_host.specs.Links.{AreFirstOf}
 use Rattle.outside_host.specs.Shelf.{HasHostCause, Shelf}
+use Rattle.outside_host.proofs.LinkOpeningLemmas.{none_first}
 use Rattle.outside_host.specs.declared.host.HostBad.{HostBad}
 use Rattle.outside_host.specs.declared.host.HostBad.TheVariants as hosts
 use Rattle.outside_host.specs.declared.host.Place.TheVariants.{Here, Back}
@@ -101,9 +103,10 @@ pub does_fan : {I O E L C : Type 0} (told : Bool) (tells : Tells I O E) (live : 
     → (IsUnused told old → KeepsAroundSinks old new c)
     → (IsTrue told → OpensSinksFirst old new c)
     → (IsUnused told old → (CanRefuse status → ⊥) → new.opened_links ≡ links_fanned c)
+    → (IsUnused told old → AreFirstOf new.opened_links (links_fanned c))
     → (IsUnused told old → status ≡ statuses.EntropyFault → FailedAt tells old new)
     → DoesFan told tells live c were are old new status
-does_fan told tells live c were are old new status range ends cause fanned unfanned around order links random = record {
+does_fan told tells live c were are old new status range ends cause fanned unfanned around order links tried random = record {
   ends = ends;
   fanned = fanned;
   unfanned = unfanned;
@@ -111,6 +114,7 @@ does_fan told tells live c were are old new status range ends cause fanned unfan
   around = around;
   order = order;
   links_opened = links;
+  links_tried = tried;
   random = random;
   spent = λ unused is. subst (IsFanEnd c) is ends;
   complete = λ unused opened.
@@ -151,6 +155,7 @@ memory_refuses told tells live c were are old = record {
   around = λ unused. around_nothing old c;
   order = λ told. nothing_first old c;
   links_opened = λ unused ran. absurd (ran refuses);
+  links_tried = λ unused. none_first old.opened_links _ unused.links;
   random = λ unused failed. absurd (cc (failed));
   spent = λ unused is. absurd (cc (is));
   complete = λ unused opened none stays. inr (inr refl);
@@ -174,6 +179,7 @@ untold tells live c were are old new status ends = record {
   around = λ unused. absurd (no_told unused.told);
   order = λ told. absurd (no_told told);
   links_opened = λ unused ran. absurd (no_told unused.told);
+  links_tried = λ unused. absurd (no_told unused.told);
   random = λ unused failed. absurd (no_told unused.told);
   spent = λ unused is. absurd (no_told unused.told);
   complete = λ unused opened. absurd (no_told unused.told);
@@ -200,6 +206,7 @@ refuses_still told tells live c were are old hosts.Failed cause = record {
   around = λ unused. around_nothing old c;
   order = λ told. nothing_first old c;
   links_opened = λ unused ran. absurd (ran opened_refuses);
+  links_tried = λ unused. none_first old.opened_links _ unused.links;
   random = λ unused failed. absurd (cc (failed));
   spent = λ unused is. absurd (cc (is));
   complete = λ unused opened. absurd (opened cause);

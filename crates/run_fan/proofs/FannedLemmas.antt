@@ -6,6 +6,10 @@ use Rattle.std.proofs.lemmas.List.{get_or_default, length-map}
 use Rattle.std.proofs.lemmas.List.Elements.{All-get_or}
 use Rattle.std.proofs.lemmas.Option.{get_or_from_slice_get, slice_get_within}
 use Rattle.outside_io.specs.Told.{IsEmpty}
+use Rattle.link_channels.specs.declared.profile.Profile.{Profile}
+use Rattle.outside_net.specs.declared.link_spec.LinkSpec.{LinkSpec}
+use Rattle.outside_net.specs.declared.link_spec.Role.{Role}
+use Rattle.outside_host.specs.declared.host.Opened.{Opened}
 use Rattle.outside_host.specs.Shelf.{ChangesSinks, Shelf}
 use Rattle.outside_host.specs.Links.{AreAsTheyWere}
 use Rattle.outside_host.specs.Sinks.{AreBack, AreDifferent, AreOut}
@@ -64,6 +68,10 @@ pub fans_same : {K L C : Type 0} (live : TellsLive L C) (sinks : TellsSinks K) (
     (sinks_were are are' : List K) (counts : List Counts) (status status' : Status) → links' ≡ links → clocks' ≡ clocks → are' ≡ are → status' ≡ status
     → FansWith live sinks c sealers links_were links clocks_were clocks sinks_were are counts status → FansWith live sinks c sealers links_were links' clocks_were clocks' sinks_were are' counts status'
 fans_same live sinks c sealers links_were links links' clocks_were clocks clocks' sinks_were are are' counts status status' a b d e fans = rw (a, b, d, e) fans
+
+-- links that are opened in a role and a profile, the first first
+abbrev pub links_in : Role → Profile → List LinkSpec → List Opened
+links_in role profile specs = map (λ spec. record { spec = spec; role = role; profile = profile }) specs
 
 -- a host that hands out sinks is as unused as before
 pub still_unused_behind : {I O E L C : Type 0} (tells : Bool) (old mid : Shelf I O E L C) → ChangesSinks old mid → IsUnused tells old → IsUnused tells mid

@@ -1,6 +1,7 @@
 -- What a receiving of several flows leaves of its host, and what it answers.
 use Rattle.std.specs.Prelude.{◌≡◌, ◌<◌, ℕ, length, Bool, IsTrue, true, is_some}
 use Rattle.outside_io.specs.Causes.{Rose}
+use Rattle.outside_host.specs.Links.{AreFirstOf}
 use Rattle.outside_host.specs.Shelf.{Shelf}
 use Rattle.rist_words.specs.CommandLine.{FanCommand}
 use Rattle.run_parts.specs.Causes.{CanRefuse}
@@ -36,6 +37,8 @@ pub record DoesFan {I O E L C : Type 0} (told : Bool) (tells : Tells I O E) (liv
   -- could be
   pub order : IsTrue told → OpensSinksFirst old new c
   pub links_opened : IsUnused told old → (CanRefuse status → ⊥) → new.opened_links ≡ links_fanned c
+  -- and where nothing is begun, the first ones of these
+  pub links_tried : IsUnused told old → AreFirstOf new.opened_links (links_fanned c)
   -- random words fail it only where the first source of them failed
   pub random : IsUnused told old → status ≡ statuses.EntropyFault → FailedAt tells old new
   -- it is in want of pairs only under a passphrase

@@ -1,12 +1,12 @@
 -- What a receiving of several flows leaves as it stood.
 use Rattle.std.specs.Prelude.{◌≡◌, ◌<◌, ℕ, List, length, map, is_some}
-use Rattle.outside_net.specs.declared.link_spec.Role.TheVariants.{Receives}
 use Rattle.outside_host.specs.Shelf.{Shelf, ChangesSinks}
 use Rattle.outside_host.specs.Sinks.{AreOpenedInOrder, StayOthers}
 use Rattle.outside_host.specs.declared.host.Opened.{Opened}
 use Rattle.rist_words.specs.CommandLine.{FanCommand}
 use Rattle.run_parts.specs.Places.{CameBack}
 use Rattle.run_parts.specs.Frame.{KeepsLinksBut}
+use Rattle.run_parts.specs.Roles.{receiving_role}
 use Rattle.run_links.specs.Frame.{KeepsWords}
 use Rattle.run_fan.specs.Sessions.{output_name}
 
@@ -26,6 +26,7 @@ pub record OpensSinksFirst {I O E L C : Type 0} (old new : Shelf I O E L C) (c :
   pub alone : (v : ℕ) → v < length c.ports → new.sinks (output_name c v) ≡ old.sinks (output_name c v)
       → ChangesSinks old new
 
--- the links that it opens, the first first: it is bound to each, in the profile of its session
+-- the links that it opens, the first first: it listens at each, or calls each, in the profile of its session
 abbrev pub links_fanned : FanCommand → List Opened
-links_fanned c = map (λ spec. record { spec = spec; role = Receives; profile = c.session.profile }) c.links
+links_fanned c =
+    map (λ spec. record { spec = spec; role = receiving_role c.calls; profile = c.session.profile }) c.links

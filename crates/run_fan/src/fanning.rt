@@ -4,7 +4,7 @@ ghost use Rattle.std.specs.List.{All};
 ghost use Rattle.outside_io.specs.Causes.{HasOpenCause};
 ghost use Rattle.outside_io.specs.Told.{IsEmpty};
 ghost use Rattle.outside_host.specs.Shelf.{ChangesReport};
-ghost use Rattle.outside_host.specs.Links.{AreAsTheyWere};
+ghost use Rattle.outside_host.specs.Links.{AreAsTheyWere, AreFirstOf};
 ghost use Rattle.rist_words.specs.Shown.{shown_fan};
 ghost use Rattle.rist_words.specs.Ranges.{IsInFan};
 ghost use Rattle.run_parts.specs.Causes.{CanRefuse, fault_of};
@@ -25,10 +25,10 @@ use outside_host::{
     Host, back_clocks, back_links, back_sinks, open_clocks, open_links, open_sinks,
 };
 use outside_io::Sink;
-use outside_net::{Clock, Link, Role};
+use outside_net::{Clock, Link};
 use psk_seal::Sealer;
 use rist_words::FanLine;
-use run_parts::{Status, Telling, watch};
+use run_parts::{Status, Telling, receiving_role, watch};
 use std::alloc::Global;
 use std::sync::Wait;
 use std::thread::Threads;
@@ -145,6 +145,8 @@ fn fan_on_links<R: Threads + Wait + Sync, H: Host>(
         → KeepsWords (H.shelf host.old) (H.shelf host.new) (is_some (shown_fan line.now).session.pass) }
     ensures links_opened { IsUnused H.tells (H.shelf host.old) → (CanRefuse result → ⊥)
         → (H.shelf host.new).opened_links ≡ links_fanned (shown_fan line.now) }
+    ensures links_tried { IsUnused H.tells (H.shelf host.old)
+        → AreFirstOf (H.shelf host.new).opened_links (links_fanned (shown_fan line.now)) }
     ensures links { IsUnused H.tells (H.shelf host.old) → CanRefuse result
         → AreAsTheyWere (H.shelf host.old).links (H.shelf host.new).links }
     ensures clocks { IsUnused H.tells (H.shelf host.old) → CanRefuse result
@@ -164,7 +166,7 @@ fn fan_on_links<R: Threads + Wait + Sync, H: Host>(
         alloc,
         host,
         line.links.as_slice(),
-        Role::Receives,
+        receiving_role(line.calls),
         line.session.profile,
     ) {
         Ok(links) => links,
@@ -192,6 +194,8 @@ fn fan_into_sinks<R: Threads + Wait + Sync, H: Host>(
         → KeepsAroundSinks (H.shelf host.old) (H.shelf host.new) (shown_fan line.now) }
     ensures links_opened { IsUnused H.tells (H.shelf host.old) → (CanRefuse result → ⊥)
         → (H.shelf host.new).opened_links ≡ links_fanned (shown_fan line.now) }
+    ensures links_tried { IsUnused H.tells (H.shelf host.old)
+        → AreFirstOf (H.shelf host.new).opened_links (links_fanned (shown_fan line.now)) }
     ensures order { IsTrue H.tells
         → OpensSinksFirst (H.shelf host.old) (H.shelf host.new) (shown_fan line.now) }
     ensures random { IsUnused H.tells (H.shelf host.old) → result ≡ Status.EntropyFault

@@ -10,4 +10,5 @@ pub mod Names
 pub mod Sessions
 pub mod Sealing
 pub mod Frame
+pub mod Roles
 pub mod Complete

@@ -3,7 +3,7 @@ use Rattle.std.proofs.Common.{◌≡◌, ◌∙◌, ℕ, List, length, map, Bool
 use mathlib.Core.Logic.{inr}
 use Rattle.link_channels.specs.declared.profile.Profile.{Profile}
 use Rattle.outside_net.specs.declared.link_spec.LinkSpec.{LinkSpec}
-use Rattle.outside_net.specs.declared.link_spec.Role.TheVariants.{Receives as Bound}
+use Rattle.outside_net.specs.declared.link_spec.Role.{Role}
 use Rattle.outside_host.specs.declared.host.Opened.{Opened}
 use Rattle.outside_host.specs.declared.host.Place.TheVariants.{Here, Back}
 use Rattle.outside_io.specs.Told.{IsEmpty}
@@ -98,9 +98,9 @@ around_sink old mid later new c sink filled out e files links clocks words back 
   words = words_between old mid later new (is_some c.session.pass) (ap (λ s. s.entropies) e) (ap (λ s. s.entropies) f) words;
 }
 
--- links that are bound
-abbrev pub links_bound : Profile → List LinkSpec → List Opened
-links_bound profile specs = map (λ spec. record { spec = spec; role = Bound; profile = profile }) specs
+-- links that are opened in a role
+abbrev pub links_in : Role → Profile → List LinkSpec → List Opened
+links_in role profile specs = map (λ spec. record { spec = spec; role = role; profile = profile }) specs
 
 -- a host that hands out a sink is as unused as before
 pub still_unused_behind : {I O E L C : Type 0} (tells : Bool) (old mid : Shelf I O E L C) → ChangesSinks old mid → IsUnused tells old → IsUnused tells mid

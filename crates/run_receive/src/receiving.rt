@@ -21,14 +21,14 @@ ghost use Rattle.run_receive.specs.Inside.Receiving.{Hears, HearsByClocks, Hears
 use desk_run::{Ending, Run, make, make_in_turns};
 use outside_host::{Host, back_clocks, back_links, open_clocks, open_links};
 use outside_io::{NoMemory, Sink};
-use outside_net::{Clock, Link, ListTrace, Role, TellingLink};
+use outside_net::{Clock, Link, ListTrace, TellingLink};
 use psk_seal::Sealer;
 use rist_desk::{ServingLimits, Step};
 use rist_ends::Counts;
 use rist_recv::{receive_in_turns, receive_on};
 use rist_words::RecvLine;
 use run_links::{report, settings_of};
-use run_parts::{Status, Telling, sealer_for, session_of, watch};
+use run_parts::{Status, Telling, receiving_role, sealer_for, session_of, watch};
 use std::alloc::Global;
 use std::sync::Wait;
 use std::thread::Threads;
@@ -345,7 +345,7 @@ fn receive_on_links<R: Threads + Wait + Sync, H: Host>(
         alloc,
         host,
         line.links.as_slice(),
-        Role::Receives,
+        receiving_role(line.calls),
         line.session.profile,
     ) {
         Ok(links) => links,

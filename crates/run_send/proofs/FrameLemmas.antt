@@ -3,7 +3,7 @@ use Rattle.std.proofs.Common.{◌≡◌, ◌∙◌, List, length, map, Bool, is_
 use mathlib.Core.Logic.{inr}
 use Rattle.link_channels.specs.declared.profile.Profile.{Profile}
 use Rattle.outside_net.specs.declared.link_spec.LinkSpec.{LinkSpec}
-use Rattle.outside_net.specs.declared.link_spec.Role.TheVariants.{Sends}
+use Rattle.outside_net.specs.declared.link_spec.Role.{Role}
 use Rattle.outside_host.specs.declared.host.Opened.{Opened}
 use Rattle.outside_host.specs.Shelf.{Shelf, HandsOut, TakesBack, ChangesSources}
 use Rattle.rist_words.specs.CommandLine.{SendCommand}
@@ -35,6 +35,6 @@ around_source old mid later new c source spent out e files links times back f = 
   times = times_between old mid later new (is_some c.session.pass) (ap (λ s. s.clocks) e) (ap (λ s. s.entropies) e) (ap (λ s. s.clocks) f) (ap (λ s. s.entropies) f) times;
 }
 
--- links that are sent to
-abbrev pub links_over : Profile → List LinkSpec → List Opened
-links_over profile specs = map (λ spec. record { spec = spec; role = Sends; profile = profile }) specs
+-- links that are opened in a role
+abbrev pub links_over : Role → Profile → List LinkSpec → List Opened
+links_over role profile specs = map (λ spec. record { spec = spec; role = role; profile = profile }) specs

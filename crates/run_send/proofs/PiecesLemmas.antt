@@ -27,8 +27,8 @@ in_pieces tells live old new c status s =
       gave_links = s.links.gave;
       history = s.to.work.history;
       given = s.given;
-      taken = λ link d among few same.
-          took_all live.line c.stream.flow (session_sent c) s.to.work.history s.links_were s.links_are link d s.given among few same (s.known link d among);
+      taken = λ calls link d among few same.
+          took_all live.line c.stream.flow (session_sent c) s.to.work.history s.links_were s.links_are link d s.given among few same (s.known calls link d among);
       sent = s.to.sent;
       packets = sent_as_packets (setup_sent c) s.end _ s.to s.sends tt;
       pieces = λ octets told. (s.end, s.answer, subst (λ left. Gives s.end octets left s.to.sent) (ap (λ (o : Outside). o.octets) s.left) (s.sends.gives octets told));

@@ -6,7 +6,7 @@ use Rattle.std.specs.Prelude.{Result, Ok, Err, Bool}
 use Rattle.outside_io.specs.Causes.{HasReadCause}
 use Rattle.outside_host.specs.Shelf.{Shelf, ChangesSources}
 use Rattle.outside_host.specs.declared.host.Place.TheVariants.{Here, Back}
-use Rattle.outside_net.specs.declared.link_spec.Role.TheVariants.{Sends}
+use Rattle.outside_net.specs.Real.{is_caller}
 use Rattle.outside_host.specs.Links.{AreOut, AreBack, KnowStatedFrom}
 use Rattle.psk_seal.specs.Sealer.{SealerState}
 use Rattle.outside_net.specs.Links.{Answer, LinkTells}
@@ -31,6 +31,7 @@ use Rattle.run_parts.specs.declared.status.Status.TheVariants as statuses
 use Rattle.run_parts.specs.Causes.{CanRefuse, fault_of}
 use Rattle.run_parts.proofs.HandedLemmas.{places_between}
 use Rattle.run_parts.proofs.PeerLemmas.{stated_known}
+use Rattle.run_parts.specs.Roles.{sending_role}
 
 -- a sender is set to what a line says
 pub record IsSetTo (s : SenderState) (c : SendCommand) : Type 0 where
@@ -146,7 +147,7 @@ sent_by tells live old mid later new c source spent status took gave read e f s 
       sends = clock.sends.sends;
       left = clock.sends.left;
       given = clock.sends.given;
-      known = λ link d among. stated_known (live.line.knows (slice_index_or s.were link d)) Sends c.session.profile refl (s.did.know link d (omega arith) among);
+      known = λ calls link d among. stated_known (live.line.knows (slice_index_or s.were link d)) (sending_role c.listens) c.session.profile (ap (λ l. is_caller (sending_role l)) calls) (s.did.know link d (omega arith) among);
     }
 
 -- a host that hands out a source is as unused as before
@@ -162,7 +163,7 @@ still_unused tells old mid e unused = record {
 pub on_opened_links : {I O E L C : Type 0} (tells : Tells I O E) (live : TellsLive L C) (old mid later new : Shelf I O E L C) (c : SendCommand) (source spent : I) (links was is given : List L) (status : Status)
     → mid ≡ record old { links = mid.links; opened_links = mid.opened_links } → new ≡ record later { links = new.links }
     → length links ≡ length c.links → AreOut old.links mid.links links → later.links ≡ mid.links → AreBack later.links new.links given
-    → was ≡ links → given ≡ is → length is ≡ length was → KnowStatedFrom live.line.knows Sends c.session.profile 0 links
+    → was ≡ links → given ≡ is → length is ≡ length was → KnowStatedFrom live.line.knows (sending_role c.listens) c.session.profile 0 links
     → SendsByClock tells live mid later c source spent status was is → SendsOnLinks tells live old new c source spent status
 on_opened_links tells live old mid later new c source spent links was is given status e f some out between back same gives long know s = record {
   were = was;
@@ -176,7 +177,7 @@ on_opened_links tells live old mid later new c source spent links was is given s
         (ap (λ x. x place) between ∙ out.now place (subst (λ l. place < length l) same less)));
   };
   did = record {
-    know = subst (λ l. KnowStatedFrom live.line.knows Sends c.session.profile 0 l) (sym same) know;
+    know = subst (λ l. KnowStatedFrom live.line.knows (sending_role c.listens) c.session.profile 0 l) (sym same) know;
     by_clock = by_clock_between tells live old mid later new c source spent was is status (ap (λ x. x.clocks) e) (ap (λ x. x.entropies) e) (ap (λ x. x.clocks) f) (ap (λ x. x.entropies) f) s;
   };
 }

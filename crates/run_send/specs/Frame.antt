@@ -1,11 +1,11 @@
 -- What a sending leaves as it stood.
 use Rattle.std.specs.Prelude.{◌≡◌, ◌≢◌, ℕ, List, length, map, Bool, false, is_some}
-use Rattle.outside_net.specs.declared.link_spec.Role.TheVariants.{Sends}
 use Rattle.outside_host.specs.Shelf.{Shelf, ChangesSources}
 use Rattle.outside_host.specs.declared.host.Opened.{Opened}
 use Rattle.rist_words.specs.CommandLine.{SendCommand}
 use Rattle.run_parts.specs.Places.{CameBack}
 use Rattle.run_parts.specs.Frame.{KeepsLinksBut}
+use Rattle.run_parts.specs.Roles.{sending_role}
 
 -- all clocks and random words stand as they stood but for the first of each, which came back; the first words too where
 -- none are drawn
@@ -29,6 +29,7 @@ pub record KeepsAround {I O E L C : Type 0} (old new : Shelf I O E L C) (c : Sen
 abbrev pub OpensLinksAfter : {I O E L C : Type 0} → Shelf I O E L C → Shelf I O E L C → SendCommand → Type 0
 OpensLinksAfter old new c = new.sources c.source ≡ old.sources c.source → ChangesSources old new
 
--- the links that a sending opens, the first first: it sends to each, in the profile of its session
+-- the links that a sending opens, the first first: it sends to each, or listens at each, in the profile of its session
 abbrev pub links_opened : SendCommand → List Opened
-links_opened c = map (λ spec. record { spec = spec; role = Sends; profile = c.session.profile }) c.links
+links_opened c =
+    map (λ spec. record { spec = spec; role = sending_role c.listens; profile = c.session.profile }) c.links

@@ -37,8 +37,9 @@ pub record SentInPieces {I O E L C : Type 0} (tells : Tells I O E) (live : Tells
   pub gave_links : (place : ℕ) (d : L) → place < length was → new.links place ≡ Back (slice_index_or is place d)
   pub history : List Event
   pub given : AreServed live.line c.stream.flow (session_sent c) [] history was is
-  -- a link took them all, in order, where none of its calls failed (its count of faults has 64 bits)
-  pub taken : (link : ℕ) (d : L) → link < length was → live.line.faults (slice_index_or was link d) < 2 ^ 64 - 1
+  -- where the sender doesn't listen a link took them all, in order, where none of its calls failed (its count of faults
+  -- has 64 bits)
+  pub taken : c.listens ≡ false → (link : ℕ) (d : L) → link < length was → live.line.faults (slice_index_or was link d) < 2 ^ 64 - 1
       → live.line.faults (slice_index_or is link d) ≡ live.line.faults (slice_index_or was link d)
       → live.line.taken (slice_index_or is link d)
       ≡ option_map (λ held. held ++ datagrams_given (tried_on (tried_as c.stream.flow (session_sent c)) link history))

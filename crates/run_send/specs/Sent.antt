@@ -80,8 +80,8 @@ pub record Sent {I O E L C : Type 0} (tells : Tells I O E) (live : TellsLive L C
   pub left : outside_left to ≡ outside_of tells live later spent links_are
   -- and each link was given just the datagrams that the sender made for it
   pub given : AreServed live.line c.stream.flow (session_sent c) [] to.work.history links_were links_are
-  -- whose peers it knew at first
-  pub known : (link : ℕ) (d : L) → link < length links_were
+  -- whose peers it knew at first, unless the sender listens
+  pub known : c.listens ≡ false → (link : ℕ) (d : L) → link < length links_were
       → KnowsPeers (session_sent c) (live.line.knows (slice_index_or links_were link d))
 
 -- a sending didn't begin: its source, its links and its clock stand as they stood, or came back as they were

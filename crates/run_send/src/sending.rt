@@ -19,13 +19,13 @@ ghost use Rattle.run_send.specs.Ends.{IsSendEnd};
 use bond_links::Bond;
 use live_source::LiveSource;
 use outside_host::{Host, back_links, open_links};
-use outside_net::{Clock, Link, Role, TellingLink};
+use outside_net::{Clock, Link, TellingLink};
 use psk_seal::Sealer;
 use rist_send::{SendFault, SendSettings, send};
 use rist_sender::{Sender, Settings};
 use rist_wire::Opener;
 use rist_words::SendLine;
-use run_parts::{Status, Telling, sealer_for, session_of, watch};
+use run_parts::{Status, Telling, sealer_for, sending_role, session_of, watch};
 use std::alloc::Global;
 
 // How the links of a line have its packets.
@@ -196,7 +196,7 @@ fn send_on_links<H: Host>(
         alloc,
         host,
         line.links.as_slice(),
-        Role::Sends,
+        sending_role(line.listens),
         line.session.profile,
     ) {
         Ok(links) => links,

@@ -1,6 +1,5 @@
 -- What the parts of a sending leave.
 use Rattle.std.specs.Prelude.{◌≡◌, List, [], length, Option, IfSome, Result}
-use Rattle.outside_net.specs.declared.link_spec.Role.TheVariants.{Sends}
 use Rattle.outside_host.specs.Links.{KnowStatedFrom}
 use Rattle.outside_host.specs.Shelf.{Shelf}
 use Rattle.outside_host.specs.declared.host.Place.TheVariants.{Here, Back}
@@ -14,6 +13,7 @@ use Rattle.rist_send.specs.declared.fault.SendFault.{SendFault}
 use Rattle.rist_words.specs.CommandLine.{SendCommand}
 use Rattle.run_parts.specs.Places.{HandedOut}
 use Rattle.run_parts.specs.Objects.{Tells, TellsLive}
+use Rattle.run_parts.specs.Roles.{sending_role}
 use Rattle.run_parts.specs.Sealing.{DrawnFirst, IsFreshFor}
 use Rattle.run_send.specs.Sent.{no_work, outside_left, outside_of, send_status}
 use Rattle.run_send.specs.Sessions.{session_sent, setup_sent}
@@ -45,7 +45,7 @@ pub record SendsByClock {I O E L C : Type 0} (tells : Tells I O E) (live : Tells
 -- by links that knew the peers that their addresses state
 pub record SendsKnowing {I O E L C : Type 0} (tells : Tells I O E) (live : TellsLive L C) (old new : Shelf I O E L C)
     (c : SendCommand) (source spent : I) (status : Status) (was is : List L) : Type 0 where
-  pub know : KnowStatedFrom live.line.knows Sends c.session.profile 0 was
+  pub know : KnowStatedFrom live.line.knows (sending_role c.listens) c.session.profile 0 was
   pub by_clock : SendsByClock tells live old new c source spent status was is
 
 -- and on links that were handed out

@@ -2,6 +2,7 @@
 use Rattle.std.proofs.Common.{◌≡◌, ◌∙◌, length, map, ap, subst, sym}
 use Rattle.std.proofs.lemmas.List.{length-map}
 use Rattle.std.specs.Prelude.{IsTrue}
+use Rattle.outside_host.proofs.LinkOpeningLemmas.{first_still, none_first}
 use Rattle.outside_host.specs.Sinks.{AreBack, AreDifferent, AreOut}
 use Rattle.rist_words.specs.Shown.{shown_fan}
 use Rattle.run_fan.proofs.FannedLemmas.{WasHandled, around_sinks, fanned_by, names_differ, sinks_first, still_unused_behind, unfanned_by}
@@ -53,3 +54,11 @@ returns-clause-around g c unused =
 
 pub returns-clause-order : goal.returns-clause-order
 returns-clause-order g c t = sinks_first _ _ _ _ _ _ _ c.requires.range (handled g c t)
+
+pub returns-clause-links_tried : goal.returns-clause-links_tried
+returns-clause-links_tried g c unused =
+    first_still _ _ _ (ap (λ s. s.opened_links) (c.back_sinks.ensures.same unused.told))
+    (c.fan_on_links-status.ensures.links_tried (still_unused_behind _ _ _ (c.in-Ok.ensures.same unused.told) unused))
+
+pub returns-in-Err-clause-links_tried : goal.returns-in-Err-clause-links_tried
+returns-in-Err-clause-links_tried g c unused = none_first _ _ (ap (λ s. s.opened_links) (c.in-Err.ensures.same unused.told) ∙ unused.links)

@@ -1,5 +1,5 @@
 -- Links come back as they were where nothing was begun, and else with what was received on them.
-use Rattle.run_receive.proofs.ReceiveLemmas.{links_bound}
+use Rattle.run_receive.proofs.ReceiveLemmas.{links_in}
 use Rattle.outside_host.specs.Links.{AreFirstOf}
 use Rattle.outside_host.proofs.LinkOpeningLemmas.{all_first}
 use Rattle.std.proofs.Common.{◌∙◌, ap, length, subst}
@@ -36,9 +36,11 @@ returns-clause-received g c unused ran =
 pub returns-clause-links_tried : goal.returns-clause-links_tried
 returns-clause-links_tried g c unused =
     all_first _ _ (ap (λ s. s.opened_links) (c.back_links.ensures.same unused.told) ∙ (c.receive_by_clocks-sink.ensures.others unused.told).opened
-    ∙ c.in-Ok.ensures.opened (unused.told, unused.links) ∙ ap (λ l. links_bound c.args.line.now.session.profile l) c.as_slice.ensures.value)
+    ∙ c.in-Ok.ensures.opened (unused.told, unused.links) ∙ ap (λ l. links_in c.receiving_role.result c.args.line.now.session.profile l) c.as_slice.ensures.value
+    ∙ ap (λ r. links_in r c.args.line.now.session.profile c.args.line.now.links.items) c.receiving_role.ensures.value)
 
 pub returns-in-Err-clause-links_tried : goal.returns-in-Err-clause-links_tried
 returns-in-Err-clause-links_tried g c unused =
-    subst (λ l. AreFirstOf (g.H.Host.shelf c.open_links.new.host).opened_links (links_bound c.args.line.now.session.profile l)) c.as_slice.ensures.value
-    (c.in-Err.ensures.tried (unused.told, unused.links))
+    subst (λ r. AreFirstOf (g.H.Host.shelf c.open_links.new.host).opened_links (links_in r c.args.line.now.session.profile c.args.line.now.links.items)) c.receiving_role.ensures.value
+    (subst (λ l. AreFirstOf (g.H.Host.shelf c.open_links.new.host).opened_links (links_in c.receiving_role.result c.args.line.now.session.profile l)) c.as_slice.ensures.value
+    (c.in-Err.ensures.tried (unused.told, unused.links)))
