@@ -36,6 +36,7 @@ amount_text octets us =
     codes "rist: " ++ (tenths_text (octets / 100000)
     ++ (codes " MB, " ++ (tenths_text (rate_of octets us) ++ codes " MB/s")))
 
+-- by whether the length is known
 abbrev pub text_by : Option ℕ → ℕ → ℕ → List ℕ
 text_by None octets us = amount_text octets us
 text_by (Some total) octets us = share_text octets total us

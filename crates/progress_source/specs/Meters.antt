@@ -48,5 +48,6 @@ abbrev pub change_over : Option ℕ → Option Change
 change_over None = None
 change_over (Some last) = Some Clears
 
+-- no line stands, and none comes any more
 abbrev pub over : Meter → Meter
 over m = record m { shown = None; is_over = true }

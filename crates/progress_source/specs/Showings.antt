@@ -1,5 +1,6 @@
 -- What the reads of a source show.
-use Rattle.std.specs.Prelude.{◌≡◌, ℕ, ◌++◌, ◌∷◌, ◌&&◌, nat_eq, nat_lt, if◌then◌else◌, List, [], Bool, true, Option, None, Some, Result, Ok, Err}
+use Rattle.std.specs.Prelude.{◌≡◌, ℕ, ◌++◌, ◌∷◌, ◌&&◌, nat_eq, nat_lt, if◌then◌else◌, List, [], Bool, true}
+use Rattle.std.specs.Prelude.{Option, None, Some, Result, Ok, Err}
 use Rattle.std.specs.Option.{option_map}
 use Rattle.outside_io.specs.declared.source.Failed.{Failed}
 use Rattle.progress_source.specs.declared.meter.Change.{Change}
@@ -48,13 +49,14 @@ abbrev pub Ends : {C O : Type 0} → (O → Option (List Change)) → Showing C 
 Ends asked old new =
     (new.meter ≡ over old.meter) × Asks (asked old.outlet) (asked new.outlet) (change_over old.meter.shown)
 
--- likewise of a source that shows something
+-- what a read shows of a source that shows something
 abbrev pub ShowsIn : {C O : Type 0} → (C → Option (ℕ → ℕ)) → (O → Option (List Change)) → ℕ → Result ℕ Failed
     → Option (Showing C O) → Option (Showing C O) → Type 0
 ShowsIn moments asked room answer None new = new ≡ None
 ShowsIn moments asked room answer (Some old) None = ⊥
 ShowsIn moments asked room answer (Some old) (Some new) = Shows moments asked room answer old new
 
+-- no more line comes of a source that shows something
 abbrev pub EndsIn : {C O : Type 0} → (O → Option (List Change)) → Option (Showing C O) → Option (Showing C O) → Type 0
 EndsIn asked None new = new ≡ None
 EndsIn asked (Some old) None = ⊥

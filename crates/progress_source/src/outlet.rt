@@ -23,6 +23,7 @@ pub trait Outlet {
 /// Puts lines to a sink. A line that can't be made or put is left out.
 #[derive(Drop)]
 pub struct Lines<K> {
+    /// What the octets of a line are put to.
     pub sink: K,
     alloc: Global,
 }

@@ -16,8 +16,11 @@ use outside_net::Clock;
 /// What was read of a source, by a clock of its own, and what shows it.
 #[derive(Drop)]
 pub struct Showing<C, O> {
+    /// The clock of the reads, from 0 on when the source was opened.
     pub clock: C,
+    /// What shows a line.
     pub outlet: O,
+    /// What was counted, and the line that stands.
     pub meter: Meter,
 }
 
@@ -58,7 +61,9 @@ impl<C, O: Outlet> Showing<C, O> {
 /// A source, and what shows how far it was read, if anything does. To whoever reads it, it is the source behind.
 #[derive(Drop)]
 pub struct Progress<S, C, O> {
+    /// The source behind.
     pub source: S,
+    /// What shows how far it was read, where something does.
     pub showing: Option<Showing<C, O>>,
 }
 

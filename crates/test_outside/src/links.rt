@@ -225,24 +225,90 @@ fn a_datagram_that_is_too_long_is_dropped(rt: HostRuntime) -> Result<(), Failed>
     Ok(())
 }
 
-#[test]
-fn a_sending_link_reads_at_once_and_rests_about_a_millisecond(
-    rt: HostRuntime,
-) -> Result<(), Failed> {
-    let (_receiving, mut sending) = pair(&rt, Profile::Simple)?;
-    let mut clock = ProcessClock::start(&rt)?;
+/// The least time of twenty reads, and of twenty rests of so many milliseconds, in microseconds.
+fn least_times<C: Clock>(
+    rt: &impl Abort,
+    clock: &mut C,
+    link: &mut UdpLink,
+    limit: u8,
+) -> (u64, u64) {
     let mut block = [0; 2048];
     let mut read = u64::MAX;
     let mut rest = u64::MAX;
     for _ in 0..20 {
         let before = clock.now();
-        assert_got(&rt, &mut sending, &mut block, Got::Quiet);
+        assert_got(rt, link, &mut block, Got::Quiet);
         let between = clock.now();
-        sending.rest(1);
+        link.rest(limit);
         read = read.min(between.saturating_sub(before));
         rest = rest.min(clock.now().saturating_sub(between));
     }
+    (read, rest)
+}
+
+#[test]
+fn a_link_reads_at_once_and_rests_so_many_milliseconds(rt: HostRuntime) -> Result<(), Failed> {
+    let (mut receiving, mut sending) = pair(&rt, Profile::Simple)?;
+    let mut clock = ProcessClock::start(&rt)?;
+    let (read, rest) = least_times(&rt, &mut clock, &mut receiving, 5);
+    assert!(rt; read < 500 && (4_500..=9_000).contains(&rest));
+    let (read, rest) = least_times(&rt, &mut clock, &mut sending, 1);
     assert!(rt; read < 500 && (500..=3_000).contains(&rest));
+    Ok(())
+}
+
+#[test]
+fn a_rest_ends_where_a_datagram_is_there(rt: HostRuntime) -> Result<(), Failed> {
+    let (mut receiving, mut sending) = pair(&rt, Profile::Main)?;
+    let mut clock = ProcessClock::start(&rt)?;
+    assert_written(&rt, &mut sending, Channel::Tunnel, b"A", Ok(true));
+    let before = clock.now();
+    receiving.rest(250);
+    assert!(rt; clock.now().saturating_sub(before) < 200_000);
+    Ok(())
+}
+
+/// The next datagram of the receiving link is for this flow, and is of one octet.
+fn assign_next<L: Link>(rt: &impl Abort, receiving: &mut L, flow: u8) {
+    let mut block = [0; 2048];
+    assert_next(rt, receiving, &mut block, Channel::Tunnel, 1);
+    receiving.assign(flow);
+}
+
+/// What is written for a flow comes to this link, and it is this octet.
+fn assert_goes<L: Link>(rt: &impl Abort, receiving: &mut L, flow: u8, to: &mut L, octet: u8) {
+    let mut block = [0; 2048];
+    receiving.address(flow);
+    assert_written(rt, receiving, Channel::Tunnel, &[octet], Ok(true));
+    assert_next(rt, to, &mut block, Channel::Tunnel, 1);
+    assert!(rt; block[0] == octet);
+}
+
+/// Two senders' flows are each answered where they came from, whoever sent last.
+fn assert_flows_answered<L: Link>(rt: &impl Abort, receiving: &mut L, one: &mut L, other: &mut L) {
+    assert_written(rt, one, Channel::Tunnel, b"A", Ok(true));
+    assign_next(rt, receiving, 0);
+    assert_written(rt, other, Channel::Tunnel, b"B", Ok(true));
+    assign_next(rt, receiving, 7);
+    assert_goes(rt, receiving, 0, one, b'a');
+    assert_goes(rt, receiving, 7, other, b'b');
+    // Nothing came of this flow: it goes to who sent last.
+    assert_goes(rt, receiving, 3, other, b'c');
+    // The first flow comes from the other sender now.
+    assert_written(rt, other, Channel::Tunnel, b"D", Ok(true));
+    assign_next(rt, receiving, 0);
+    assert_goes(rt, receiving, 0, other, b'd');
+    // A tunnel has no flow at such a place.
+    receiving.assign(8);
+    assert_goes(rt, receiving, 8, other, b'e');
+}
+
+#[test]
+fn a_flow_is_answered_where_it_came_from(rt: HostRuntime) -> Result<(), Failed> {
+    let (mut receiving, spec) = bound(&rt, Profile::Main)?;
+    let mut one = UdpLink::open(&rt, &spec, Role::Sends, Profile::Main)?;
+    let mut other = UdpLink::open(&rt, &spec, Role::Sends, Profile::Main)?;
+    assert_flows_answered(&rt, &mut receiving, &mut one, &mut other);
     Ok(())
 }
 

@@ -26,9 +26,9 @@ use std::sync::Wait;
 use std::test::Fail;
 use std::thread::Threads;
 
-const LIMITS: ServingLimits = ServingLimits { turns: 64, idle: 0 };
+pub(crate) const LIMITS: ServingLimits = ServingLimits { turns: 64, idle: 0 };
 
-fn two_ports() -> [u16; 2]
+pub(crate) fn two_ports() -> [u16; 2]
     ensures ports { ArePorts result }
 {
     [1968, 1970]
@@ -41,7 +41,7 @@ fn one_port() -> [u16; 1]
 }
 
 /// The session of a tunnel in clear, at the first port.
-fn tunnel() -> Session
+pub(crate) fn tunnel() -> Session
     ensures session { IsSession result }
     ensures clear { result.pass ≡ None }
 {
@@ -104,7 +104,7 @@ fn brought(alloc: Global, letter: u8) -> Result<ScriptRead, Fail>
 }
 
 /// A link that brings these.
-fn link(alloc: Global, letters: &[u8]) -> Result<ScriptLink, Fail> {
+pub(crate) fn link(alloc: Global, letters: &[u8]) -> Result<ScriptLink, Fail> {
     let mut reads = Vec::new(alloc);
     for letter in letters {
         reads.push(brought(alloc, *letter)?)?;
@@ -169,7 +169,12 @@ fn one<K: Sink + Drop>(alloc: Global, sink: K) -> Result<Fan<K>, Fail>
 }
 
 /// Two such flows.
-fn two<K: Sink + Drop>(alloc: Global, asks: bool, sink: K, other: K) -> Result<Fan<K>, Fail>
+pub(crate) fn two<K: Sink + Drop>(
+    alloc: Global,
+    asks: bool,
+    sink: K,
+    other: K,
+) -> Result<Fan<K>, Fail>
     requires empty { IsEmpty (K.contents sink) }
     requires other { IsEmpty (K.contents other) }
     ensures two { IfOk result (λ fan. length (flows_in fan) ≡ 2) }
