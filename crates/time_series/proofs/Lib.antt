@@ -1,2 +1,3 @@
 pub mod SeriesLemmas
+pub mod PeakLemmas
 pub mod TotalLemmas

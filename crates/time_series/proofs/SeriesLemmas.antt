@@ -94,7 +94,7 @@ later_more n m le = grows 52 n m le
 pub capped_sum : (a b : ℕ) → capped (capped a + capped b) ≡ capped (a + b)
 capped_sum a b = omega arith
 
-half_of : (s k : ℕ) → s / 2 ^ (k + 1) ≡ s / 2 ^ k / 2
+pub half_of : (s k : ℕ) → s / 2 ^ (k + 1) ≡ s / 2 ^ k / 2
 half_of s k = sym (shr-shr s k 1)
 
 in_pair : (q i a : ℕ) → (if q / 2 == i then a else 0) ≡ (if q == 2 * i then a else 0) + (if q == 2 * i + 1 then a else 0)
@@ -132,10 +132,10 @@ pub sums_of : (points : List ℕ) (scale last : ℕ) (marks : List Mark) → IsS
 sums_of points scale last marks is =
     record { within = subst (λ (n : ℕ). n < 4096 * 2 ^ scale) is.newest is.within; room = is.room; sums = is.sums }
 
-twice : (n p : ℕ) → n < 4096 * p → n < 4096 * (2 * p)
+pub twice : (n p : ℕ) → n < 4096 * p → n < 4096 * (2 * p)
 twice n p below = omega arith
 
-two_to : (k : ℕ) → 2 ^ (k + 1) ≡ 2 * 2 ^ k
+pub two_to : (k : ℕ) → 2 ^ (k + 1) ≡ 2 * 2 ^ k
 two_to k = ap (λ (m : ℕ). 2 ^ m) (omega arith) ∙ pow-succ' 2 k
 
 -- joined pairs are the sums of buckets that are twice as wide
@@ -233,7 +233,7 @@ shown s marks is =
 pub nothing_in : (scale i : ℕ) → amount_in scale i [] ≡ 0
 nothing_in scale i = refl
 
-none_at_first : halvings 0 ≡ 0
+pub none_at_first : halvings 0 ≡ 0
 unfolding halvings halvings_within
 none_at_first = refl
 

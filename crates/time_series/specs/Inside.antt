@@ -1,2 +1,3 @@
 -- What private contracts of a series cite.
 pub mod Widening
+pub mod Rising

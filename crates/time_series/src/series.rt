@@ -87,8 +87,8 @@ impl Series {
     }
 }
 
-// So many numbers that are 0.
-fn zeros(alloc: Global, count: usize) -> Result<Vec<u64>, AllocError>
+/// So many numbers that are 0.
+pub fn zeros(alloc: Global, count: usize) -> Result<Vec<u64>, AllocError>
     ensures value { IfOk result (λ v. v.items ≡ replicate count 0) }
 {
     let mut numbers = Vec::with_capacity(alloc, count)?;

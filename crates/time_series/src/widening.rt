@@ -53,7 +53,7 @@ fn join_pairs(points: &mut [u64])
 }
 
 /// Nothing stands in the second half.
-fn clear_rest(points: &mut [u64])
+pub fn clear_rest(points: &mut [u64])
     requires room { length points.old ≡ POINTS }
     ensures first { (i : ℕ) → i < 2048 → slice_index points.new i ≡ slice_index points.old i }
     ensures second { (i : ℕ) → 2048 ≤ i → i < 4096 → slice_index points.new i ≡ 0 }
