@@ -1,12 +1,13 @@
 //! What sendings are told to do, and what has to come of them.
 
-/// A command line, how many octets its source has, the moments of its clock, and which writes of each link fail; its
-/// exit status; and of a link the number, modulo 256, and the length of each media datagram that it took.
+/// A command line, how many octets its source has, the moments of its clock, whether its links know their peers, and which
+/// writes of each fail; its exit status; and of a link the number, modulo 256, and the length of each media datagram that it took.
 #[derive(Clone, Copy)]
 pub struct Row<'a> {
     pub line: &'a str,
     pub octets: usize,
     pub moments: &'a [u64],
+    pub knows: bool,
     pub failing: &'a [u64],
     pub exit: u8,
     pub link: u8,
@@ -24,6 +25,7 @@ const PLAIN: Row<'static> = Row {
     line: "rist send - 127.0.0.1:5000 --linger 0",
     octets: 2632,
     moments: PASSING,
+    knows: true,
     failing: &[],
     exit: 0,
     link: 0,
@@ -151,6 +153,28 @@ pub const TUNNELS: &[Row<'static>] = &[
     Row {
         line: "rist send - 127.0.0.1:5000 --linger 0 --profile main --pass secret",
         taken: &[(0, 404)],
+        ..TUNNELLED
+    },
+];
+
+/// A sender that listens sends to nobody before it was called, and one that calls opens no link without a peer.
+pub const LISTENING: &[Row<'static>] = &[
+    Row {
+        line: "rist send - 127.0.0.1:5000 --linger 0 --profile main --listen",
+        knows: false,
+        taken: &[],
+        ..TUNNELLED
+    },
+    Row {
+        line: "rist send - 127.0.0.1:5000 --linger 0 --profile main --listen",
+        taken: &[(0, 396)],
+        ..TUNNELLED
+    },
+    Row {
+        line: "rist send - 127.0.0.1:5000 --linger 0 --profile main",
+        knows: false,
+        exit: 3,
+        taken: &[],
         ..TUNNELLED
     },
 ];

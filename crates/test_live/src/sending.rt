@@ -1,5 +1,5 @@
 //! What each link was given, and how a sending ended.
-use crate::send_rows::{BREAKS, LENGTHS, REFUSALS, Row, SHARES, TUNNELS};
+use crate::send_rows::{BREAKS, LENGTHS, LISTENING, REFUSALS, Row, SHARES, TUNNELS};
 use link_channels::Channel;
 use outside_host::{MemHost, MemParts, Place, Slot};
 use outside_io::{MemSource, Pieces, Words};
@@ -34,7 +34,7 @@ fn host(alloc: Global, row: &Row<'_>) -> Result<MemHost, Fail> {
         links.push(Place::Here(ScriptLink::with(
             alloc,
             Vec::new(alloc),
-            true,
+            row.knows,
             16,
             &[],
             row.failing,
@@ -108,7 +108,7 @@ fn is_as_told(alloc: Global, row: &Row<'_>) -> Result<bool, Fail> {
 #[test]
 fn sendings_end_and_give_as_told(rt: HostRuntime) -> Result<(), Fail> {
     let alloc = rt.alloc();
-    for rows in [LENGTHS, BREAKS, REFUSALS, SHARES, TUNNELS] {
+    for rows in [LENGTHS, BREAKS, REFUSALS, SHARES, TUNNELS, LISTENING] {
         for row in rows {
             assert!(rt; is_as_told(alloc, row)?, "{}", row.line);
         }
