@@ -53,5 +53,5 @@ with_points text place (point ∷ points) = with_points (with_point text (place 
 -- a chart behind its title: its unit, how many seconds wide a bucket is, and its points
 abbrev pub with_chart : List ℕ → List ℕ → ℕ → List ℕ → List ℕ
 with_chart text unit width points =
-    with_points (with_frame (with_label (with_caption text unit width (greatest_of points)) unit width (greatest_of points))
-    (length points) (max (greatest_of points) 1)) 0 points ++ codes "'/></svg></section>\n"
+    with_points (with_frame (with_label (with_caption text unit width (greatest_of points)) unit width
+    (greatest_of points)) (length points) (max (greatest_of points) 1)) 0 points ++ codes "'/></svg></section>\n"

@@ -38,8 +38,8 @@ pub fn put_numbered_title(out: &mut [u8], at: usize, name: &str, number: u64) ->
     put_number(out, at, number)
 }
 
-/// Puts a chart behind its title: the greatest of its points with their unit, how many seconds wide each bucket is, and a
-/// step for each point, as wide as a bucket, the first at the left.
+/// Puts a chart behind its title: the greatest of its points with their unit, how many seconds wide each bucket is, and
+/// a step for each point, as wide as a bucket, the first at the left.
 pub fn put_chart(out: &mut [u8], at: usize, unit: &str, width: u64, points: &[u64]) -> usize
     requires few { length points.now ≤ MAX_POINTS }
     requires short { length unit.now ≤ 40 }

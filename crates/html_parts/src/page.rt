@@ -118,7 +118,8 @@ pub fn put_columns(
     third: &str,
     fourth: &str,
 ) -> usize
-    requires room { at + length first.now + length second.now + length third.now + length fourth.now + 100 ≤ length out.old }
+    requires room { at + length first.now + length second.now + length third.now + length fourth.now + 100
+        ≤ length out.old }
     ensures octets { take result out.new
         ≡ with_columns (take at out.old) first.now second.now third.now fourth.now }
     ensures within { result ≤ at + length first.now + length second.now + length third.now + length fourth.now + 100 }

@@ -7,6 +7,7 @@ use Rattle.std.proofs.lemmas.List.{ext_get_or, get_or-map, length-map, get_or_ap
 use Rattle.std.proofs.lemmas.List.FromFn.{length-map-range_with_len, get_or-map-range_with_len}
 use Rattle.time_series.specs.Points.{Mark, SeriesState, IsSeriesOf, capped, shown_points, width_of}
 use Rattle.time_series.proofs.SeriesLemmas.{shown}
+use Rattle.time_series.proofs.PeakLemmas.{shown_peaks}
 use Rattle.value_histogram.specs.declared.spread.Spread.{Spread}
 use Rattle.value_histogram.specs.Ranks.{IsHistogramOf, spread_of}
 use Rattle.receiver_rules.specs.declared.limits.Limits.{Limits}
@@ -25,9 +26,10 @@ use Rattle.session_figures.specs.declared.amounts.Amounts.{Amounts}
 use Rattle.session_figures.specs.declared.amounts.Passed.{Passed}
 use Rattle.session_figures.specs.declared.jitter.Jitter.{Jitter}
 use Rattle.session_figures.specs.declared.numbers.Numbers.{Numbers}
+use Rattle.session_figures.specs.declared.playout.Playout.{Playout}
 use Rattle.session_figures.specs.declared.table.Table.{Table}
 use Rattle.session_figures.specs.Numbers.{missing_count, sent_count}
-use Rattle.session_figures.specs.Amounts.{amounts_by, amounts_of, first_on, missing_by, nothing_passed, octets_on, passed_by, records_in, recovered_on, restarts_by}
+use Rattle.session_figures.specs.Amounts.{amounts_by, amounts_of, first_on, missing_by, nothing_passed, octets_on, passed_by, playout_by, records_in, recovered_on, restarts_by}
 use Rattle.session_figures.specs.Spreads.{jitters_by, jitters_of, last_transit, timestamp_in, transit_before, transit_word, trips_of}
 use Rattle.session_figures.specs.Figures.{Entry, entries_of, figures_of, links_by, marks_by, start_of, sums_by, ticks_of}
 use Rattle.session_figures.specs.Counting.{AreJittersOf, AreLinksOf, AreNumbersOf, AreSeriesOf, CounterState, IsCountedAfter, end_told, figures_in}
@@ -100,8 +102,8 @@ jitters_end limits history j are =
     jitters_more limits history end_told j 0 0 0 0 (end_restarts limits history) refl refl refl are
 
 -- what a counter keeps after a step is that of the history with it
-pub counted_on : (old new : CounterState) (step : ReceiverStep) (history : List ReceiverStep) (amounts : Amounts) (records restarts : ℕ)
-    → IsCountedAfter old history → new.buffer.limits ≡ old.buffer.limits
+pub counted_on : (old new : CounterState) (step : ReceiverStep) (history : List ReceiverStep) (amounts : Amounts) (records restarts : ℕ) (playout : Playout)
+    → IsCountedAfter old history → new.buffer.limits ≡ old.buffer.limits → new.delay ≡ old.delay
     → IsStateAfter new.buffer (buffer_history (step ∷ history))
     → new.time ≡ max old.time step.tick
     → new.start ≡ Some (unwrap_or old.start step.tick)
@@ -110,12 +112,13 @@ pub counted_on : (old new : CounterState) (step : ReceiverStep) (history : List 
     → amounts ≡ amounts_by old.buffer.limits history step.link step.tick nothing_passed step.input
     → records ≡ records_in step.input
     → restarts ≡ restarts_by old.buffer.limits history step
+    → playout ≡ playout_by old.buffer.limits history step
     → AreJittersOf new.jitter (last_transit old.buffer.limits (step ∷ history)) (jitters_of old.buffer.limits (step ∷ history))
     → IsHistogramOf new.trips (trips_of (step ∷ history))
     → ((entries : List Entry) → AreSeriesOf old.table entries
-    → AreSeriesOf new.table (record { second = (new.time - unwrap_or old.start step.tick) / 90000; amounts = with_passed amounts (record { records = records; missing = new.missing - old.missing; restarts = restarts }) } ∷ entries))
+    → AreSeriesOf new.table (record { second = (new.time - unwrap_or old.start step.tick) / 90000; amounts = with_passed amounts (record { records = records; missing = new.missing - old.missing; restarts = restarts; playout = playout }) } ∷ entries))
     → IsCountedAfter new (step ∷ history)
-counted_on old new step history amounts records restarts c limits state time start numbers missing added counts restarted jitters samples series =
+counted_on old new step history amounts records restarts playout c limits delay state time start numbers missing added counts restarted played jitters samples series =
     let l : Limits = old.buffer.limits in
     let now : new.time ≡ effective_time (step ∷ history) = (let before = c.now in omega (arith, time, before)) in
     let first : unwrap_or old.start step.tick ≡ unwrap_or (start_of history) step.tick = ap (λ (o : Option ℕ). unwrap_or o step.tick) c.first in
@@ -123,11 +126,12 @@ counted_on old new step history amounts records restarts c limits state time sta
     ap (λ (t : ℕ). (t - unwrap_or old.start step.tick) / 90000) now ∙ ap (λ (s : ℕ). (effective_time (step ∷ history) - s) / 90000) first in
     let rise : new.missing - old.missing ≡ missing_by l history step =
     ap (λ (m : ℕ). m - old.missing) missing ∙ ap (λ (m : ℕ). capped (missing_count l (buffer_history (step ∷ history))) - m) c.passed in
-    let passed : Passed = record { records = records; missing = new.missing - old.missing; restarts = restarts } in
+    let passed : Passed = record { records = records; missing = new.missing - old.missing; restarts = restarts; playout = playout } in
     let all : passed ≡ passed_by l history step =
-    ap (λ (n : ℕ). record { records = n; missing = new.missing - old.missing; restarts = restarts }) counts
-    ∙ ap (λ (n : ℕ). record { records = records_in step.input; missing = n; restarts = restarts }) rise
-    ∙ ap (λ (n : ℕ). record { records = records_in step.input; missing = missing_by l history step; restarts = n }) restarted in
+    ap (λ (n : ℕ). record { records = n; missing = new.missing - old.missing; restarts = restarts; playout = playout }) counts
+    ∙ ap (λ (n : ℕ). record { records = records_in step.input; missing = n; restarts = restarts; playout = playout }) rise
+    ∙ ap (λ (n : ℕ). record { records = records_in step.input; missing = missing_by l history step; restarts = n; playout = playout }) restarted
+    ∙ ap (λ (p : Playout). record { records = records_in step.input; missing = missing_by l history step; restarts = restarts_by l history step; playout = p }) played in
     let what : with_passed amounts passed ≡ amounts_of l history step =
     ap (λ (a : Amounts). with_passed a passed) added
     ∙ passed_set l history step.link step.tick passed step.input
@@ -138,6 +142,7 @@ counted_on old new step history amounts records restarts c limits state time sta
     (series (entries_of l history) c.series)) in
     record {
       state = state;
+      delay = delay ∙ c.delay ∙ ap (λ (x : Limits). x.playout_delay) (sym limits);
       now = now;
       first = start ∙ ap Some first;
       numbers = subst (λ (x : Limits). AreNumbersOf new.numbers (epochs_of x (buffer_history (step ∷ history)))) (sym limits) numbers;
@@ -182,6 +187,10 @@ figures_same limits history t ticks sent jitter trips a b j r are =
     let missing = shown t.missing (marks_by (λ x. x.passed.missing) entries) are.of_missing in
     let late = shown t.late (marks_by (λ x. x.late) entries) are.of_late in
     let restarts = shown t.restarts (marks_by (λ x. x.passed.restarts) entries) are.of_restarts in
+    let fill = shown_peaks t.fill (marks_by (λ x. x.passed.playout.fill) entries) are.of_fill in
+    let used = shown_peaks t.used (marks_by (λ x. x.passed.playout.used) entries) are.of_used in
+    let later = shown t.later (marks_by (λ x. x.passed.playout.later) entries) are.of_later in
+    let earlier = shown t.earlier (marks_by (λ x. x.passed.playout.earlier) entries) are.of_earlier in
     cc
 
 -- one amount more of each link

@@ -1,4 +1,5 @@
 pub mod JitterLemmas
 pub mod NumberLemmas
+pub mod PlayoutLemmas
 pub mod FigureLemmas
 pub mod LawLemmas

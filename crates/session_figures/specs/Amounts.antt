@@ -7,9 +7,12 @@ use Rattle.receiver_rules.specs.declared.verdict.Verdict.TheVariants as verdicts
 use Rattle.receiver_rules.specs.Packets.{is_kept}
 use Rattle.receiver_rules.specs.History.{epoch_number, verdict}
 use Rattle.request_rules.specs.Steps.{Input, Media, Control, Keepalive, Refused, Tick, End, Step, buffer_history}
+use Rattle.request_rules.specs.Steps.{effective_time}
 use Rattle.session_figures.specs.declared.amounts.Amounts.{Amounts}
 use Rattle.session_figures.specs.declared.amounts.Passed.{Passed}
+use Rattle.session_figures.specs.declared.playout.Playout.{Playout}
 use Rattle.session_figures.specs.Numbers.{missing_count}
+use Rattle.session_figures.specs.Playout.{playout_between, standing_of}
 
 -- a packet came after its deadline, or after one of the same or a higher number was played out
 abbrev pub is_too_late : Verdict → Bool
@@ -26,9 +29,13 @@ is_too_late verdicts.Span = false
 abbrev pub one_if : Bool → ℕ
 one_if b = if b then 1 else 0
 
+-- nothing is told of the playout
+abbrev pub no_playout : Playout
+no_playout = record { fill = 0; used = 0; later = 0; earlier = 0 }
+
 -- nothing was added
 abbrev pub nothing_passed : Passed
-nothing_passed = record { records = 0; missing = 0; restarts = 0 }
+nothing_passed = record { records = 0; missing = 0; restarts = 0; playout = no_playout }
 
 -- What a media packet adds, by its link, its verdict, whether it is a retransmission and its payload's length: its
 -- octets on its link; where it is kept its octets to the stream, and one packet received first time or recovered; one
@@ -72,6 +79,12 @@ abbrev pub restarts_by : Limits → List Step → Step → ℕ
 restarts_by limits before step =
     epoch_number limits (buffer_history (step ∷ before)) - epoch_number limits (buffer_history before)
 
+-- what a step tells of the playout
+abbrev pub playout_by : Limits → List Step → Step → Playout
+playout_by limits before step =
+    playout_between (standing_of limits (buffer_history before)) (standing_of limits (buffer_history (step ∷ before)))
+    limits.playout_delay (effective_time (step ∷ before) - effective_time before) (restarts_by limits before step)
+
 -- a step is a record, and the end is none
 abbrev pub records_in : Input → ℕ
 records_in (Media arrival) = 1
@@ -88,6 +101,7 @@ passed_by limits before step =
       records = records_in step.input;
       missing = missing_by limits before step;
       restarts = restarts_by limits before step;
+      playout = playout_by limits before step;
     }
 
 -- what a step adds after a history

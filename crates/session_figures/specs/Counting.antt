@@ -2,6 +2,7 @@
 use Rattle.std.specs.Prelude.{◌≡◌, ℕ, ◌<◌, ◌^◌, List, [], ◌∷◌, length, map, Option, slice_index_or}
 use Rattle.link_channels.specs.declared.bounds.TheConstants.{MAX_LINKS}
 use Rattle.time_series.specs.Points.{SeriesState, IsSeriesOf, capped, shown_points}
+use Rattle.time_series.specs.Peaks.{IsPeaksOf}
 use Rattle.receiver_rules.specs.Epochs.{Epoch, epochs_of, newest_accepted}
 use Rattle.reorder_buffer.specs.State.{State}
 use Rattle.reorder_buffer.specs.StateAfter.{IsStateAfter}
@@ -48,16 +49,21 @@ pub record AreSeriesOf (t : Table) (entries : List Entry) : Type 0 where
   pub of_missing : IsSeriesOf t.missing (marks_by (λ a. a.passed.missing) entries)
   pub of_late : IsSeriesOf t.late (marks_by (λ a. a.late) entries)
   pub of_restarts : IsSeriesOf t.restarts (marks_by (λ a. a.passed.restarts) entries)
+  pub of_fill : IsPeaksOf t.fill (marks_by (λ a. a.passed.playout.fill) entries)
+  pub of_used : IsPeaksOf t.used (marks_by (λ a. a.passed.playout.used) entries)
+  pub of_later : IsSeriesOf t.later (marks_by (λ a. a.passed.playout.later) entries)
+  pub of_earlier : IsSeriesOf t.earlier (marks_by (λ a. a.passed.playout.earlier) entries)
 
 -- what is kept of jitter: the transit that the next packet's is held against, and how often each value came
 pub record AreJittersOf (j : Jitter) (transit : Option ℕ) (jitters : List ℕ) : Type 0 where
   pub last : j.last ≡ transit
   pub values : IsHistogramOf j.values jitters
 
--- a buffer, the effective time of the last step, the tick of the first, what is kept of numbers, how many numbers the
--- playout has passed without a packet, the series, what is kept of jitter, and of round-trip times
+-- a buffer, its playout delay, the effective time of the last step, the tick of the first, what is kept of numbers, how
+-- many numbers the playout has passed without a packet, the series, what is kept of jitter, and of round-trip times
 pub record CounterState : Type 0 where
   pub buffer : State
+  pub delay : ℕ
   pub time : ℕ
   pub start : Option ℕ
   pub numbers : Numbers
@@ -78,6 +84,7 @@ end_told = record { link = 0; tick = 0; input = End }
 -- what it keeps is that of a history, whose end may have come
 pub record IsCountedAfter (c : CounterState) (history : List Step) : Type 0 where
   pub state : IsStateAfter c.buffer (buffer_history history)
+  pub delay : c.delay ≡ c.buffer.limits.playout_delay
   pub now : c.time ≡ effective_time history
   pub first : c.start ≡ start_of history
   pub numbers : AreNumbersOf c.numbers (epochs_of c.buffer.limits (buffer_history history))
@@ -104,6 +111,10 @@ figures_in ticks sent jitter trips t =
       missing = shown_points t.missing;
       late = shown_points t.late;
       restarts = shown_points t.restarts;
+      fill = shown_points t.fill;
+      used = shown_points t.used;
+      later = shown_points t.later;
+      earlier = shown_points t.earlier;
     }
 
 -- the figures that are shown

@@ -4,6 +4,7 @@ use Rattle.std.specs.Option.{unwrap_or}
 use Rattle.std.specs.List.{range_with_len, sum}
 use Rattle.link_channels.specs.declared.bounds.TheConstants.{MAX_LINKS}
 use Rattle.time_series.specs.Points.{Mark, capped, points_of, width_of}
+use Rattle.time_series.specs.Peaks.{peaks_of}
 use Rattle.value_histogram.specs.declared.spread.Spread.{Spread}
 use Rattle.value_histogram.specs.Ranks.{spread_of}
 use Rattle.receiver_rules.specs.declared.limits.Limits.{Limits}
@@ -55,11 +56,13 @@ recovered_count limits history = sum (map (λ entry. entry.amounts.recovered) (e
 -- ---- the figures
 
 -- how long it took, in ticks of 1/90,000 s; how many packets were sent; how jitter is spread, in tenths of a
--- millisecond, and how round-trip times are, in milliseconds; how many seconds wide a bucket is; and in each bucket: the
--- octets of payloads that came on each link, the packets that were received first time on each and those that a
--- retransmission on each recovered, the octets of packets that were kept, the packets that were received first time and
--- those that a retransmission recovered, the numbers that the playout passed without a packet, the packets that came too
--- late, and how often the flow restarted
+-- millisecond, and how round-trip times are, in milliseconds; how many seconds wide a bucket is; and in each bucket:
+-- the octets of payloads that came on each link, the packets that were received first time on each and those that a
+-- retransmission on each recovered, the octets of packets that were kept, the packets that were received first time
+-- and those that a retransmission recovered, the numbers that the playout passed without a packet, the packets that
+-- came too late, and how often the flow restarted; the greatest fill of the buffer after a step, and the most of the
+-- playout delay that was used up as one came, in milliseconds; and by how many ticks the base of deadlines moved to
+-- later, and to earlier
 pub record Figures : Type 0 where
   pub ticks : ℕ
   pub sent : ℕ
@@ -75,10 +78,18 @@ pub record Figures : Type 0 where
   pub missing : List ℕ
   pub late : List ℕ
   pub restarts : List ℕ
+  pub fill : List ℕ
+  pub used : List ℕ
+  pub later : List ℕ
+  pub earlier : List ℕ
 
 -- the sums of one amount in each bucket
 abbrev pub sums_by : (Amounts → ℕ) → List Entry → List ℕ
 sums_by amount entries = points_of (marks_by amount entries)
+
+-- the greatest of one amount in each bucket
+abbrev pub peaks_by : (Amounts → ℕ) → List Entry → List ℕ
+peaks_by amount entries = peaks_of (marks_by amount entries)
 
 -- the sums of one amount of each link
 abbrev pub links_by : (ℕ → Amounts → ℕ) → List Entry → List (List ℕ)
@@ -102,6 +113,10 @@ figures_by ticks sent jitter trips entries =
       missing = sums_by (λ a. a.passed.missing) entries;
       late = sums_by (λ a. a.late) entries;
       restarts = sums_by (λ a. a.passed.restarts) entries;
+      fill = peaks_by (λ a. a.passed.playout.fill) entries;
+      used = peaks_by (λ a. a.passed.playout.used) entries;
+      later = sums_by (λ a. a.passed.playout.later) entries;
+      earlier = sums_by (λ a. a.passed.playout.earlier) entries;
     }
 
 -- the figures of a history

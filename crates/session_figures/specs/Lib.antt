@@ -1,4 +1,5 @@
 pub mod Numbers
+pub mod Playout
 pub mod Amounts
 pub mod Spreads
 pub mod Figures

@@ -51,8 +51,8 @@ abbrev pub jitters_by : Option ℕ → ℕ → List ℕ
 jitters_by None transit = []
 jitters_by (Some last) transit = jitter_of last transit ∷ []
 
--- the jitter of each packet of a history that was received first time, but for the first of each epoch: how far the time
--- between it and the one before differs from that between their timestamps. The newest comes first
+-- the jitter of each packet of a history that was received first time, but for the first of each epoch: how far the
+-- time between it and the one before differs from that between their timestamps. The newest comes first
 abbrev pub jitters_of : Limits → List Step → List ℕ
 jitters_of limits [] = []
 jitters_of limits (step ∷ before) =

@@ -2,6 +2,7 @@
 ghost use Rattle.std.specs.Prelude.{◌≡◌};
 ghost use Rattle.session_figures.specs.Amounts.{is_too_late, media_amounts, nothing_passed, on_link, silent_amounts};
 
+use crate::playout::Playout;
 use receiver_rules::Verdict;
 
 /// What a step adds, whatever came with it.
@@ -13,6 +14,8 @@ pub struct Passed {
     pub missing: u64,
     /// Epochs that were opened, but for the first.
     pub restarts: u64,
+    /// What it tells of the playout.
+    pub playout: Playout,
 }
 
 /// What a step adds.
@@ -43,6 +46,12 @@ impl Passed {
             records: 0,
             missing: 0,
             restarts: 0,
+            playout: Playout {
+                fill: 0,
+                used: 0,
+                later: 0,
+                earlier: 0,
+            },
         }
     }
 }

@@ -6,6 +6,7 @@ use crate::amounts::{Amounts, Passed};
 use crate::figures::Figures;
 use crate::jitter::Jitter;
 use crate::numbers::Numbers;
+use crate::playout::{Playout, Standing};
 use crate::stepping::{flush, missing_now, sent_now, stamp_of, step_buffer};
 use crate::table::Table;
 use crate::trips::take_trip;
@@ -21,6 +22,8 @@ use value_histogram::Histogram;
 #[derive(Drop)]
 pub struct Counter {
     buffer: Buffer,
+    /// The playout delay, in ticks.
+    delay: u64,
     /// The effective time of the last step.
     time: u64,
     /// The tick of the first step.
@@ -41,6 +44,7 @@ impl Model for Counter {
 
     ghost view = { λ c. record {
       buffer = c.buffer;
+      delay = c.delay;
       time = c.time;
       start = c.start;
       numbers = c.numbers;
@@ -84,6 +88,7 @@ impl Counter {
         )?;
         Ok(Counter {
             buffer,
+            delay: 90 * settings.delay,
             time: 0,
             start: None,
             numbers: Numbers::none(),
@@ -106,6 +111,7 @@ impl Counter {
         if self.buffer.ended() {
             return;
         }
+        let before = Standing::of(&self.buffer);
         let epoch = self.buffer.epoch();
         let amounts = step_buffer(&mut self.buffer, &mut self.numbers, self.time, told);
         let restarts = self.buffer.epoch().saturating_sub(epoch);
@@ -113,8 +119,11 @@ impl Counter {
         self.jitter
             .take(restarts, amounts.first, tick, stamp_of(&told.what));
         take_trip(&mut self.trips, told);
-        self.time = self.time.max(tick);
-        self.count(tick, amounts, 1, restarts);
+        let at = self.time.max(tick);
+        let after = Standing::of(&self.buffer);
+        let playout = before.to(&after, self.delay, at.saturating_sub(self.time), restarts);
+        self.time = at;
+        self.count(tick, amounts, 1, restarts, playout);
     }
 
     /// Makes the step of the end, which moves no time. All that waits is let out.
@@ -127,8 +136,11 @@ impl Counter {
         if self.buffer.ended() {
             return;
         }
+        let before = Standing::of(&self.buffer);
         flush(&mut self.buffer);
-        self.count(0, Amounts::silent(0), 0, 0);
+        let after = Standing::of(&self.buffer);
+        let playout = before.to(&after, self.delay, 0, 0);
+        self.count(0, Amounts::silent(0), 0, 0, playout);
     }
 
     /// The figures of the steps so far.
@@ -145,12 +157,12 @@ impl Counter {
         }
     }
 
-    // Counts what a step added, which the buffer has made, and what the playout passed in it: whether it is a record, and
-    // how often the flow restarted.
-    fn count(&mut self, tick: u64, amounts: Amounts, records: u64, restarts: u64)
+    // Counts what a step added, which the buffer has made, and what the playout passed in it: whether it is a record,
+    // how often the flow restarted, and what it tells of the playout.
+    fn count(&mut self, tick: u64, amounts: Amounts, records: u64, restarts: u64, playout: Playout)
         ensures same { (self.new.buffer ≡ self.old.buffer) × (self.new.numbers ≡ self.old.numbers)
-            × ((self.new.time ≡ self.old.time) × ((self.new.jitter ≡ self.old.jitter)
-            × (self.new.trips ≡ self.old.trips))) }
+            × (((self.new.time ≡ self.old.time) × (self.new.delay ≡ self.old.delay))
+            × ((self.new.jitter ≡ self.old.jitter) × (self.new.trips ≡ self.old.trips))) }
         ensures start { self.new.start ≡ Some (unwrap_or self.old.start tick) }
         ensures missing { (history : List BufferStep) → IsStateAfter self.old.buffer history
             → self.old.buffer.phase ≢ Failed
@@ -163,6 +175,7 @@ impl Counter {
                 records = records;
                 missing = self.new.missing - self.old.missing;
                 restarts = restarts;
+                playout = playout;
               });
             } ∷ entries) }
     {
@@ -173,6 +186,7 @@ impl Counter {
             records,
             missing: missing.saturating_sub(self.missing),
             restarts,
+            playout,
         };
         self.table
             .add(self.time.saturating_sub(start) / 90_000, &added);

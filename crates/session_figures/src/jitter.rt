@@ -29,13 +29,14 @@ impl Jitter {
         })
     }
 
-    /// Takes a step: how often the flow restarted in it, how many packets were received first time, and the tick and the
-    /// timestamp of such a one.
+    /// Takes a step: how often the flow restarted in it, how many packets were received first time, and the tick and
+    /// the timestamp of such a one.
     pub(crate) fn take(&mut self, restarts: u64, first: u64, tick: u64, stamp: u32)
         ensures state { (last : Option ℕ) (values : List ℕ) → AreJittersOf self.old last values
             → AreJittersOf self.new
             (if first == 0 then transit_before restarts last else Some (transit_word tick stamp))
-            ((if first == 0 then [] else jitters_by (transit_before restarts last) (transit_word tick stamp)) ++ values) }
+            ((if first == 0 then [] else jitters_by (transit_before restarts last) (transit_word tick stamp))
+            ++ values) }
     {
         self.last = transit_before(restarts, self.last);
         if first > 0 {

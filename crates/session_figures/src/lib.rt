@@ -1,6 +1,7 @@
 //! The figures of a session, over the steps that its records are: how many packets were sent, received first time,
-//! recovered, never written and late, what came on each link, how often the flow restarted, in all and over time; how
-//! jitter and round-trip times are spread. A contract sees the history of the steps.
+//! recovered, never written and late, what came on each link, how often the flow restarted, how full the buffer was
+//! and how its clock moved, in all and over time; how jitter and round-trip times are spread. A contract sees the history
+//! of the steps.
 #![tactic(auto)]
 
 mod amounts;
@@ -9,6 +10,7 @@ mod figures;
 mod jitter;
 pub mod laws;
 mod numbers;
+mod playout;
 mod stepping;
 mod table;
 mod trips;
@@ -18,4 +20,5 @@ pub use counter::Counter;
 pub use figures::Figures;
 pub use jitter::Jitter;
 pub use numbers::Numbers;
+pub use playout::{Playout, Standing};
 pub use table::Table;

@@ -10,8 +10,8 @@ ghost use Rattle.session_figures.specs.Inside.Taking.{above_number, closed, miss
 use receiver_rules::Arrival;
 use seq_unwrap::Width;
 
-/// The numbers of the newest epoch that were kept, and what came of the epochs before it. Each count stays at its greatest
-/// value.
+/// The numbers of the newest epoch that were kept, and what came of the epochs before it. Each count stays at its
+/// greatest value.
 #[derive(Clone, Copy, Debug, PartialEq, Eq)]
 pub struct Numbers {
     /// The lowest of them, and the greatest of all where there is none.
@@ -37,8 +37,8 @@ impl Numbers {
         }
     }
 
-    /// Takes an arrival that was judged: whether it opened the next epoch, the highest number before it, and whether it was
-    /// kept.
+    /// Takes an arrival that was judged: whether it opened the next epoch, the highest number before it, and whether it
+    /// was kept.
     pub(crate) fn take(
         &mut self,
         opened: bool,

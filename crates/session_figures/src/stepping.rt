@@ -24,7 +24,8 @@ use receiver_rules::{Arrival, Verdict, tick_of};
 use reorder_buffer::Buffer;
 use rist_ends::{Told, What};
 
-/// Makes the step of what is told, which isn't the end, and says what it adds beside the numbers that the playout passes.
+/// Makes the step of what is told, which isn't the end, and says what it adds beside the numbers that the playout
+/// passes.
 pub fn step_buffer(buffer: &mut Buffer, numbers: &mut Numbers, now: u64, told: &Told<'_>) -> Amounts
     requires running { buffer.old.phase ≡ Open }
     requires clock { buffer.old.time ≡ now }

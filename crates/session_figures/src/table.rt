@@ -9,7 +9,7 @@ ghost use Rattle.session_figures.specs.Counting.{AreSeriesOf};
 use crate::amounts::{Amounts, on_link};
 use link_channels::MAX_LINKS;
 use std::alloc::{AllocError, Global};
-use time_series::Series;
+use time_series::{Peaks, Series};
 
 /// Three series for each link, and one for each thing that is counted.
 #[derive(Drop)]
@@ -32,6 +32,14 @@ pub struct Table {
     pub late: Series,
     /// How often the flow restarted.
     pub restarts: Series,
+    /// The greatest fill of the buffer, in milliseconds.
+    pub fill: Peaks,
+    /// The most of the playout delay that was used up, in milliseconds.
+    pub used: Peaks,
+    /// By how many ticks the base of deadlines moved to later.
+    pub later: Series,
+    /// By how many it moved to earlier.
+    pub earlier: Series,
 }
 
 impl Table {
@@ -49,6 +57,10 @@ impl Table {
             missing: Series::new(alloc)?,
             late: Series::new(alloc)?,
             restarts: Series::new(alloc)?,
+            fill: Peaks::new(alloc)?,
+            used: Peaks::new(alloc)?,
+            later: Series::new(alloc)?,
+            earlier: Series::new(alloc)?,
         })
     }
 
@@ -67,6 +79,11 @@ impl Table {
         self.missing.add(second, amounts.passed.missing);
         self.late.add(second, amounts.late);
         self.restarts.add(second, amounts.passed.restarts);
+        let playout = amounts.passed.playout;
+        self.fill.add(second, playout.fill);
+        self.used.add(second, playout.used);
+        self.later.add(second, playout.later);
+        self.earlier.add(second, playout.earlier);
     }
 }
 

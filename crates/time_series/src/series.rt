@@ -10,8 +10,8 @@ use std::marker::Model;
 /// The most points of a series.
 pub const POINTS: usize = 4096;
 
-/// Amounts that came in seconds from 0 on, each added to the bucket that its second lies in. Each sum stays at its greatest
-/// value.
+/// Amounts that came in seconds from 0 on, each added to the bucket that its second lies in. Each sum stays at its
+/// greatest value.
 #[derive(Drop)]
 pub struct Series {
     points: Vec<u64>,

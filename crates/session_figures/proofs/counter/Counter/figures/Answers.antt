@@ -11,7 +11,7 @@ pub returns : goal.returns
 returns c = record {
   value = λ live history is.
       let view = c.self.view_is in
-      let inside : CounterState = record { buffer = c.self.inside.buffer; time = c.self.inside.time; start = c.self.inside.start; numbers = c.self.inside.numbers; missing = c.self.inside.missing; table = c.self.inside.table; jitter = c.self.inside.jitter; trips = c.self.inside.trips } in
+      let inside : CounterState = record { buffer = c.self.inside.buffer; delay = c.self.inside.delay; time = c.self.inside.time; start = c.self.inside.start; numbers = c.self.inside.numbers; missing = c.self.inside.missing; table = c.self.inside.table; jitter = c.self.inside.jitter; trips = c.self.inside.trips } in
       let here : IsCountedAfter inside history = subst (λ (x : CounterState). IsCountedAfter x history) (sym view) is in
       let first : c.unwrap_or.result ≡ unwrap_or (start_of history) 0 = c.unwrap_or.ensures ∙ ap (λ (o : Option ℕ). unwrap_or o 0) here.first in
       let ticks : c.saturating_sub.result ≡ ticks_of history =

@@ -16,5 +16,9 @@ returns c = record {
     of_missing = c.add-4.ensures.state (marks_by (λ a. a.passed.missing) entries) are.of_missing;
     of_late = c.add-5.ensures.state (marks_by (λ a. a.late) entries) are.of_late;
     of_restarts = c.add-6.ensures.state (marks_by (λ a. a.passed.restarts) entries) are.of_restarts;
+    of_fill = c.add-7.ensures.state (marks_by (λ a. a.passed.playout.fill) entries) are.of_fill;
+    of_used = c.add-8.ensures.state (marks_by (λ a. a.passed.playout.used) entries) are.of_used;
+    of_later = c.add-9.ensures.state (marks_by (λ a. a.passed.playout.later) entries) are.of_later;
+    of_earlier = c.add-10.ensures.state (marks_by (λ a. a.passed.playout.earlier) entries) are.of_earlier;
   };
 }

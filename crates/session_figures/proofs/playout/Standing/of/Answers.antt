@@ -1,0 +1,19 @@
+-- The buffer shows its history.
+use Rattle.std.proofs.Common.{◌≡◌, ◌∙◌, ap, ℕ, Option}
+use Rattle.std.specs.Prelude.{ℤ}
+use Rattle.reorder_buffer.specs.State.{State}
+use Rattle.reorder_buffer.specs.StateAfter.{Shows}
+use Rattle.session_figures.specs.declared.playout.Standing.{Standing}
+use Rattle.session_figures.specs.Playout.{base_at, fill_at, standing_of}
+use Rattle.session_figures.proofs.PlayoutLemmas.{base_shown, fill_shown}
+use Rattle.session_figures.proofs.playout.Standing.of.Goals as goal
+
+pub returns : goal.returns
+returns c = record {
+  value = λ history is.
+      let b : State = c.args.buffer.now in
+      let shows : Shows b history = is c.requires.live in
+      let fill = c.fill.ensures.value ∙ fill_shown b history shows in
+      let base = c.base.ensures ∙ base_shown b history shows in
+      cc;
+}
