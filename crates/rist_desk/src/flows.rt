@@ -1,7 +1,13 @@
 //! What the workers of links make their steps on.
-ghost use Rattle.std.specs.Prelude.{◌≡◌, ◌≤◌, ◌+◌, ◌∷◌, [], ℕ, Some, Err, OnOk, IfErr};
+ghost use Rattle.std.specs.Prelude.{◌≡◌, ◌≤◌, ◌+◌, ◌∷◌, [], ℕ, Some, None, Err, IfOk, OnOk, OnErr, IfErr, true};
+ghost use Rattle.std.specs.Option.{ForSome, option_map};
 ghost use Rattle.outside_io.specs.Causes.{RoseWhere};
 ghost use Rattle.rist_ends.specs.Told.{IsFit, IsNoEnd};
+ghost use Rattle.rist_ends.specs.Outcome.{outcome_with};
+ghost use Rattle.rist_desk.specs.Made.{step_after, steps_with};
+ghost use Rattle.rist_desk.specs.Desk.{AreFiguresFor, AreFiguresThere, is_cut_off};
+ghost use Rattle.rist_desk.specs.Sending.{IsDueThere, LacksRoom, one};
+ghost use Rattle.rist_desk.specs.Serving.{IsKeyed};
 ghost use Rattle.rist_desk.specs.Items.{told_plan};
 ghost use Rattle.rist_desk.specs.Work.{CutShort, Goes, holds};
 ghost use Rattle.rist_desk.specs.Links.{IsInside, IsKept, has_link_failed};
@@ -10,8 +16,8 @@ use crate::ended::Ended;
 use crate::sending::send;
 use crate::shares::Shares;
 use link_channels::Channel;
-use outside_net::Link;
-use rist_ends::{Answer, Outs, Told};
+use outside_net::{Full, Link, ReceiverFigures};
+use rist_ends::{Answer, Outs, Told, What};
 use rist_wire::{Item, Opener, WireBad};
 use std::sync::Wait;
 
@@ -90,6 +96,104 @@ pub trait Flows<U, M> {
         ensures cause { RoseWhere (has_link_failed result) (L.faults link.old) (L.faults link.new) };
 }
 
+/// Makes a step, and puts the figures after it into `figures` where they are wanted.
+#[tactic(auto, using(crate::proofs::FigureLemmas::figures_for))]
+fn step_seen<S: Shares<U>, U, R: Wait>(
+    shares: &S,
+    rt: &R,
+    own: &mut U,
+    told: &Told<'_>,
+    outs: &mut Outs,
+    wants: bool,
+    figures: &mut Option<ReceiverFigures>,
+) -> Result<Answer, Full>
+    requires fits { IsFit told.now }
+    requires going { IsNoEnd told.now.what }
+    requires own { S.is_of shares.now told.now.link own.old }
+    requires left { 1 ≤ S.left own.old }
+    requires none { figures.old ≡ None }
+    ensures own { S.is_of shares.now told.now.link own.new }
+    ensures left { S.left own.old ≤ S.left own.new + 1 }
+    ensures list { IfOk result (λ answer. S.list own.new
+        ≡ option_map (steps_with (step_after told.now (outcome_with answer outs.new))) (S.list own.old)) }
+    ensures same { OnErr result (S.list own.new ≡ S.list own.old) }
+    ensures due { IfOk result (λ answer. IsDueThere S.given told.now (outcome_with answer outs.new)) }
+    ensures full { OnErr result (LacksRoom S.given (S.limit own.new) (S.list own.new)) }
+    ensures broken { IfOk result (λ answer. is_cut_off answer ≡ true → S.broken own.new) }
+    // They are those after this very step.
+    ensures figures { IfOk result (λ answer. ForSome figures.new
+        (AreFiguresThere S.given told.now (outcome_with answer outs.new))) }
+    ensures seen { ForSome figures.new (AreFiguresFor S.given) }
+{
+    if !wants {
+        return shares.step(rt, own, told, outs);
+    }
+    let figured = shares.step_figured(rt, own, told, outs)?;
+    *figures = Some(figured.figures);
+    Ok(figured.answer)
+}
+
+/// Makes a step, and writes the datagrams that it made to the link. With a tick come the figures after it, where the link
+/// wants them.
+fn step_and_send<S: Shares<U>, U, L: Link, R: Wait>(
+    shares: &S,
+    rt: &R,
+    own: &mut U,
+    link: &mut L,
+    room: &mut Outs,
+    told: &Told<'_>,
+    figures: &mut Option<ReceiverFigures>,
+) -> Result<(), Ended>
+    requires fits { IsFit told.now }
+    requires going { IsNoEnd told.now.what }
+    requires own { S.is_of shares.now told.now.link own.old }
+    requires left { 1 ≤ S.left own.old }
+    requires none { figures.old ≡ None }
+    ensures own { S.is_of shares.now told.now.link own.new }
+    ensures left { S.left own.old ≤ S.left own.new + 1 }
+    ensures ok { OnOk result (Goes (one (Some S.given)) (holds (S.list own.old) (L.taken link.old))
+        (holds (S.list own.new) (L.taken link.new)) (told_plan (L.knows link.old) told.now ∷ [])) }
+    ensures err { IfErr result (λ end. CutShort (one (Some S.given)) end (holds (S.list own.old) (L.taken link.old))
+        (holds (S.list own.new) (L.taken link.new)) (told_plan (L.knows link.old) told.now ∷ [])) }
+    ensures inside { IfErr result IsInside }
+    ensures full { result ≡ Err Ended.TraceFull → LacksRoom S.given (S.limit own.new) (S.list own.new) }
+    ensures spent { result ≡ Err Ended.Spent → IsKeyed S.given }
+    ensures stopped { result ≡ Err Ended.Stopped → S.broken own.new }
+    ensures fault { result ≡ Err Ended.WriteFault → S.broken own.new }
+    ensures same { IsKept L.reads L.ends L.knows link.old link.new }
+    ensures cause { RoseWhere (has_link_failed result) (L.faults link.old) (L.faults link.new) }
+    ensures figures { ForSome figures.new (AreFiguresFor S.given) }
+{
+    let wants = matches!(told.what, What::Tick) && link.wants(told.us);
+    let stepped = step_seen(shares, rt, own, told, room, wants, figures);
+    let answer = match stepped {
+        Ok(answer) => answer,
+        Err(_) => return Err(Ended::TraceFull),
+    };
+    match answer {
+        Answer::Stopped => Err(Ended::Stopped),
+        Answer::WriteFault => Err(Ended::WriteFault),
+        Answer::Spent => Err(Ended::Spent),
+        Answer::Verdict(_) => Ok(()),
+        Answer::Nothing => Ok(()),
+        Answer::Made => match send(link, room) {
+            Ok(()) => Ok(()),
+            Err(_) => Err(Ended::Failed),
+        },
+    }
+}
+
+/// Tells a link figures, where there are some: it is as it was.
+fn tell_figures<L: Link>(link: &mut L, us: u64, figures: &Option<ReceiverFigures>)
+    ensures taken { L.taken link.new ≡ L.taken link.old }
+    ensures same { IsKept L.reads L.ends L.knows link.old link.new }
+    ensures faults { L.faults link.new ≡ L.faults link.old }
+{
+    if let Some(figures) = figures {
+        link.tell(us, 0, figures);
+    }
+}
+
 impl<S: Shares<U>, U> Flows<U, Outs> for S {
     ghost use Rattle.rist_desk.specs.declared.step.Step.{Step};
     ghost use Rattle.rist_desk.specs.Items.{Planned};
@@ -134,21 +238,9 @@ impl<S: Shares<U>, U> Flows<U, Outs> for S {
         place: Option<u8>,
         told: &Told<'_>,
     ) -> Result<(), Ended> {
-        let stepped = self.step(rt, own, told, room);
-        let answer = match stepped {
-            Ok(answer) => answer,
-            Err(_) => return Err(Ended::TraceFull),
-        };
-        match answer {
-            Answer::Stopped => Err(Ended::Stopped),
-            Answer::WriteFault => Err(Ended::WriteFault),
-            Answer::Spent => Err(Ended::Spent),
-            Answer::Verdict(_) => Ok(()),
-            Answer::Nothing => Ok(()),
-            Answer::Made => match send(link, room) {
-                Ok(()) => Ok(()),
-                Err(_) => Err(Ended::Failed),
-            },
-        }
+        let mut figures = None;
+        let done = step_and_send(self, rt, own, link, room, told, &mut figures);
+        tell_figures(link, told.us, &figures);
+        done
     }
 }

@@ -4,10 +4,11 @@ ghost use Rattle.std.specs.Option.{option_map};
 ghost use Rattle.rist_ends.specs.Told.{IsFit, IsNoEnd};
 ghost use Rattle.rist_ends.specs.Outcome.{outcome_with};
 ghost use Rattle.rist_desk.specs.Made.{step_after, steps_with};
-ghost use Rattle.rist_desk.specs.Desk.{is_cut_off};
+ghost use Rattle.rist_desk.specs.Desk.{AreFiguresThere, is_cut_off};
 ghost use Rattle.rist_desk.specs.Sending.{IsDueThere, LacksRoom};
 
 use crate::desk::Desk;
+use crate::figured::Figured;
 use crate::origin::DeskOrigin;
 use crate::trace::{StepTrace, keep};
 use outside_io::Sink;
@@ -60,6 +61,29 @@ pub trait Shares<U> {
         ensures full { OnErr result (LacksRoom given (limit own.new) (list own.new)) }
         // A step that found a failed write, or in which one failed, tells of it.
         ensures broken { IfOk result (λ answer. is_cut_off answer ≡ true → broken own.new) };
+
+    /// Makes one step as `step` does, and tells the figures after it, of the same moment: no step of another thread lies between.
+    fn step_figured<R: Wait>(
+        &self,
+        rt: &R,
+        own: &mut U,
+        told: &Told<'_>,
+        outs: &mut Outs,
+    ) -> Result<Figured, Full>
+        requires fits { IsFit told.now }
+        requires going { IsNoEnd told.now.what }
+        requires own { is_of self.now told.now.link own.old }
+        requires left { 1 ≤ left own.old }
+        ensures own { is_of self.now told.now.link own.new }
+        ensures left { left own.old ≤ left own.new + 1 }
+        ensures list { IfOk result (λ f. list own.new
+            ≡ option_map (steps_with (step_after told.now (outcome_with f.answer outs.new))) (list own.old)) }
+        ensures same { OnErr result (list own.new ≡ list own.old) }
+        ensures due { IfOk result (λ f. IsDueThere given told.now (outcome_with f.answer outs.new)) }
+        ensures full { OnErr result (LacksRoom given (limit own.new) (list own.new)) }
+        ensures broken { IfOk result (λ f. is_cut_off f.answer ≡ true → broken own.new) }
+        ensures figures { IfOk result (λ f.
+            AreFiguresThere given told.now (outcome_with f.answer outs.new) f.figures) };
 }
 
 impl<N: DeskOrigin, T: StepTrace + Drop, K: Sink + Drop, U: StepTrace> Shares<U>
@@ -90,5 +114,18 @@ impl<N: DeskOrigin, T: StepTrace + Drop, K: Sink + Drop, U: StepTrace> Shares<U>
         let answer = self.lock(rt).step(told, outs)?;
         keep(own, told, answer, outs);
         Ok(answer)
+    }
+
+    fn step_figured<R: Wait>(
+        &self,
+        rt: &R,
+        own: &mut U,
+        told: &Told<'_>,
+        outs: &mut Outs,
+    ) -> Result<Figured, Full> {
+        own.room()?;
+        let figured = self.lock(rt).step_figured(told, outs)?;
+        keep(own, told, figured.answer, outs);
+        Ok(figured)
     }
 }

@@ -1,17 +1,19 @@
 -- The counts of a history with one more step.
-use Rattle.std.proofs.Common.{◌≡◌, ℕ, ◌+◌, List, [], ◌∷◌, Some, None, Option, refl, sym, subst, ◌∙◌, arith}
+use Rattle.std.proofs.Common.{◌≡◌, ℕ, ◌+◌, List, [], ◌∷◌, Some, None, Option, refl, sym, subst, ap, ◌∙◌, arith, Bool, true, false, ◌&&◌, if◌then◌else◌}
 use Rattle.receiver_rules.specs.declared.verdict.Verdict.{Verdict}
 use Rattle.receiver_rules.specs.declared.verdict.Verdict.TheVariants as verdicts
 use Rattle.receiver_rules.specs.declared.limits.Limits.{Limits}
 use Rattle.receiver_rules.specs.Steps.{Arrival}
 use Rattle.receiver_rules.specs.Seen.{seen}
+use Rattle.receiver_rules.specs.Packets.{is_kept}
 use Rattle.receiver_rules.specs.History.{verdict}
+use Rattle.receiver_rules.specs.declared.arrival.Arrival.{Arrival as Offered}
 use Rattle.request_rules.specs.Steps.{Step as ReceiverStep, buffer_history, control_input}
 use Rattle.request_rules.specs.Steps as inputs
 use Rattle.rist_ends.specs.declared.counts.Counts.{Counts}
 use Rattle.rist_ends.specs.declared.told.What.{What}
 use Rattle.rist_ends.specs.declared.told.What.TheVariants.{Media, Control, Keepalive, Refused, Tick, End}
-use Rattle.rist_ends.specs.Counts.{AreCountsOf, capped, count_of, verdict_count, counted_verdict, refused_count, counted_refusal, one_where_same, no_counts, one_more, one_refused, counts_after, counts_with}
+use Rattle.rist_ends.specs.Counts.{AreCountsOf, capped, count_of, verdict_count, counted_verdict, refused_count, counted_refusal, one_where_same, no_counts, one_more, one_refused, counts_after, counts_with, recovered_count, counted_recovery, recovered_with}
 use Rattle.rist_ends.specs.Told.{input_of}
 use Rattle.rist_ends.specs.Inside.Stepping.{SaysVerdictOn}
 
@@ -106,3 +108,28 @@ none_at verdicts.Span = refl
 
 pub none_counted : (limits : Limits) → AreCountsOf no_counts limits []
 none_counted limits = record { each = λ v. none_at v; refused = refl }
+
+-- ---- packets that had been sent again
+
+raised : (b : Bool) (n x : ℕ) → n ≡ capped x → (if b then capped (n + 1) else n) ≡ capped (x + (if b then 1 else 0))
+raised true n x e = one n x e
+raised false n x e = same n x e
+
+media_recovered : (v : Option Verdict) (n : ℕ) (limits : Limits) (h : List ReceiverStep) (link tick : ℕ) (arrival : Offered) → v ≡ Some (verdict limits (buffer_history h) tick (seen arrival)) → n ≡ capped (recovered_count limits h)
+    → recovered_with v (Media arrival) n ≡ capped (recovered_count limits (media_step link tick (seen arrival) ∷ h))
+media_recovered v n limits h link tick arrival e is =
+    ap (λ (o : Option Verdict). recovered_with o (Media arrival) n) e
+    ∙ raised (is_kept (verdict limits (buffer_history h) tick (seen arrival)) && arrival.again) n (recovered_count limits h) is
+
+silent_recovered : (v : Option Verdict) (what : What) (n x : ℕ) → v ≡ None → n ≡ capped x → recovered_with v what n ≡ capped (x + 0)
+silent_recovered v what n x e is = ap (λ (o : Option Verdict). recovered_with o what n) e ∙ same n x is
+
+-- those of what is told, with the verdict that its step says
+pub recovered : (v : Option Verdict) (what : What) (n : ℕ) (limits : Limits) (h : List ReceiverStep) (link tick us : ℕ) → SaysVerdictOn v limits (buffer_history h) tick (input_of us what) → n ≡ capped (recovered_count limits h)
+    → recovered_with v what n ≡ capped (recovered_count limits (record { link = link; tick = tick; input = input_of us what } ∷ h))
+recovered v (Media arrival) n limits h link tick us e is = media_recovered v n limits h link tick arrival e is
+recovered v (Control compound) n limits h link tick us e is = silent_recovered v (Control compound) n (recovered_count limits h) e is
+recovered v Keepalive n limits h link tick us e is = silent_recovered v Keepalive n (recovered_count limits h) e is
+recovered v Refused n limits h link tick us e is = silent_recovered v Refused n (recovered_count limits h) e is
+recovered v Tick n limits h link tick us e is = silent_recovered v Tick n (recovered_count limits h) e is
+recovered v End n limits h link tick us e is = silent_recovered v End n (recovered_count limits h) e is

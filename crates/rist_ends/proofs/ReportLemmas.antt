@@ -38,7 +38,7 @@ use Rattle.rist_ends.specs.declared.outcome.Outcome.TheVariants as outcomes
 use Rattle.rist_ends.specs.declared.told.Told.{Told}
 use Rattle.rist_ends.specs.declared.told.What.{What}
 use Rattle.rist_ends.specs.declared.told.What.TheVariants.{Media, Control, Keepalive, Refused, Tick, End}
-use Rattle.rist_ends.specs.Counts.{AreCountsOf}
+use Rattle.rist_ends.specs.Counts.{AreCountsOf, capped, recovered_count}
 use Rattle.rist_ends.specs.Outcome.{IfStepped, is_stepped, HasVerdict}
 use Rattle.rist_ends.specs.Told.{input_of, step_of, buffer_step, ended_at, phase_after}
 use Rattle.rist_ends.specs.Inside.Stepping.{SaysVerdictOn, IsHigh, IsHighNumber, IsQuiet}
@@ -109,6 +109,17 @@ quiet_counts us link tick Keepalive (Err spent) c limits h quiet a = absurd (qui
 quiet_counts us link tick Refused (Err spent) c limits h quiet a = absurd (quiet refl)
 quiet_counts us link tick Tick (Err spent) c limits h quiet a = record { each = a.each; refused = a.refused }
 quiet_counts us link tick End (Err spent) c limits h quiet a = absurd (quiet refl)
+
+pub quiet_recovered : (us link tick : ℕ) (what : What) (result : Result (Option Outs) NoPairs) (n : ℕ) (limits : Limits) (h : List Step) → (is_err result ≡ true → IsQuiet what)
+    → n ≡ capped (recovered_count limits (record { link = link; tick = tick; input = input_of us what } ∷ h))
+    → n ≡ capped (recovered_count limits (step_answered (record { link = link; tick = tick; input = input_of us what }) result ∷ h))
+quiet_recovered us link tick what (Ok made) n limits h quiet a = a
+quiet_recovered us link tick (Media arrival) (Err spent) n limits h quiet a = absurd (quiet refl)
+quiet_recovered us link tick (Control compound) (Err spent) n limits h quiet a = a
+quiet_recovered us link tick Keepalive (Err spent) n limits h quiet a = absurd (quiet refl)
+quiet_recovered us link tick Refused (Err spent) n limits h quiet a = absurd (quiet refl)
+quiet_recovered us link tick Tick (Err spent) n limits h quiet a = a
+quiet_recovered us link tick End (Err spent) n limits h quiet a = absurd (quiet refl)
 
 -- ---- numbers
 

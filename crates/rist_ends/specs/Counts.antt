@@ -1,8 +1,9 @@
 -- How many arrivals of a history had each verdict.
-use Rattle.std.specs.Prelude.{◌≡◌, ℕ, ◌+◌, ◌-◌, ◌^◌, min, List, [], ◌∷◌, Option, None, Some}
+use Rattle.std.specs.Prelude.{◌≡◌, ℕ, ◌+◌, ◌-◌, ◌^◌, min, List, [], ◌∷◌, Option, None, Some, ◌&&◌, if◌then◌else◌}
 use Rattle.receiver_rules.specs.declared.verdict.Verdict.{Verdict}
 use Rattle.receiver_rules.specs.declared.verdict.Verdict.TheVariants as verdicts
 use Rattle.receiver_rules.specs.declared.limits.Limits.{Limits}
+use Rattle.receiver_rules.specs.Packets.{is_kept}
 use Rattle.receiver_rules.specs.History.{verdict}
 use Rattle.request_rules.specs.Steps.{Input, Media, Control, Keepalive, Refused, Tick, End, Step, buffer_history}
 use Rattle.rist_ends.specs.declared.counts.Counts.{Counts}
@@ -50,6 +51,22 @@ counted_refusal End = 0
 abbrev pub refused_count : List Step → ℕ
 refused_count [] = 0
 refused_count (step ∷ before) = refused_count before + counted_refusal step.input
+
+-- one where a step brings a packet that had been sent again, and it is kept
+abbrev pub counted_recovery : Limits → List Step → ℕ → Input → ℕ
+counted_recovery limits before tick (Media arrival) =
+    if is_kept (verdict limits (buffer_history before) tick arrival) && arrival.again then 1 else 0
+counted_recovery limits before tick (Control sample request) = 0
+counted_recovery limits before tick Keepalive = 0
+counted_recovery limits before tick Refused = 0
+counted_recovery limits before tick (Tick micros) = 0
+counted_recovery limits before tick End = 0
+
+-- how many packets of a history that had been sent again were kept
+abbrev pub recovered_count : Limits → List Step → ℕ
+recovered_count limits [] = 0
+recovered_count limits (step ∷ before) =
+    recovered_count limits before + counted_recovery limits before step.tick step.input
 
 -- a count stays at its greatest value
 abbrev pub capped : ℕ → ℕ
@@ -106,3 +123,13 @@ counts_after whats.End c = c
 abbrev pub counts_with : Option Verdict → What → Counts → Counts
 counts_with (Some v) what c = one_more v c
 counts_with None what c = counts_after what c
+
+-- how many packets that had been sent again were kept, after one more step
+abbrev pub recovered_with : Option Verdict → What → ℕ → ℕ
+recovered_with (Some v) (whats.Media arrival) n = if is_kept v && arrival.again then capped (n + 1) else n
+recovered_with (Some v) (whats.Control compound) n = n
+recovered_with (Some v) whats.Keepalive n = n
+recovered_with (Some v) whats.Refused n = n
+recovered_with (Some v) whats.Tick n = n
+recovered_with (Some v) whats.End n = n
+recovered_with None what n = n

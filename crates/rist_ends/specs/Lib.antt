@@ -5,3 +5,4 @@ pub mod Items
 pub mod Inside
 pub mod Outcome
 pub mod Receiver
+pub mod Figures

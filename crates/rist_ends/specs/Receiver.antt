@@ -12,15 +12,17 @@ use Rattle.rist_reporter.specs.OneMore.{AnswersAfter, TakesPairs, answer_count, 
 use Rattle.rist_ends.specs.declared.counts.Counts.{Counts}
 use Rattle.rist_ends.specs.declared.outcome.Outcome.{Outcome}
 use Rattle.rist_ends.specs.declared.told.Told.{Told}
-use Rattle.rist_ends.specs.Counts.{AreCountsOf}
+use Rattle.rist_ends.specs.Counts.{AreCountsOf, capped, recovered_count}
 use Rattle.rist_ends.specs.declared.outcome.Outcome.TheVariants.{Stopped, WriteFault}
 use Rattle.rist_ends.specs.Outcome.{IfStepped, HasVerdict, verdict_in, result_of}
 use Rattle.rist_ends.specs.Told.{step_of, ended_at}
 
--- its buffer, how many arrivals had each verdict, and what sends datagrams back
+-- its buffer, how many arrivals had each verdict, how many that had been sent again were kept, and what sends datagrams
+-- back
 pub record ReceiverState : Type 0 where
   pub buffer : State
   pub counts : Counts
+  pub recovered : ℕ
   pub reporter : ReporterState
 
 -- what it is set to, in ticks
@@ -32,6 +34,7 @@ settings_of r = settings_with r.buffer.limits r.reporter
 pub record IsReceiverAfter (r : ReceiverState) (history : List Step) : Type 0 where
   pub buffer : IsStateAfter r.buffer (buffer_history history)
   pub counts : r.buffer.phase ≢ Failed → AreCountsOf r.counts r.buffer.limits history
+  pub again : r.buffer.phase ≢ Failed → r.recovered ≡ capped (recovered_count r.buffer.limits history)
   pub reporter : r.buffer.phase ≡ Open → IsReporterAfter r.reporter r.buffer.limits history
 
 -- what holds of each receiver: its time is its buffer's, and its reporter knows its buffer's span and highest number

@@ -1,5 +1,5 @@
 ghost use Rattle.std.specs.Prelude.{◌≡◌, ◌+◌};
-ghost use Rattle.rist_ends.specs.Counts.{capped};
+ghost use Rattle.rist_ends.specs.Counts.{capped, recovered_with};
 
 use crate::told::What;
 use receiver_rules::Verdict;
@@ -73,6 +73,18 @@ impl Counts {
         ensures value { self.new ≡ one_refused self.old }
     {
         raise(&mut self.refused);
+    }
+}
+
+/// How many packets that had been sent again were kept, after a step with its verdict, where it has one.
+pub(crate) fn recovered_with(verdict: Option<Verdict>, what: &What<'_>, recovered: u64) -> u64
+    ensures value { result ≡ recovered_with verdict what.now recovered }
+{
+    match (verdict, what) {
+        (Some(verdict), What::Media(arrival)) if verdict.is_kept() && arrival.again => {
+            recovered.saturating_add(1)
+        }
+        _ => recovered,
     }
 }
 

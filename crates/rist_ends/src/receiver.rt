@@ -1,10 +1,11 @@
-use crate::counts::Counts;
+use crate::counts::{Counts, recovered_with};
 use crate::outcome::{Answer, Outcome, outcome_with};
 use crate::reporting::report;
 use crate::settings::Settings;
 use crate::stepping::step_buffer;
 use crate::told::Told;
 use outside_io::{NoMemory, Sink};
+use outside_net::ReceiverFigures;
 use psk_seal::Sealer;
 use reorder_buffer::Buffer;
 use rist_reporter::{Outs, Reporter};
@@ -14,12 +15,13 @@ use std::marker::Model;
 
 /// The receiving end. `step` brings input, and its outcome is the answer; what is played out goes to the sink.
 /// `step_into` does the same where the caller has memory for the datagrams that are made. `counts` tells what came so
-/// far. Each step's moment counts as at least that of the steps before it.
+/// far, and `figures` also what waits. Each step's moment counts as at least that of the steps before it.
 #[derive(Drop)]
 pub struct Receiver {
     buffer: Buffer,
     time: u64,
     counts: Counts,
+    recovered: u64,
     reporter: Reporter,
 }
 
@@ -28,20 +30,32 @@ impl Model for Receiver {
 
     ghost Value = { ReceiverState };
 
-    ghost view = { λ r. record { buffer = r.buffer; counts = r.counts; reporter = r.reporter } };
+    ghost view = { λ r. record {
+      buffer = r.buffer;
+      counts = r.counts;
+      recovered = r.recovered;
+      reporter = r.reporter;
+    } };
 
-    ghost invariant = { λ r. IsInStep (record { buffer = r.buffer; counts = r.counts; reporter = r.reporter }) r.time };
+    ghost invariant = { λ r. IsInStep (record {
+      buffer = r.buffer;
+      counts = r.counts;
+      recovered = r.recovered;
+      reporter = r.reporter;
+    }) r.time };
 }
 
 impl Receiver {
-    ghost use Rattle.std.specs.Prelude.{◌≡◌, ◌≢◌, [], IfOk};
+    ghost use Rattle.std.specs.Prelude.{◌≡◌, ◌≢◌, [], IfOk, List};
     ghost use Rattle.outside_io.specs.Causes.{RoseWhere};
-    ghost use Rattle.reorder_buffer.specs.declared.phase.Phase.TheVariants.{Open};
+    ghost use Rattle.reorder_buffer.specs.declared.phase.Phase.TheVariants.{Open, Failed};
+    ghost use Rattle.request_rules.specs.Steps.{Step};
     ghost use Rattle.rist_wire.specs.Session.{IsSession};
     ghost use Rattle.rist_wire.specs.Writing.{pairs_left};
     ghost use Rattle.rist_reporter.specs.Reporter.{IsPaired};
     ghost use Rattle.rist_ends.specs.Settings.{IsInRange, control_settings};
     ghost use Rattle.rist_ends.specs.Receiver.{IsReceiverAfter, Steps, settings_of};
+    ghost use Rattle.rist_ends.specs.Figures.{AreFiguresOf, figures_of};
     ghost use Rattle.rist_ends.specs.Told.{IsFit};
     ghost use Rattle.rist_ends.specs.Outcome.{outcome_with, is_write_fault};
     ghost use Rattle.rist_ends.specs.declared.outcome.Outcome.TheVariants as outcomes;
@@ -83,6 +97,7 @@ impl Receiver {
             buffer,
             time: 0,
             counts: Counts::none(),
+            recovered: 0,
             reporter,
         })
     }
@@ -119,6 +134,7 @@ impl Receiver {
             Ok(stepped) => {
                 self.time = stepped.at;
                 self.counts.count(&told.what, stepped.verdict);
+                self.recovered = recovered_with(stepped.verdict, &told.what, self.recovered);
                 report(
                     &mut self.reporter,
                     &self.buffer,
@@ -138,6 +154,30 @@ impl Receiver {
         ensures value { result ≡ self.now.counts }
     {
         self.counts
+    }
+
+    /// Its figures up to its last step.
+    #[tactic(auto, using(crate::proofs::FigureLemmas::figures_are))]
+    pub fn figures(&self) -> ReceiverFigures
+        ensures value { result ≡ figures_of self.now }
+        // After a failed write nothing is said of them.
+        ensures history { (history : List Step) → IsReceiverAfter self.now history → self.now.buffer.phase ≢ Failed
+            → AreFiguresOf result self.now.buffer.limits history }
+    {
+        let counts = &self.counts;
+        ReceiverFigures {
+            kept: counts.kept,
+            recovered: self.recovered,
+            late: counts.late,
+            behind: counts.behind,
+            early: counts.early,
+            twice: counts.twice,
+            span: counts.span,
+            stranger: counts.stranger,
+            exhausted: counts.exhausted,
+            refused: counts.refused,
+            held: self.buffer.held() as u64,
+        }
     }
 
     /// How many datagrams its sealer still allows, where there is one.

@@ -15,13 +15,13 @@ use Rattle.rist_reporter.specs.OneMore.{AnswersAfter, TakesPairs, answer_count}
 use Rattle.rist_ends.specs.Receiver.{ReceiverState, IsReceiverAfter, GoesOn, step_made, settings_of}
 use Rattle.rist_ends.specs.declared.outcome.Outcome.{Outcome}
 use Rattle.rist_ends.specs.declared.counts.Counts.{Counts}
-use Rattle.rist_ends.specs.Counts.{AreCountsOf}
+use Rattle.rist_ends.specs.Counts.{AreCountsOf, capped, recovered_count}
 use Rattle.rist_ends.specs.Outcome.{outcome_with, HasVerdict, result_of}
 use Rattle.rist_ends.specs.Told.{step_of, input_of}
 use Rattle.rist_ends.specs.Inside.Stepping.{SaysVerdict, SaysVerdictOn}
 use Rattle.rist_ends.specs.Inside.Reporting.{IsBetween}
-use Rattle.rist_ends.proofs.CountLemmas.{counted}
-use Rattle.rist_ends.proofs.ReportLemmas.{on_stepped, says_has, quiet_step, quiet_counts, shown_epoch}
+use Rattle.rist_ends.proofs.CountLemmas.{counted, recovered}
+use Rattle.rist_ends.proofs.ReportLemmas.{on_stepped, says_has, quiet_step, quiet_counts, quiet_recovered, shown_epoch}
 use Rattle.rist_ends.proofs.SteppingLemmas.{open_phase}
 use Rattle.rist_ends.proofs.StepLemmas.{stopped_work, not_stopped, not_failing, fault_not_stopped, set_as}
 use Rattle.rist_ends.proofs.receiver.Receiver.step_into.Goals as goal
@@ -43,7 +43,7 @@ returns-in-Ok-clause-work g c =
     let outcome : Outcome = outcome_with c.report.result c.report.new.outs in
     let stepped = c.report.ensures.stepped in
     let running = open_phase inside.buffer.phase c.ended.result c.ended.ensures c.if-ended.false in
-    let stands : (history : List Step) → IsReceiverAfter old history → IsReceiverAfter (record { buffer = inside.buffer; counts = inside.counts; reporter = inside.reporter }) history = λ history s. subst (λ (x : ReceiverState). IsReceiverAfter x history) (sym view) s in
+    let stands : (history : List Step) → IsReceiverAfter old history → IsReceiverAfter (record { buffer = inside.buffer; counts = inside.counts; recovered = inside.recovered; reporter = inside.reporter }) history = λ history s. subst (λ (x : ReceiverState). IsReceiverAfter x history) (sym view) s in
     let between : (history : List Step) → IsReceiverAfter old history → IsBetween inside.reporter new told verdict c.epoch-epoch.result history = λ history s. record {
       reporter = subst (λ (l : Limits). IsReporterAfter inside.reporter l history) (sym limits) ((stands history s).reporter running);
       buffer = c.in-Ok.ensures.state (buffer_history history) (stands history s).buffer;
@@ -63,12 +63,16 @@ returns-in-Ok-clause-work g c =
           (subst (λ (l : Limits). AnswersAfter (settings_with l inside.reporter) inside.reporter.shutter history (step_of told) (result_of outcome)) limits
           (c.report.ensures.made history (between history s))));
       pairs = subst (λ (x : ReceiverState). TakesPairs (answer_count (result_of outcome)) x.reporter.shutter c.report.new.reporter.shutter) view c.report.ensures.pairs;
-      state = on_stepped outcome (GoesOn old (record { buffer = new; counts = c.count.new.self; reporter = c.report.new.reporter }) (step_made told outcome)) stepped (λ history s. record {
+      state = on_stepped outcome (GoesOn old (record { buffer = new; counts = c.count.new.self; recovered = c.recovered_with-self-inside.result; reporter = c.report.new.reporter }) (step_made told outcome)) stepped (λ history s. record {
         buffer = subst (λ (st : buffer.Step). IsStateAfter new (st ∷ buffer_history history)) (sym (quiet_step told.us told.link (tick_of told.us) told.what (result_of outcome) c.report.ensures.quiet)) (between history s).buffer;
         counts = λ live. quiet_counts told.us told.link (tick_of told.us) told.what (result_of outcome) c.count.new.self new.limits history c.report.ensures.quiet
             (subst (λ (x : Counts). AreCountsOf x new.limits (step_of told ∷ history)) (sym c.count.ensures.value)
             (counted verdict told.what inside.counts new.limits history told.link (tick_of told.us) told.us (between history s).says
             (subst (λ (l : Limits). AreCountsOf inside.counts l history) (sym limits) ((stands history s).counts (not_failed inside.buffer.phase running)))));
+        again = λ live. quiet_recovered told.us told.link (tick_of told.us) told.what (result_of outcome) c.recovered_with-self-inside.result new.limits history c.report.ensures.quiet
+            (c.recovered_with-self-inside.ensures.value
+            ∙ recovered verdict told.what inside.recovered new.limits history told.link (tick_of told.us) told.us (between history s).says
+            (subst (λ (l : Limits). inside.recovered ≡ capped (recovered_count l history)) (sym limits) ((stands history s).again (not_failed inside.buffer.phase running))));
         reporter = λ open_. c.report.ensures.state history (between history s) open_;
       });
       sink = on_stepped outcome _ stepped (λ history s.

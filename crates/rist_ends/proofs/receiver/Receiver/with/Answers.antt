@@ -1,4 +1,4 @@
-use Rattle.std.proofs.Common.{[], sym, subst}
+use Rattle.std.proofs.Common.{[], refl, sym, subst}
 use Rattle.rist_ends.specs.declared.counts.Counts.{Counts}
 use Rattle.rist_ends.specs.Counts.{AreCountsOf}
 use Rattle.rist_ends.proofs.CountLemmas.{none_counted}
@@ -8,5 +8,6 @@ pub returns-clause-state : goal.returns-clause-state
 returns-clause-state c = record {
   buffer = c.in_ok-buffer.ensures.state;
   counts = λ live. subst (λ (x : Counts). AreCountsOf x c.in_ok-buffer.buffer.limits []) (sym c.none.ensures.value) (none_counted c.in_ok-buffer.buffer.limits);
+  again = λ live. refl;
   reporter = λ running. c.in_ok-reporter.ensures.state c.in_ok-buffer.buffer.limits c.in_ok-buffer.ensures.span;
 }
