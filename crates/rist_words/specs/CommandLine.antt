@@ -10,6 +10,7 @@ use Rattle.link_channels.specs.declared.profile.Profile.TheVariants.{Main}
 use Rattle.rist_words.specs.declared.values.Numbers.{Numbers}
 use Rattle.rist_words.specs.Commands.{SessionNames, faults_of, command_in, incoming_names, session_names}
 use Rattle.outside_net.specs.declared.link_spec.LinkSpec.{LinkSpec}
+use Rattle.outside_net.specs.declared.link_spec.Role.TheVariants.{Receives, Sends}
 use Rattle.request_rules.specs.declared.policy.NackKind.{NackKind}
 use Rattle.rist_words.specs.Values.{echo_of, flag_of, is_set, nack_of, name_if, name_of, number_at, number_if}
 use Rattle.rist_words.specs.Values.{number_in, number_of}
@@ -473,7 +474,7 @@ abbrev pub send_of : List Row → Option SendCommand
 send_of rows = do
   source ← name_of (first_of (codes "source") rows)
   session ← session_of rows
-  links ← links_of session.profile (all_of (codes "link") rows)
+  links ← links_of Sends session.profile (all_of (codes "link") rows)
   stream ← stream_of session.profile rows
   gap ← number_of gaps (first_of (codes "gap") rows)
   lead ← number_of leads (first_of (codes "lead") rows)
@@ -534,7 +535,7 @@ abbrev pub recv_of : List Row → Option RecvCommand
 recv_of rows = do
   out ← name_of (first_of (codes "out") rows)
   session ← session_of rows
-  links ← links_of session.profile (all_of (codes "link") rows)
+  links ← links_of Receives session.profile (all_of (codes "link") rows)
   receiver ← receiver_of rows
   serving ← serving_of rows
   watching ← watching_of rows
@@ -552,7 +553,7 @@ abbrev pub fan_of : List Row → Option FanCommand
 fan_of rows = do
   outs ← outs_of (first_of (codes "outs") rows)
   session ← tunnel_session_of (slice_index outs.0 0) rows
-  links ← links_of Main (all_of (codes "link") rows)
+  links ← links_of Receives Main (all_of (codes "link") rows)
   receiver ← receiver_of rows
   serving ← serving_of rows
   watching ← watching_of rows

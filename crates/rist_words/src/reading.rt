@@ -19,6 +19,7 @@ use crate::values::{Numbers, is_set, name, number};
 use crate::watching::watching;
 use clap::ArgMatches;
 use link_channels::Profile;
+use outside_net::Role;
 use std::alloc::Global;
 
 pub const GAP: Numbers = Numbers {
@@ -198,7 +199,7 @@ fn send_line<'a>(alloc: Global, values: &ArgMatches<'a>) -> Result<SendLine<'a>,
 {
     let source = name(values, "source").ok_or(Refused::Usage)?;
     let session = session(values).ok_or(Refused::Usage)?;
-    let links = links(alloc, values, session.profile)?;
+    let links = links(alloc, values, Role::Sends, session.profile)?;
     let stream = stream(values, session.profile).ok_or(Refused::Usage)?;
     let gap = number(values, "gap", GAP).ok_or(Refused::Usage)?;
     let lead = number(values, "lead", LEAD).ok_or(Refused::Usage)?;
@@ -227,7 +228,7 @@ fn recv_line<'a>(alloc: Global, values: &ArgMatches<'a>) -> Result<RecvLine<'a>,
 {
     let out = name(values, "out").ok_or(Refused::Usage)?;
     let session = session(values).ok_or(Refused::Usage)?;
-    let links = links(alloc, values, session.profile)?;
+    let links = links(alloc, values, Role::Receives, session.profile)?;
     Ok(RecvLine {
         out,
         links,
@@ -245,7 +246,7 @@ fn fan_line<'a>(alloc: Global, values: &ArgMatches<'a>) -> Result<FanLine<'a>, R
     let (ports, names) = outs(alloc, values)?;
     let first = ports[0];
     let session = tunnel_session(values, first).ok_or(Refused::Usage)?;
-    let links = links(alloc, values, Profile::Main)?;
+    let links = links(alloc, values, Role::Receives, Profile::Main)?;
     Ok(FanLine {
         ports,
         names,
