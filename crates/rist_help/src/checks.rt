@@ -10,7 +10,7 @@ ghost use Rattle.rist_help.specs.Checks.{First, GateLinks, GateShare, Incoming, 
 use clap::ArgMatches;
 use link_channels::Profile;
 use outside_io::NoMemory;
-use outside_net::LinkSpec;
+use outside_net::{LinkSpec, Role};
 use rist_words::Refused;
 use rist_words::drilling::{COUNT, LINKS, LOSS, NUMBER};
 use rist_words::links::{gate_links, inputs_of, link_texts, links, share};
@@ -50,8 +50,10 @@ pub enum Test {
     Pcap,
     /// How requests are written is one of two words.
     Nack,
-    /// There are one to sixteen links, and each is one.
+    /// There are one to sixteen links, and each is one that receives.
     Links,
+    /// There are one to sixteen links, and each is one that sends.
+    SendLinks,
     /// Some of the links receive, and not all.
     Inputs,
     /// Each of a gateway's links is one, in the profile of its end.
@@ -155,7 +157,7 @@ static SEND_TESTS: [Test; 22] = [
     Test::Number("bits", BITS),
     Test::MainFlag("profile", "full"),
     Test::Tunnel("profile", "tunnel"),
-    Test::Links,
+    Test::SendLinks,
     Test::MainFlag("profile", "nulls"),
     Test::MainFlag("profile", "wide"),
     Test::Number("flow", FLOW),
@@ -332,7 +334,8 @@ fn does_fail(alloc: Global, values: &ArgMatches<'_>, test: Test) -> Result<bool,
         Test::First => Ok(fails_first(values)),
         Test::Pcap => Ok(pcap(values, profile_in(values)).is_none()),
         Test::Nack => Ok(nack(values, "nack").is_none()),
-        Test::Links => fails_links(alloc, values, profile_in(values)),
+        Test::Links => fails_links(alloc, values, Role::Receives, profile_in(values)),
+        Test::SendLinks => fails_links(alloc, values, Role::Sends, profile_in(values)),
         Test::Inputs => Ok(fails_inputs(values)),
         Test::GateLinks => fails_gate_links(alloc, values),
         Test::SendShare => fails_send_share(alloc, values),
@@ -341,7 +344,7 @@ fn does_fail(alloc: Global, values: &ArgMatches<'_>, test: Test) -> Result<bool,
         Test::MainPass(option) => Ok(phrase(values, option, Profile::Main).is_none()),
         Test::MainTunnel(option) => Ok(tunnel(values, option, Profile::Main).is_none()),
         Test::MainPcap => Ok(pcap(values, Profile::Main).is_none()),
-        Test::MainLinks => fails_links(alloc, values, Profile::Main),
+        Test::MainLinks => fails_links(alloc, values, Role::Receives, Profile::Main),
         Test::NameIf(option) => Ok(name_if(values, option).is_none()),
         Test::NumberIf(option, numbers) => Ok(number_if(values, option, numbers).is_none()),
         Test::Watching => Ok(watching(values).is_none()),
@@ -388,12 +391,17 @@ fn fails_first(values: &ArgMatches<'_>) -> bool
     number(values, "first", firsts(wide)).is_none()
 }
 
-/// Whether the links fail in a profile.
-fn fails_links(alloc: Global, values: &ArgMatches<'_>, profile: Profile) -> Result<bool, NoMemory>
+/// Whether the links fail in a role and a profile.
+fn fails_links(
+    alloc: Global,
+    values: &ArgMatches<'_>,
+    role: Role,
+    profile: Profile,
+) -> Result<bool, NoMemory>
     ensures { IfOk result (λ fails. fails
-        ≡ is_none (links_of profile (all_of (codes "link") (rows_of (found_of values.now))))) }
+        ≡ is_none (links_of role profile (all_of (codes "link") (rows_of (found_of values.now))))) }
 {
-    match links(alloc, values, profile) {
+    match links(alloc, values, role, profile) {
         Ok(_) => Ok(false),
         Err(Refused::Usage) => Ok(true),
         Err(Refused::Memory) => Err(NoMemory),
@@ -434,7 +442,7 @@ fn fails_gate_links(alloc: Global, values: &ArgMatches<'_>) -> Result<bool, NoMe
 fn fails_send_share(alloc: Global, values: &ArgMatches<'_>) -> Result<bool, NoMemory>
     ensures { IfOk result (λ fails. fails ≡ does_fail (rows_of (found_of values.now)) SendShare) }
 {
-    match links(alloc, values, profile_in(values)) {
+    match links(alloc, values, Role::Sends, profile_in(values)) {
         Ok(links) => fails_share(alloc, values, links.len()),
         Err(Refused::Usage) => Ok(true),
         Err(Refused::Memory) => Err(NoMemory),
