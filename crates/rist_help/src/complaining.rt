@@ -334,7 +334,8 @@ fn why_no_link(role: Role, word: &str) -> &'static str {
         return "an address and a port, as 127.0.0.1:5000 or [::1]:5000";
     }
     match role {
-        Role::Receives => "a link that receives is bound to its address, and takes nothing behind it",
+        Role::Receives =>
+            "a link that receives is bound to its address, and takes nothing behind it",
         Role::Sends | Role::Forwards =>
             "behind ? stand from= with an address of the same kind, ttl=1..255 for IPv4, or both by &",
     }
