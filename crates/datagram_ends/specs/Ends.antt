@@ -2,8 +2,11 @@
 use Rattle.std.specs.Prelude.{◌≡◌, ◌+◌, ◌%◌, ◌^◌, ◌<◌, ◌++◌, ◌∷◌, ℕ, List, [], Option, None, Some}
 use Rattle.std.specs.Option.{option_map}
 use Rattle.std.specs.declared.net.socket_addr.SocketAddr.{SocketAddr}
+use Rattle.std.specs.declared.net.ip_addr.IpAddr.{IpAddr}
+use Rattle.outside_net.specs.Sockets.{source_of}
 use Rattle.media_address.specs.declared.address.Form.{Form}
 use Rattle.media_address.specs.declared.address.Form.TheVariants as forms
+use Rattle.media_address.specs.declared.address.MediaAddress.{MediaAddress}
 use Rattle.receiver_rules.specs.Steps.{tick_of}
 use Rattle.rtp_packet.specs.declared.writing.RtpHead.{RtpHead}
 use Rattle.datagram_ends.specs.Media.{datagram_of}
@@ -47,7 +50,6 @@ pub record Sends (old new : DatagramSinkState) (payload : List ℕ) : Type 0 whe
 abbrev pub goes_to : UdpOut → SocketAddr
 goes_to out = out.to
 
--- the local address that is set, or any of this machine's
-abbrev pub own_host : Option (List ℕ) → List ℕ
-own_host None = 0 ∷ 0 ∷ 0 ∷ 0 ∷ []
-own_host (Some host) = host
+-- the local address that is set, or any of this machine's of the same kind
+abbrev pub leaves_from : MediaAddress → IpAddr
+leaves_from address = source_of address.settings.from address.host

@@ -1,20 +1,12 @@
 //! Sockets of UDP that never wait.
 ghost use Rattle.std.specs.Prelude.{◌≡◌};
-ghost use Rattle.outside_net.specs.Sockets.{IsAt, is_no_fault};
+ghost use Rattle.outside_net.specs.Sockets.{is_no_fault};
 
 use libc::net::{SO_RCVBUF, SO_SNDBUF, SOL_SOCKET, setsockopt};
 use outside_net::RECEIVE_BUFFER;
 use std::io::{self, ErrorKind};
-use std::net::{Ipv4Addr, Net, SocketAddr, SocketAddrV4, UdpSocket};
+use std::net::{Net, SocketAddr, UdpSocket};
 use std::os::fd::AsRawFd;
-
-/// The address and the port, as the system has them.
-pub fn socket_address(host: [u8; 4], port: u16) -> SocketAddr
-    ensures value { IsAt host port result }
-{
-    let [a, b, c, d] = host;
-    SocketAddr::V4(SocketAddrV4::new(Ipv4Addr::new(a, b, c, d), port))
-}
 
 /// A socket with large buffers, where the system gives some.
 pub fn quick_socket<R: Net>(rt: &R, own: SocketAddr) -> io::Result<UdpSocket> {

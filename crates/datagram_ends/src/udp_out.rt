@@ -2,12 +2,13 @@
 ghost use Rattle.std.specs.Prelude.{◌≡◌, IfOk};
 ghost use Rattle.outside_io.specs.Causes.{has_failed};
 ghost use Rattle.outside_net.specs.Sockets.{IsAt, is_fault};
-ghost use Rattle.datagram_ends.specs.Ends.{goes_to, own_host};
+ghost use Rattle.datagram_ends.specs.Ends.{goes_to, leaves_from};
 
 use crate::out::DatagramOut;
-use crate::sockets::{is_no_fault, quick_socket, socket_address};
+use crate::sockets::{is_no_fault, quick_socket};
 use media_address::MediaAddress;
 use outside_io::Failed;
+use outside_net::source_of;
 use std::io;
 use std::net::{Net, SocketAddr, UdpSocket};
 
@@ -26,32 +27,29 @@ impl UdpOut {
     ghost use Rattle.datagram_ends.specs.Ends.{goes_to};
 
     /// Sends to the address, from any port of this machine's local address, or of any of its addresses where none is set. A local
-    /// address chooses the interface to a multicast group (ip(7)). Without a time to live the system's counts: 1 to a group.
+    /// address chooses the interface to a multicast group (ip(7)). Without a time to live the system's counts: 1 to a group. Over IPv6 it
+    /// can't be set.
     pub fn open<R: Net>(rt: &R, address: &MediaAddress) -> io::Result<UdpOut>
         ensures at { IfOk result (λ opened. IsAt address.now.host address.now.port (goes_to opened)) }
     {
-        let own = own_host(address.settings.from);
-        let socket = quick_socket(rt, socket_address(own, 0))?;
+        let socket = quick_socket(rt, leaves_from(address))?;
         if let Some(ttl) = address.settings.ttl {
             socket.set_ttl(u32::from(ttl))?;
             socket.set_multicast_ttl_v4(u32::from(ttl))?;
         }
         Ok(UdpOut {
             socket,
-            to: socket_address(address.host, address.port),
+            to: SocketAddr::new(address.host, address.port),
             faults: 0,
         })
     }
 }
 
-/// The local address that is set, or any of this machine's.
-fn own_host(from: Option<[u8; 4]>) -> [u8; 4]
-    ensures value { result ≡ own_host from }
+/// Any port of the local address that is set, or of any of this machine's of the same kind.
+fn leaves_from(address: &MediaAddress) -> SocketAddr
+    ensures value { IsAt (leaves_from address.now) 0 result }
 {
-    match from {
-        Some(host) => host,
-        None => [0; 4],
-    }
+    SocketAddr::new(source_of(address.settings.from, address.host), 0)
 }
 
 /// What a call that sends came to: a datagram that is lost on its way was sent.

@@ -4,7 +4,7 @@ ghost use Rattle.std.specs.Io.{ReadsAtMost};
 ghost use Rattle.outside_io.specs.Causes.{HasCause};
 
 use crate::media::media_of;
-use crate::sockets::{is_no_fault, quick_socket, socket_address};
+use crate::sockets::{is_no_fault, quick_socket};
 use end_sign::EndSign;
 use libc::net::{POLLIN, poll};
 use libc::types::pollfd;
@@ -12,7 +12,7 @@ use link_channels::MAX_DATAGRAM;
 use media_address::{Form, MediaAddress};
 use outside_io::{Failed, Source, copy_front};
 use std::io;
-use std::net::{Net, UdpSocket};
+use std::net::{Net, SocketAddr, UdpSocket};
 use std::os::fd::AsRawFd;
 
 /// How many datagrams that carry nothing are passed over at most before whoever asks has its turn again.
@@ -57,7 +57,7 @@ impl<E: Drop> UdpSource<E> {
         ensures form { IfOk result (λ opened. opened.form ≡ address.now.form) }
         ensures fresh { IfOk result (λ opened. opened.faults ≡ 0) }
     {
-        let socket = quick_socket(rt, socket_address(address.host, address.port))?;
+        let socket = quick_socket(rt, SocketAddr::new(address.host, address.port))?;
         Ok(UdpSource {
             socket,
             form: address.form,

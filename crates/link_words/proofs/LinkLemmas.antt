@@ -6,9 +6,9 @@ use Rattle.link_words.specs.declared.positions.Scan.{Scan}
 use Rattle.link_words.specs.Texts.{Word}
 use Rattle.link_words.specs.Hosts.{is_name}
 use Rattle.link_words.specs.Urls.{Written, form_of, parts_of}
-use Rattle.link_words.specs.Parameters.{Fault, IsRefused, is_receiving, options_of, parameters_in}
+use Rattle.link_words.specs.Parameters.{Fault, IsRefused, is_receiving, kept_in, options_of, parameters_in}
 use Rattle.link_words.specs.Positions.{after, is_link}
-use Rattle.link_words.specs.Addresses.{Table, command_of, link_at, link_of, links_from, options_at, options_from, resolved_by, with_address}
+use Rattle.link_words.specs.Addresses.{Table, command_of, endpoint_by, link_at, link_of, links_from, options_at, options_from, resolved_by, with_address}
 
 pub if_err : {T E : Type 0} {P Q : E → Type 0} (r : Result T E) → IfErr r P → ((e : E) → P e → Q e) → IfErr r Q
 if_err (Ok x) h f = h
@@ -17,9 +17,17 @@ if_err (Err e) h f = f e h
 pub same_refused : {A : Type 0} {a b : Result A Fault} → a ≡ b → (e : NoLink) → IsRefused b e → IsRefused a e
 same_refused same e h = λ fault is. same ∙ h fault is
 
-pub named_is : (t : Table) (word host port : Word) (listens : Bool) (parameters : Option Word) → form_of word ≡ Written host port listens parameters → is_name host ≡ true
-    → link_of t word ≡ with_address host port (t host)
-named_is t word host port listens parameters form name = rw (form, name) refl
+-- a link that is written, and behind it what stays with it
+pub written_is : (t : Table) (word host port link : Word) (listens : Bool) (parameters : Option Word) → form_of word ≡ Written host port listens parameters
+    → endpoint_by t host port ≡ Ok link → link_of t word ≡ Ok (link ++ kept_in 16 [] parameters)
+written_is t word host port link listens parameters form is = rw (form, is) refl
+
+pub unwritten_is : (t : Table) (word host port : Word) (listens : Bool) (parameters : Option Word) (fault : Fault) → form_of word ≡ Written host port listens parameters
+    → endpoint_by t host port ≡ Err fault → link_of t word ≡ Err fault
+unwritten_is t word host port listens parameters fault form is = rw (form, is) refl
+
+pub named_is : (t : Table) (host port : Word) → is_name host ≡ true → endpoint_by t host port ≡ with_address host port (t host)
+named_is t host port name = rw name refl
 
 pub link_is : (t : Table) (scan : Scan) (word : Word) → is_link scan word ≡ true → link_at t scan word ≡ link_of t word
 link_is t scan word is = rw is refl

@@ -1,29 +1,47 @@
 -- The words of a command line with an address for each name.
-use Rattle.std.specs.Prelude.{ℕ, Bool, false, List, [], ◌∷◌, ◌++◌, take, drop, if◌then◌else◌}
+use Rattle.std.specs.Prelude.{ℕ, Bool, false, List, [], ◌∷◌, ◌++◌, take, drop, if◌then◌else◌, codes}
 use Rattle.std.specs.Prelude.{Option, Some, None, Result, Ok, Err}
-use Rattle.std.specs.Net.Text.{ipv4_text}
+use Rattle.std.specs.Net.Addr.{ipv4_octets, ipv6_segments}
+use Rattle.std.specs.Net.Text.{ipv4_text, ipv6_text}
+use Rattle.std.specs.declared.net.ip_addr.IpAddr.{IpAddr}
+use Rattle.std.specs.declared.net.ip_addr.IpAddr.TheVariants.{V4, V6}
 use Rattle.link_words.specs.declared.positions.Scan.{Scan}
 use Rattle.link_words.specs.Texts.{Word, and_then}
-use Rattle.link_words.specs.Hosts.{is_name}
+use Rattle.link_words.specs.Hosts.{is_literal, is_name}
 use Rattle.link_words.specs.Urls.{Form, Plain, Faulty, Written, form_of, parts_of}
-use Rattle.link_words.specs.Parameters.{Fault, NoEndpoint, Unknown, options_of}
+use Rattle.link_words.specs.Parameters.{Fault, NoEndpoint, Unknown, kept_in, options_of}
 use Rattle.link_words.specs.Positions.{after, is_link, scan_of, written_from}
 
--- the address that names have: its four octets
+-- the address that names have
 abbrev pub Table : Type 0
-Table = Word → Option (List ℕ)
+Table = Word → Option IpAddr
+
+-- an address as a link has it: one of IPv6 in brackets
+abbrev pub address_text : IpAddr → Word
+address_text (V4 address) = ipv4_text (ipv4_octets address)
+address_text (V6 address) = codes "[" ++ ipv6_text (ipv6_segments address) ++ codes "]"
 
 -- a name's address and the port, as a link; a name without one is the fault
-abbrev pub with_address : Word → Word → Option (List ℕ) → Result Word Fault
+abbrev pub with_address : Word → Word → Option IpAddr → Result Word Fault
 with_address host port None = Err (Unknown host)
-with_address host port (Some address) = Ok (ipv4_text address ++ 58 ∷ port)
+with_address host port (Some address) = Ok (address_text address ++ 58 ∷ port)
 
--- a link with an address; one that has neither a name nor a URL is as it is
+-- a host that is no name, as a link has it
+abbrev pub host_text : Word → Word
+host_text host = if is_literal host then codes "[" ++ host ++ codes "]" else host
+
+-- a host and a port as a link: an address in place of a name
+abbrev pub endpoint_by : Table → Word → Word → Result Word Fault
+endpoint_by table host port =
+    if is_name host then with_address host port (table host) else Ok (host_text host ++ 58 ∷ port)
+
+-- a link with an address, and behind it the parameters that stay with it; one that has neither a name nor a URL is as it
+-- is
 abbrev pub link_by : Table → Word → Form → Result Word Fault
 link_by table word Plain = Ok word
 link_by table word Faulty = Err (NoEndpoint (parts_of word).0)
 link_by table word (Written host port listens parameters) =
-    if is_name host then with_address host port (table host) else Ok (host ++ 58 ∷ port)
+    and_then (endpoint_by table host port) (λ link. Ok (link ++ kept_in 16 [] parameters))
 
 -- likewise
 abbrev pub link_of : Table → Word → Result Word Fault

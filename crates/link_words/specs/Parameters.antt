@@ -78,13 +78,39 @@ abbrev pub in_url : Word → Result Word Word → Result Word Fault
 in_url url (Ok word) = Ok word
 in_url url (Err name) = Err (Parameter name url)
 
+-- a parameter that stays with its link: the address that it leaves from, and over how many networks it may pass
+abbrev pub is_of_link : Word → Bool
+is_of_link text =
+    bytes_eq (first_part 61 text).0 (codes "from") || bytes_eq (first_part 61 text).0 (codes "ttl")
+
+-- options, with the one that a parameter stands for; one that stays with its link stands for none
+abbrev pub with_parameter : Word → Word → List Word → Word → Result (List Word) Fault
+with_parameter command url options text =
+    if is_of_link text then Ok options
+    else and_then (in_url url (option_word command text)) (λ word. Ok (with_word options word))
+
 -- options, with those that the parameters in a text stand for, with `&` between them: so many at most
 abbrev pub parameters_in : ℕ → Word → Word → List Word → Option Word → Result (List Word) Fault
 parameters_in most command url options None = Ok options
 parameters_in zero command url options (Some text) = Err (TooMany url)
 parameters_in (suc most) command url options (Some text) =
-    and_then (in_url url (option_word command (first_part 38 text).0))
-    (λ word. parameters_in most command url (with_word options word) (first_part 38 text).1)
+    and_then (with_parameter command url options (first_part 38 text).0)
+    (λ more. parameters_in most command url more (first_part 38 text).1)
+
+-- the mark before a parameter that stays with its link: `?` before the first, and then `&`
+abbrev pub mark_behind : Word → ℕ
+mark_behind [] = 63
+mark_behind (octet ∷ kept) = 38
+
+-- the parameters that stay with a link, and one more where it does, too
+abbrev pub with_kept : Word → Word → Word
+with_kept kept text = if is_of_link text then kept ++ mark_behind kept ∷ text else kept
+
+-- the parameters in a text that stay with their link, of so many at most
+abbrev pub kept_in : ℕ → Word → Option Word → Word
+kept_in most kept None = kept
+kept_in zero kept (Some text) = kept
+kept_in (suc most) kept (Some text) = kept_in most (with_kept kept (first_part 38 text).0) (first_part 38 text).1
 
 -- options, with those that a link's parameters stand for; where links are sent to none has an `@`
 abbrev pub options_by : Word → Word → List Word → Form → Result (List Word) Fault

@@ -8,7 +8,7 @@ use Rattle.link_words.specs.Texts.{Word, split_at, ◌>>=◌}
 use Rattle.link_words.specs.Hosts.{endpoint_of, is_name}
 
 -- A word in the place of a link: one with neither a name nor a URL; a URL without a host and a port; or a host and a
--- port, whether an `@` stands before them, and a URL's parameters.
+-- port, whether an `@` stands before them, and the parameters behind a `?`.
 pub data Form : Type 0 where
   Plain : Form
   Faulty : Form
@@ -50,14 +50,15 @@ abbrev pub form_of_url : Word → Form
 form_of_url text =
     with_endpoint (listening (parts_of text).0).0 (parts_of text).1 (endpoint_of (listening (parts_of text).0).1)
 
--- the form of a word that is no URL
-abbrev pub named : Option (Word × Word) → Form
-named None = Plain
-named (Some endpoint) = if is_name endpoint.0 then Written endpoint.0 endpoint.1 false None else Plain
+-- the form of a word that is no URL; behind a name may stand parameters, as in one
+abbrev pub named : Option Word → Option (Word × Word) → Form
+named parameters None = Plain
+named parameters (Some endpoint) =
+    if is_name endpoint.0 then Written endpoint.0 endpoint.1 false parameters else Plain
 
 -- the form of a word whose part behind `rist://` is this, where it has one
 abbrev pub form_by : Word → Option Word → Form
-form_by word None = named (endpoint_of word)
+form_by word None = named (parts_of word).1 (endpoint_of (parts_of word).0)
 form_by word (Some text) = form_of_url text
 
 -- the form of a word in the place of a link

@@ -1,7 +1,6 @@
 //! How a link is written: by an address, by a host's name, or by a URL (RFC 3986).
-ghost use Rattle.std.specs.Prelude.{◌≡◌, option_map};
-ghost use Rattle.link_words.specs.Urls.{behind_scheme, form_of, form_of_url, is_written, listening, named, shown_form, with_endpoint};
-ghost use Rattle.link_words.specs.Hosts.{endpoint_of};
+ghost use Rattle.std.specs.Prelude.{◌≡◌, None, option_map};
+ghost use Rattle.link_words.specs.Urls.{behind_scheme, form_by, form_of, form_of_url, is_written, listening, shown_form, with_endpoint};
 
 use crate::hosts::{endpoint_of, is_name};
 use crate::texts::{first_part, split_at};
@@ -12,13 +11,13 @@ const SCHEME: &str = "rist";
 /// A link with a name or a URL.
 #[derive(Clone, Copy, Debug, PartialEq, Eq)]
 pub struct Written<'a> {
-    /// A name, or numbers with dots between them.
+    /// A name, numbers with dots between them, or an address of IPv6 without its brackets.
     pub host: &'a str,
     /// Decimal digits.
     pub port: &'a str,
     /// Whether an `@` stands before them.
     pub listens: bool,
-    /// What stands behind the first `?` of a URL.
+    /// What stands behind the first `?`.
     pub parameters: Option<&'a str>,
 }
 
@@ -106,16 +105,17 @@ fn listening<'a>(text: &'a str) -> (bool, &'a str)
     }
 }
 
-/// The form of a word that is no URL.
+/// The form of a word that is no URL. Behind a name may stand parameters, as in one.
 fn named<'a>(word: &'a str) -> LinkWord<'a>
-    ensures { shown_form result ≡ named (endpoint_of word.entry.now) }
+    ensures { shown_form result ≡ form_by word.entry.now None }
 {
-    match endpoint_of(word) {
+    let (endpoint, parameters) = first_part(word, '?');
+    match endpoint_of(endpoint) {
         Some((host, port)) if is_name(host) => LinkWord::Written(Written {
             host,
             port,
             listens: false,
-            parameters: None,
+            parameters,
         }),
         _ => LinkWord::Plain,
     }

@@ -2,9 +2,10 @@
 ghost use Rattle.std.specs.Prelude.{◌≡◌, option_map};
 ghost use Rattle.std.specs.List.{list_all};
 ghost use Rattle.std.specs.Char.{is_ascii_digit};
-ghost use Rattle.link_words.specs.Hosts.{endpoint_of, first_after, is_host, is_host_octet, is_letter, is_name, is_port, last_first};
+ghost use Rattle.link_words.specs.Hosts.{bracketed_endpoint, endpoint_of, first_after, is_host, is_host_octet, is_letter, is_literal, is_name, is_port, last_first, plain_endpoint};
 
 use crate::texts::split_at;
+use host_text::{address_of, behind};
 
 /// Whether a text is a host: letters, digits, hyphens and dots.
 pub fn is_host(host: &str) -> bool
@@ -78,13 +79,44 @@ fn are_digits(octets: &[u8]) -> bool
     octets.iter().all(|octet| octet.is_ascii_digit())
 }
 
-/// A host and a port with a colon between them.
+/// A host and a port with a colon between them. An address of IPv6 stands in brackets, and is given without.
 pub(crate) fn endpoint_of<'a>(word: &'a str) -> Option<(&'a str, &'a str)>
     ensures { option_map (λ s. (s.0.now, s.1.now)) result ≡ endpoint_of word.entry.now }
+{
+    match behind("[", word) {
+        Some(inside) => bracketed_endpoint(inside),
+        None => plain_endpoint(word),
+    }
+}
+
+fn plain_endpoint<'a>(word: &'a str) -> Option<(&'a str, &'a str)>
+    ensures { option_map (λ s. (s.0.now, s.1.now)) result ≡ plain_endpoint word.entry.now }
 {
     let (host, port) = split_at(word, ':')?;
     if is_host(host) && is_port(port) {
         return Some((host, port));
     }
     None
+}
+
+/// What stands behind an opening bracket.
+fn bracketed_endpoint<'a>(text: &'a str) -> Option<(&'a str, &'a str)>
+    ensures { option_map (λ s. (s.0.now, s.1.now)) result ≡ bracketed_endpoint text.entry.now }
+{
+    let (host, rest) = split_at(text, ']')?;
+    let port = behind(":", rest)?;
+    if is_literal(host) && is_port(port) {
+        return Some((host, port));
+    }
+    None
+}
+
+/// Whether a host is an address of IPv6 without its brackets.
+pub(crate) fn is_literal(host: &str) -> bool
+    ensures { result ≡ is_literal host.now }
+{
+    match address_of(host) {
+        Some(address) => address.is_ipv6(),
+        None => false,
+    }
 }

@@ -1,9 +1,9 @@
 //! The options that a URL's parameters stand for.
-ghost use Rattle.std.specs.Prelude.{◌≡◌, ◌++◌, ◌∷◌, ◌&&◌, not, Ok, Some, IfErr, IfOk, OnOk, map, option_map, string_bytes};
+ghost use Rattle.std.specs.Prelude.{◌≡◌, ◌++◌, ◌∷◌, [], ◌&&◌, not, Ok, Some, IfErr, IfOk, OnOk, map, option_map, string_bytes};
 ghost use Rattle.std.specs.List.{list_any};
 ghost use Rattle.std.specs.Str.{bytes_eq};
 ghost use Rattle.link_words.specs.Addresses.{options_at, options_from};
-ghost use Rattle.link_words.specs.Parameters.{IsRefused, in_url, is_receiving, option_of, option_word, options_of, parameters_in, receiver_option, session_option, with_word};
+ghost use Rattle.link_words.specs.Parameters.{IsRefused, in_url, is_of_link, is_receiving, kept_in, mark_behind, option_of, option_word, options_of, parameters_in, receiver_option, session_option, with_kept, with_parameter, with_word};
 
 use crate::forms::{LinkWord, read_link};
 use crate::no_link::NoLink;
@@ -113,6 +113,36 @@ fn contains(words: &[String], word: &str) -> bool
     false
 }
 
+/// Whether a parameter stays with its link.
+fn is_of_link(text: &str) -> bool
+    ensures { result ≡ is_of_link text.now }
+{
+    let (name, _) = first_part(text, '=');
+    name == "from" || name == "ttl"
+}
+
+/// Adds the option that a parameter stands for. One that stays with its link stands for none.
+fn push_parameter(
+    alloc: Global,
+    command: &str,
+    url: &str,
+    options: &mut Vec<String>,
+    text: &str,
+) -> Result<(), NoLink>
+    ensures ok { OnOk result (with_parameter command.now url.now (map string_bytes options.old.items) text.now
+        ≡ Ok (map string_bytes options.new.items)) }
+    ensures refused { IfErr result (IsRefused (with_parameter command.now url.now
+        (map string_bytes options.old.items) text.now)) }
+{
+    if is_of_link(text) {
+        return Ok(());
+    }
+    match option_word(alloc, command, url, text) {
+        Ok(word) => push_word(options, word),
+        Err(refused) => Err(refused),
+    }
+}
+
 /// Adds the options that a URL's parameters stand for.
 fn push_parameters(
     alloc: Global,
@@ -148,11 +178,10 @@ fn push_all(
     let mut rest = text;
     for _ in 0..MAX_PARAMETERS {
         let (parameter, more) = first_part(rest, '&');
-        let word = match option_word(alloc, command, url, parameter) {
-            Ok(word) => word,
+        match push_parameter(alloc, command, url, options, parameter) {
+            Ok(()) => {}
             Err(refused) => return Err(refused),
-        };
-        push_word(options, word)?;
+        }
         match more {
             Some(next) => rest = next,
             None => return Ok(()),
@@ -234,4 +263,61 @@ pub fn push_options(
         at = at.after(word.as_str());
     }
     Ok(())
+}
+
+/// Adds the parameters that stay with a link behind it.
+pub(crate) fn push_kept(
+    alloc: Global,
+    link: &mut String,
+    parameters: Option<&str>,
+) -> Result<(), NoLink>
+    ensures ok { OnOk result (string_bytes link.new
+        ≡ string_bytes link.old ++ kept_in 16 [] (option_map (λ p. p.now) parameters.entry)) }
+    ensures memory { IfErr result (λ refused. refused ≡ NoLink.Memory) }
+{
+    let Some(text) = parameters else {
+        return Ok(());
+    };
+    let kept = kept_in(alloc, text)?;
+    link.push_str(kept.as_str())?;
+    Ok(())
+}
+
+/// The parameters in a text that stay with their link.
+fn kept_in(alloc: Global, text: &str) -> Result<String, NoLink>
+    ensures ok { IfOk result (λ kept. string_bytes kept ≡ kept_in 16 [] (Some text.now)) }
+    ensures memory { IfErr result (λ refused. refused ≡ NoLink.Memory) }
+{
+    let mut kept = String::new(alloc);
+    let mut rest = text;
+    for _ in 0..MAX_PARAMETERS {
+        let (parameter, more) = first_part(rest, '&');
+        keep(&mut kept, parameter)?;
+        match more {
+            Some(next) => rest = next,
+            None => return Ok(kept),
+        }
+    }
+    Ok(kept)
+}
+
+/// Adds a parameter, where it stays with its link.
+fn keep(kept: &mut String, text: &str) -> Result<(), NoLink>
+    ensures ok { OnOk result (string_bytes kept.new ≡ with_kept (string_bytes kept.old) text.now) }
+    ensures memory { IfErr result (λ refused. refused ≡ NoLink.Memory) }
+{
+    if !is_of_link(text) {
+        return Ok(());
+    }
+    let mark = mark_behind(kept.as_str());
+    kept.push(mark)?;
+    kept.push_str(text)?;
+    Ok(())
+}
+
+/// The mark before the next parameter that stays.
+fn mark_behind(kept: &str) -> char
+    ensures value { result ≡ mark_behind kept.now }
+{
+    if kept.is_empty() { '?' } else { '&' }
 }

@@ -1,6 +1,7 @@
 //! The words of a command line with an address for each link.
 ghost use Rattle.std.specs.Prelude.{◌≡◌, ◌≤◌, false, true, ℕ, List, Ok, Some, None, IfErr, IfOk, IfSome, IsSome, drop, length, map, string_bytes, take};
 ghost use Rattle.std.specs.declared.option.Option.{Option};
+ghost use Rattle.std.specs.declared.net.ip_addr.IpAddr.{IpAddr as IpAddrValue};
 ghost use Rattle.link_words.specs.Addresses.{command_of, has_written, resolved_by, resolved_of};
 ghost use Rattle.link_words.specs.Parameters.{IsRefused};
 ghost use Rattle.link_words.specs.Positions.{scan_of};
@@ -24,10 +25,10 @@ pub fn with_addresses<L: Lookup>(
     ensures same { has_written (map string_bytes words.items) ≡ false → result ≡ Ok words }
     // Else each link has an address, where the lookup tells.
     ensures ok { IfOk result (λ line. has_written (map string_bytes words.items) ≡ true
-        → (t : List ℕ → Option (List ℕ)) → L.table lookup.old ≡ Some t
+        → (t : List ℕ → Option IpAddrValue) → L.table lookup.old ≡ Some t
         → resolved_of t (map string_bytes words.items) ≡ Ok (map string_bytes line.items)) }
     // Where there are none, that is the first fault, memory aside.
-    ensures refused { IfErr result (λ e. (t : List ℕ → Option (List ℕ)) → L.table lookup.old ≡ Some t
+    ensures refused { IfErr result (λ e. (t : List ℕ → Option IpAddrValue) → L.table lookup.old ≡ Some t
         → IsRefused (resolved_of t (map string_bytes words.items)) e) }
     ensures table { L.table lookup.new ≡ L.table lookup.old }
 {
@@ -77,9 +78,9 @@ fn rewritten<L: Lookup>(
     words: &[String],
 ) -> Result<Vec<String>, NoLink>
     requires within { 2 ≤ length words.now }
-    ensures ok { IfOk result (λ line. (t : List ℕ → Option (List ℕ)) → L.table lookup.old ≡ Some t
+    ensures ok { IfOk result (λ line. (t : List ℕ → Option IpAddrValue) → L.table lookup.old ≡ Some t
         → resolved_by t (map string_bytes words.now) (Some scan) ≡ Ok (map string_bytes line.items)) }
-    ensures refused { IfErr result (λ e. (t : List ℕ → Option (List ℕ)) → L.table lookup.old ≡ Some t
+    ensures refused { IfErr result (λ e. (t : List ℕ → Option IpAddrValue) → L.table lookup.old ≡ Some t
         → IsRefused (resolved_by t (map string_bytes words.now) (Some scan)) e) }
     ensures table { L.table lookup.new ≡ L.table lookup.old }
 {

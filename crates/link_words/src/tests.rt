@@ -2,15 +2,31 @@
 use super::*;
 use std::alloc::Global;
 use std::fmt::Write;
+use std::net::{IpAddr, Ipv4Addr, Ipv6Addr};
 use std::test::Fail;
 
-static NAMES: [(&str, [u8; 4]); 2] = [
-    ("studio.example.net", [10, 9, 2, 1]),
-    ("encoder-2", [192, 0, 2, 7]),
-];
+/// Names and their addresses: one of IPv4, one of each kind, and two of IPv6.
+fn names() -> [(&'static str, IpAddr); 5] {
+    [
+        ("studio.example.net", IpAddr::V4(Ipv4Addr::new(10, 9, 2, 1))),
+        (
+            "encoder-2",
+            IpAddr::V6(Ipv6Addr::new(0x2001, 0xdb8, 0, 0, 0, 0, 0, 9)),
+        ),
+        ("encoder-2", IpAddr::V4(Ipv4Addr::new(192, 0, 2, 7))),
+        (
+            "far.example.net",
+            IpAddr::V6(Ipv6Addr::new(0x2001, 0xdb8, 0, 0, 0, 0, 0, 7)),
+        ),
+        (
+            "far.example.net",
+            IpAddr::V6(Ipv6Addr::new(0x2001, 0xdb8, 0, 0, 0, 0, 0, 8)),
+        ),
+    ]
+}
 
 /// Lines, and what they become, or why a link has no address.
-static LINES: [(&str, Result<&str, &str>); 40] = [
+static LINES: [(&str, Result<&str, &str>); 53] = [
     // Words with neither a name nor a URL are left as they are.
     ("rist send a 1.2.3.4:5000", Ok("rist send a 1.2.3.4:5000")),
     (
@@ -96,9 +112,61 @@ static LINES: [(&str, Result<&str, &str>); 40] = [
         "rist send a rist://1.2.3.4",
         Err("no HOST:PORT in rist://1.2.3.4"),
     ),
+    // An address of IPv6 in brackets.
     (
         "rist send a rist://[::1]:5000",
-        Err("no HOST:PORT in rist://[::1]:5000"),
+        Ok("rist send a [::1]:5000"),
+    ),
+    (
+        "rist recv a rist://@[2001:DB8::10.9.2.1]:5000?buffer=500",
+        Ok("rist recv --delay=500 a [2001:DB8::10.9.2.1]:5000"),
+    ),
+    ("rist send a [::1]:5000", Ok("rist send a [::1]:5000")),
+    (
+        "rist send a rist://::1:5000",
+        Err("no HOST:PORT in rist://::1:5000"),
+    ),
+    (
+        "rist send a rist://[::1]5000",
+        Err("no HOST:PORT in rist://[::1]5000"),
+    ),
+    (
+        "rist send a rist://[1::2::3]:5000",
+        Err("no HOST:PORT in rist://[1::2::3]:5000"),
+    ),
+    (
+        "rist send a rist://[10.9.2.1]:5000",
+        Err("no HOST:PORT in rist://[10.9.2.1]:5000"),
+    ),
+    // A name of IPv6 alone: its first address.
+    (
+        "rist send a far.example.net:5000",
+        Ok("rist send a [2001:db8::7]:5000"),
+    ),
+    // What stays with its link.
+    (
+        "rist send a rist://1.2.3.4:5000?from=10.9.2.1 rist://1.2.3.4:5000?ttl=8&from=10.9.3.1",
+        Ok("rist send a 1.2.3.4:5000?from=10.9.2.1 1.2.3.4:5000?ttl=8&from=10.9.3.1"),
+    ),
+    (
+        "rist send a rist://encoder-2:5000?from=10.9.2.1&secret=b",
+        Ok("rist send --pass=b a 192.0.2.7:5000?from=10.9.2.1"),
+    ),
+    (
+        "rist send a encoder-2:5000?from=10.9.2.1",
+        Ok("rist send a 192.0.2.7:5000?from=10.9.2.1"),
+    ),
+    (
+        "rist send a 1.2.3.4:5000?from=10.9.2.1",
+        Ok("rist send a 1.2.3.4:5000?from=10.9.2.1"),
+    ),
+    (
+        "rist gate 1.2.3.4:5000 rist://far.example.net:5000?from=2001:db8::1",
+        Ok("rist gate 1.2.3.4:5000 [2001:db8::7]:5000?from=2001:db8::1"),
+    ),
+    (
+        "rist send a encoder-2:5000?fro=10.9.2.1",
+        Err("cannot take fro= in encoder-2:5000"),
     ),
     (
         "rist send a rist://u:p@1.2.3.4:5000",
@@ -161,7 +229,8 @@ fn words(alloc: Global, line: &str) -> Result<Vec<String>, Fail> {
 
 /// Whether a line becomes these words, or is refused by this text.
 fn becomes(alloc: Global, line: &str, wanted: &Result<&str, &str>) -> Result<bool, Fail> {
-    let mut names = Hosts(&NAMES);
+    let rows = names();
+    let mut names = Hosts(&rows);
     match (
         with_addresses(alloc, &mut names, words(alloc, line)?),
         wanted,
@@ -198,6 +267,9 @@ fn a_url_of_seventeen_parameters_is_refused(rt: HostRuntime) -> Result<(), Fail>
 #[test]
 fn the_systems_own_name_has_an_address(rt: HostRuntime) -> Result<(), Fail> {
     let mut names = SystemNames(&rt);
-    assert_eq!(rt; names.address("localhost"), Some([127, 0, 0, 1]));
+    assert_eq!(rt;
+        names.address("localhost"),
+        Some(IpAddr::V4(Ipv4Addr::LOCALHOST))
+    );
     Ok(())
 }

@@ -27,14 +27,14 @@ use link_channels::{MAX_LINKS, Profile};
 use media_address::{MediaAddress, address_of};
 use metered_link::{LineOutput, Lines, Metered};
 use outside_io::{Entropy, FileIdentity, RealEntropy, create_sink, is_named, open_source};
-use outside_net::{LinkSpec, ProcessClock, Role, UdpLink};
+use outside_net::{LinkSpec, ProcessClock, Role, UdpLink, own_address};
 use progress_source::Progress;
 use recorded_link::{Recorded, Recording};
 use std::alloc::Global;
 use std::fs::{self, Files, OpenFile};
 use std::io::{Eprint, Input, Print, Printer};
 use std::marker::Model;
-use std::net::{Ipv4Addr, Net, SocketAddr, SocketAddrV4, UdpSocket};
+use std::net::{Net, UdpSocket};
 use std::random::RandomSource;
 use std::time::Clock;
 
@@ -564,20 +564,12 @@ where
 
 /// Why a link couldn't be opened: each of its ports is bound once more, and the first that can't be says why.
 fn why_no_link<R: Net>(rt: &R, spec: &LinkSpec, role: Role, profile: Profile) -> Option<Trouble> {
-    let [a, b, c, d] = match role {
-        Role::Receives => spec.address,
-        Role::Sends | Role::Forwards => [0; 4],
-    };
     let control = match profile {
         Profile::Simple => spec.control_port().unwrap_or(spec.port),
         Profile::Main => spec.port,
     };
     for port in [spec.port, control] {
-        let port = match role {
-            Role::Receives => port,
-            Role::Sends | Role::Forwards => 0,
-        };
-        let address = SocketAddr::V4(SocketAddrV4::new(Ipv4Addr::new(a, b, c, d), port));
+        let address = own_address(role, spec, port);
         if let Err(error) = UdpSocket::bind(rt, address) {
             return Some(Trouble::new(Thing::Address(address), Reason::System(error)));
         }

@@ -7,6 +7,7 @@ use Rattle.clap.specs.Words.{Row, Text, all_of, first_of}
 use Rattle.link_channels.specs.declared.profile.Profile.{Profile}
 use Rattle.link_channels.specs.declared.profile.Profile.TheVariants.{Simple, Main}
 use Rattle.outside_net.specs.declared.link_spec.LinkSpec.{LinkSpec}
+use Rattle.outside_net.specs.declared.link_spec.Role.{Role}
 use Rattle.rist_words.specs.declared.values.Numbers.{Numbers}
 use Rattle.rist_words.specs.Commands.{SessionNames, incoming_names, session_names}
 use Rattle.rist_help.specs.declared.checks.Test.{Test}
@@ -17,13 +18,14 @@ use Rattle.rist_words.specs.CommandLine.{retry_counts, own_ssrcs, idle_times, ke
 use Rattle.rist_words.specs.CommandLine.{drill_links, drill_losses, stats_times, watching_of}
 use Rattle.rist_words.specs.Values.{flag_of, is_set, nack_of, name_of, number_at, number_of, phrase_of, profile_of}
 use Rattle.rist_words.specs.Values.{name_if, number_if, tunnel_of, ◌>>=◌}
-use Rattle.rist_words.specs.Links.{gate_links_of, inputs_of, link_texts, links_of, shares_of}
+use Rattle.rist_words.specs.Links.{gate_links_of, inputs_of, link_texts, links_of, receiving_role, sending_role, shares_of}
 use Rattle.rist_words.specs.Outs.{outs_of, ports}
 
 -- What is tested: that the name at a position isn't empty; that the number at a position, or of an option, is one that
 -- it takes; that a profile reads; that a passphrase, a flag of the Main Profile and the tunnel read in the profile of
 -- an option; that the session of a gateway's inputs has its profile; that the first sequence number, the two options of
--- a pcap file and the kind of requests read; that there are one to sixteen links, and each is one; that some of a
+-- a pcap file and the kind of requests read; that there are one to sixteen links, and each is one that receives, or
+-- one that sends; that some of a
 -- gateway's receive and not all, and each is one in the profile of its end; that each link that sends has a weight
 -- where they share; that the outputs of a tunnel's flows read; that the passphrase, the tunnel, the two options of a
 -- pcap file and the links read in the Main Profile, for a command that is always in it; that a name and a number that
@@ -41,6 +43,7 @@ pub data Check : Type 0 where
   Pcap : Check
   Nack : Check
   Links : Check
+  SendLinks : Check
   Inputs : Check
   GateLinks : Check
   SendShare : Check
@@ -68,6 +71,7 @@ shown_test tests.First = First
 shown_test tests.Pcap = Pcap
 shown_test tests.Nack = Nack
 shown_test tests.Links = Links
+shown_test tests.SendLinks = SendLinks
 shown_test tests.Inputs = Inputs
 shown_test tests.GateLinks = GateLinks
 shown_test tests.SendShare = SendShare
@@ -106,6 +110,14 @@ abbrev pub incoming_in : List Row → Profile
 incoming_in rows =
     if is_some (first_of (codes "in-profile") rows) then profile_by (codes "in-profile") rows else profile_in rows
 
+-- the role of the links of a receiver's command, by its flag
+abbrev pub receivers_role : List Row → Role
+receivers_role rows = receiving_role (is_set (first_of (codes "call") rows))
+
+-- the role of those of a sender's
+abbrev pub senders_role : List Row → Role
+senders_role rows = sending_role (is_set (first_of (codes "listen") rows))
+
 -- the links of a gateway, each in the profile of its end
 abbrev pub gate_links_in : List Row → Option (List LinkSpec × List LinkSpec)
 gate_links_in rows =
@@ -125,13 +137,14 @@ does_fail rows First =
     is_none (number_of (firsts (is_set (first_of (codes "wide") rows))) (first_of (codes "first") rows))
 does_fail rows Pcap = is_none (pcap_of (profile_in rows) rows)
 does_fail rows Nack = is_none (nack_of (first_of (codes "nack") rows))
-does_fail rows Links = is_none (links_of (profile_in rows) (all_of (codes "link") rows))
+does_fail rows Links = is_none (links_of (receivers_role rows) (profile_in rows) (all_of (codes "link") rows))
+does_fail rows SendLinks = is_none (links_of (senders_role rows) (profile_in rows) (all_of (codes "link") rows))
 does_fail rows Inputs = is_none (do
   texts ← link_texts (all_of (codes "link") rows)
   inputs_of (length texts) (first_of (codes "in") rows))
 does_fail rows GateLinks = is_none (gate_links_in rows)
 does_fail rows SendShare = is_none (do
-  links ← links_of (profile_in rows) (all_of (codes "link") rows)
+  links ← links_of (senders_role rows) (profile_in rows) (all_of (codes "link") rows)
   shares_of (length links) (first_of (codes "share") rows))
 does_fail rows GateShare = is_none (do
   links ← gate_links_in rows
@@ -140,7 +153,7 @@ does_fail rows Outs = is_none (outs_of (first_of (codes "outs") rows))
 does_fail rows (MainPass option) = is_none (phrase_of Main (first_of option rows))
 does_fail rows (MainTunnel option) = is_none (tunnel_of Main (first_of option rows))
 does_fail rows MainPcap = is_none (pcap_of Main rows)
-does_fail rows MainLinks = is_none (links_of Main (all_of (codes "link") rows))
+does_fail rows MainLinks = is_none (links_of (receivers_role rows) Main (all_of (codes "link") rows))
 does_fail rows (NameIf option) = is_none (name_if (first_of option rows))
 does_fail rows (NumberIf option numbers) = is_none (number_if numbers (first_of option rows))
 does_fail rows Watching = is_none (watching_of rows)
@@ -215,12 +228,13 @@ checks_of command =
     else (if bytes_eq command (codes "split") then Name (codes "capture") ∷ Outs ∷ tunnel_checks ++ buffer_checks
     ++ (MainPcap ∷ [])
     else (if bytes_eq command (codes "send")
-    then Name (codes "source") ∷ session_checks ++ (Links ∷ []) ++ stream_checks
+    then Name (codes "source") ∷ session_checks ++ (MainFlag (codes "profile") (codes "listen") ∷ SendLinks ∷ [])
+    ++ stream_checks
     ++ (Number (codes "gap") gaps ∷ Number (codes "lead") leads ∷ [])
     ++ store_checks ++ (SendShare ∷ Number (codes "linger") lingers ∷ Number (codes "turns") turn_counts ∷ [])
     ++ stats_checks
-    else (if bytes_eq command (codes "recv") then Name (codes "out") ∷ session_checks ++ (Links ∷ []) ++ buffer_checks
-    ++ receiver_checks ++ watching_checks
+    else (if bytes_eq command (codes "recv") then Name (codes "out") ∷ session_checks
+    ++ (MainFlag (codes "profile") (codes "call") ∷ Links ∷ []) ++ buffer_checks ++ receiver_checks ++ watching_checks
     else (if bytes_eq command (codes "fan") then Outs ∷ tunnel_checks ++ (MainLinks ∷ []) ++ buffer_checks
     ++ run_checks ++ watching_checks
     else (if bytes_eq command (codes "gate") then session_checks ++ incoming_checks ++ (Inputs ∷ GateLinks ∷ [])

@@ -4,16 +4,18 @@ ghost use Rattle.std.specs.List.{list_all};
 ghost use Rattle.clap.specs.Words.{all_of, first_of, found_of, rows_of};
 ghost use Rattle.rist_words.specs.Links.{links_of, shares_of};
 ghost use Rattle.rist_help.specs.Checks.{checks_of, does_fail, first_failing, gate_links_in, incoming_in, is_sound};
-ghost use Rattle.rist_help.specs.Checks.{profile_by, profile_in, shown_test};
+ghost use Rattle.rist_help.specs.Checks.{profile_by, profile_in, receivers_role, senders_role, shown_test};
 ghost use Rattle.rist_help.specs.Checks.{First, GateLinks, GateShare, Incoming, Inputs, Outs, SendShare};
 
 use clap::ArgMatches;
 use link_channels::Profile;
 use outside_io::NoMemory;
-use outside_net::LinkSpec;
+use outside_net::{LinkSpec, Role};
 use rist_words::Refused;
 use rist_words::drilling::{COUNT, LINKS, LOSS, NUMBER};
-use rist_words::links::{gate_links, inputs_of, link_texts, links, share};
+use rist_words::links::{
+    gate_links, inputs_of, link_texts, links, receiving_role, sending_role, share,
+};
 use rist_words::outs::outs;
 use rist_words::pcap::pcap;
 use rist_words::reading::{GAP, HOLD, LEAD, LINGER, STORE};
@@ -50,8 +52,10 @@ pub enum Test {
     Pcap,
     /// How requests are written is one of two words.
     Nack,
-    /// There are one to sixteen links, and each is one.
+    /// There are one to sixteen links, and each is one that receives.
     Links,
+    /// There are one to sixteen links, and each is one that sends.
+    SendLinks,
     /// Some of the links receive, and not all.
     Inputs,
     /// Each of a gateway's links is one, in the profile of its end.
@@ -147,7 +151,7 @@ static SPLIT_TESTS: [Test; 9] = [
     Test::MainPcap,
 ];
 
-static SEND_TESTS: [Test; 22] = [
+static SEND_TESTS: [Test; 23] = [
     Test::Name("source"),
     Test::Profile("profile"),
     Test::Number("port", PORT),
@@ -155,7 +159,8 @@ static SEND_TESTS: [Test; 22] = [
     Test::Number("bits", BITS),
     Test::MainFlag("profile", "full"),
     Test::Tunnel("profile", "tunnel"),
-    Test::Links,
+    Test::MainFlag("profile", "listen"),
+    Test::SendLinks,
     Test::MainFlag("profile", "nulls"),
     Test::MainFlag("profile", "wide"),
     Test::Number("flow", FLOW),
@@ -172,7 +177,7 @@ static SEND_TESTS: [Test; 22] = [
     Test::Watching,
 ];
 
-static RECV_TESTS: [Test; 23] = [
+static RECV_TESTS: [Test; 24] = [
     Test::Name("out"),
     Test::Profile("profile"),
     Test::Number("port", PORT),
@@ -180,6 +185,7 @@ static RECV_TESTS: [Test; 23] = [
     Test::Number("bits", BITS),
     Test::MainFlag("profile", "full"),
     Test::Tunnel("profile", "tunnel"),
+    Test::MainFlag("profile", "call"),
     Test::Links,
     Test::Number("delay", DELAY),
     Test::Number("span", SPAN),
@@ -332,7 +338,8 @@ fn does_fail(alloc: Global, values: &ArgMatches<'_>, test: Test) -> Result<bool,
         Test::First => Ok(fails_first(values)),
         Test::Pcap => Ok(pcap(values, profile_in(values)).is_none()),
         Test::Nack => Ok(nack(values, "nack").is_none()),
-        Test::Links => fails_links(alloc, values, profile_in(values)),
+        Test::Links => fails_links(alloc, values, receivers_role(values), profile_in(values)),
+        Test::SendLinks => fails_links(alloc, values, senders_role(values), profile_in(values)),
         Test::Inputs => Ok(fails_inputs(values)),
         Test::GateLinks => fails_gate_links(alloc, values),
         Test::SendShare => fails_send_share(alloc, values),
@@ -341,7 +348,7 @@ fn does_fail(alloc: Global, values: &ArgMatches<'_>, test: Test) -> Result<bool,
         Test::MainPass(option) => Ok(phrase(values, option, Profile::Main).is_none()),
         Test::MainTunnel(option) => Ok(tunnel(values, option, Profile::Main).is_none()),
         Test::MainPcap => Ok(pcap(values, Profile::Main).is_none()),
-        Test::MainLinks => fails_links(alloc, values, Profile::Main),
+        Test::MainLinks => fails_links(alloc, values, receivers_role(values), Profile::Main),
         Test::NameIf(option) => Ok(name_if(values, option).is_none()),
         Test::NumberIf(option, numbers) => Ok(number_if(values, option, numbers).is_none()),
         Test::Watching => Ok(watching(values).is_none()),
@@ -388,12 +395,31 @@ fn fails_first(values: &ArgMatches<'_>) -> bool
     number(values, "first", firsts(wide)).is_none()
 }
 
-/// Whether the links fail in a profile.
-fn fails_links(alloc: Global, values: &ArgMatches<'_>, profile: Profile) -> Result<bool, NoMemory>
-    ensures { IfOk result (λ fails. fails
-        ≡ is_none (links_of profile (all_of (codes "link") (rows_of (found_of values.now))))) }
+/// Whether the links fail in a role and a profile.
+/// The role of the links of a receiver's command.
+pub fn receivers_role(values: &ArgMatches<'_>) -> Role
+    ensures { result ≡ receivers_role (rows_of (found_of values.now)) }
 {
-    match links(alloc, values, profile) {
+    receiving_role(is_set(values, "call"))
+}
+
+/// The role of those of a sender's.
+pub fn senders_role(values: &ArgMatches<'_>) -> Role
+    ensures { result ≡ senders_role (rows_of (found_of values.now)) }
+{
+    sending_role(is_set(values, "listen"))
+}
+
+fn fails_links(
+    alloc: Global,
+    values: &ArgMatches<'_>,
+    role: Role,
+    profile: Profile,
+) -> Result<bool, NoMemory>
+    ensures { IfOk result (λ fails. fails
+        ≡ is_none (links_of role profile (all_of (codes "link") (rows_of (found_of values.now))))) }
+{
+    match links(alloc, values, role, profile) {
         Ok(_) => Ok(false),
         Err(Refused::Usage) => Ok(true),
         Err(Refused::Memory) => Err(NoMemory),
@@ -434,7 +460,7 @@ fn fails_gate_links(alloc: Global, values: &ArgMatches<'_>) -> Result<bool, NoMe
 fn fails_send_share(alloc: Global, values: &ArgMatches<'_>) -> Result<bool, NoMemory>
     ensures { IfOk result (λ fails. fails ≡ does_fail (rows_of (found_of values.now)) SendShare) }
 {
-    match links(alloc, values, profile_in(values)) {
+    match links(alloc, values, senders_role(values), profile_in(values)) {
         Ok(links) => fails_share(alloc, values, links.len()),
         Err(Refused::Usage) => Ok(true),
         Err(Refused::Memory) => Err(NoMemory),

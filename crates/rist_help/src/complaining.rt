@@ -1,10 +1,15 @@
 //! What is wrong with words that are no line, as a text.
 use crate::asking::topic_named;
-use crate::checks::{Test, first_failing, incoming_in, profile_by, profile_in, tests_of};
+use crate::checks::{
+    Test, first_failing, incoming_in, profile_by, profile_in, receivers_role, senders_role,
+    tests_of,
+};
 use clap::ArgMatches;
 use clap::error::ErrorKind;
+use host_text::first_part;
 use link_channels::Profile;
 use outside_io::NoMemory;
+use outside_net::Role;
 use rist_words::Refused;
 use rist_words::command::program;
 use rist_words::links::{all_given, input_counts, inputs_of, link_of, link_texts};
@@ -118,7 +123,8 @@ fn push_fault(
         Test::First => push_first(text, values),
         Test::Pcap => push_pcap(text, values, profile_in(values)),
         Test::Nack => push_option(text, "nack", given(values, "nack"), "range or mask"),
-        Test::Links => push_links(text, values, profile_in(values)),
+        Test::Links => push_links(text, values, receivers_role(values), profile_in(values)),
+        Test::SendLinks => push_links(text, values, senders_role(values), profile_in(values)),
         Test::Inputs => push_inputs(text, values),
         Test::GateLinks => push_gate_links(text, values),
         Test::SendShare | Test::GateShare => push_share(text, values),
@@ -126,7 +132,7 @@ fn push_fault(
         Test::MainPass(option) => push_pass(text, option),
         Test::MainTunnel(option) => push_tunnel(text, values, option),
         Test::MainPcap => push_pcap(text, values, Profile::Main),
-        Test::MainLinks => push_links(text, values, Profile::Main),
+        Test::MainLinks => push_links(text, values, receivers_role(values), Profile::Main),
         Test::NameIf(option) => push_option(text, option, None, "a name isn't empty"),
         Test::NumberIf(option, numbers) => {
             push_number(text, option, given(values, option), numbers)
@@ -277,11 +283,12 @@ fn push_pcap(text: &mut String, values: &ArgMatches<'_>, profile: Profile) -> Re
 fn push_links(
     text: &mut String,
     values: &ArgMatches<'_>,
+    role: Role,
     profile: Profile,
 ) -> Result<(), NoMemory> {
     match all_given(values, "link") {
-        Some(words) => match first_wrong(profile, words) {
-            Some(word) => push_link(text, word),
+        Some(words) => match first_wrong(role, profile, words) {
+            Some(word) => push_link(text, role, word),
             None => push_place(text, "link", None, MOST),
         },
         None => push_place(text, "link", None, "one to sixteen"),
@@ -289,9 +296,9 @@ fn push_links(
 }
 
 /// The first word that is no link.
-fn first_wrong<'a>(profile: Profile, words: &[&'a str]) -> Option<&'a str> {
+fn first_wrong<'a>(role: Role, profile: Profile, words: &[&'a str]) -> Option<&'a str> {
     for word in words {
-        if link_of(profile, word).is_none() {
+        if link_of(role, profile, word).is_none() {
             return Some(*word);
         }
     }
@@ -307,22 +314,34 @@ fn push_gate_links(text: &mut String, values: &ArgMatches<'_>) -> Result<(), NoM
         return Ok(());
     };
     let (received, sent) = words.split_at(count);
-    let wrong = match first_wrong(incoming_in(values), received) {
-        Some(word) => Some(word),
-        None => first_wrong(profile_in(values), sent),
-    };
-    match wrong {
-        Some(word) => push_link(text, word),
+    if let Some(word) = first_wrong(Role::Receives, incoming_in(values), received) {
+        return push_link(text, Role::Receives, word);
+    }
+    match first_wrong(Role::Forwards, profile_in(values), sent) {
+        Some(word) => push_link(text, Role::Forwards, word),
         None => Ok(()),
     }
 }
 
-fn push_link(text: &mut String, word: &str) -> Result<(), NoMemory> {
-    let why = match link_of(Profile::Main, word) {
-        Some(_) => "in the Simple Profile a port is even, from 2 to 65534",
-        None => "an address and a port, as 127.0.0.1:5000",
-    };
-    push_place(text, "link", Some(word), why)
+fn push_link(text: &mut String, role: Role, word: &str) -> Result<(), NoMemory> {
+    push_place(text, "link", Some(word), why_no_link(role, word))
+}
+
+/// Why a word is no link in a role, in the Simple Profile where it is one in the other.
+fn why_no_link(role: Role, word: &str) -> &'static str {
+    let (place, _) = first_part(word, '?');
+    if link_of(role, Profile::Main, word).is_some() {
+        return "in the Simple Profile a port is even, from 2 to 65534";
+    }
+    if link_of(role, Profile::Main, place).is_none() {
+        return "an address and a port, as 127.0.0.1:5000 or [::1]:5000";
+    }
+    match role {
+        Role::Receives | Role::SendsListening =>
+            "a link that listens is bound to its address, and takes nothing behind it",
+        Role::ReceivesCalling | Role::Sends | Role::Forwards =>
+            "behind ? stand from= with an address of the same kind, ttl=1..255 for IPv4, or both by &",
+    }
 }
 
 fn push_inputs(text: &mut String, values: &ArgMatches<'_>) -> Result<(), NoMemory> {

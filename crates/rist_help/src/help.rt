@@ -89,9 +89,10 @@ const SEND: &str = "\
 usage: rist send SOURCE LINK.. [OPTION..]
 
 Sends SOURCE on one to sixteen links. SOURCE is a file, or what comes as UDP or RTP to an address and a
-port of this machine, udp://a.b.c.d:port or rtp://a.b.c.d:port. A LINK is an address and a port,
-a.b.c.d:port, or rist://HOST:port with a name or an address; the port is 1 to 65535, in the Simple
-Profile even: control goes to the next.
+port of this machine, udp://HOST:port or rtp://HOST:port. A HOST is a.b.c.d, or another address in
+brackets, as [::a]. A LINK is HOST:port, or rist://HOST:port where HOST may be a name, too; the port is
+1 to 65535, in the Simple Profile even: control goes to the next. Behind the port ?from=ADDRESS makes a
+link leave from this address of the machine, and ?ttl=N lets it pass so many networks.
 
 ";
 
@@ -99,9 +100,9 @@ const RECV: &str = "\
 usage: rist recv OUT LINK.. [OPTION..]
 
 Writes a stream to OUT as it is received on one to sixteen links. OUT is a file, or goes as UDP or RTP
-to an address and a port, udp://a.b.c.d:port or rtp://a.b.c.d:port. A LINK is an address and a port to
-be bound, a.b.c.d:port, or rist://HOST:port with a name or an address; the port is 1 to 65535, in the
-Simple Profile even: control comes to the next.
+to an address and a port, udp://HOST:port or rtp://HOST:port. A HOST is a.b.c.d, or another address in
+brackets, as [::a]. A LINK is an address and a port to be bound, HOST:port, or rist://HOST:port where HOST
+may be a name, too; the port is 1 to 65535, in the Simple Profile even: control comes to the next.
 
 ";
 
@@ -111,9 +112,9 @@ usage: rist fan OUTS LINK.. [OPTION..]
 Writes each of several flows that come in one tunnel to an output of its own, as they are received on one
 to sixteen links. The datagrams are of the Main Profile, and the flows differ in their ports. OUTS is
 V=NAME,V=NAME.. with one to eight outputs: V is the even port, 2 to 65534, that the datagrams of the flow
-name, and each is given once; a NAME has no comma, and no two are the same. It may be udp://a.b.c.d:port
-or rtp://a.b.c.d:port. A LINK is an address and a port to be bound, a.b.c.d:port, or rist://HOST:port with
-a name or an address; the port is 1 to 65535.
+name, and each is given once; a NAME has no comma, and no two are the same. It may be udp://HOST:port or
+rtp://HOST:port. A HOST is a.b.c.d, or another address in brackets, as [::a]. A LINK is an address and a
+port to be bound, HOST:port, or rist://HOST:port where HOST may be a name, too; the port is 1 to 65535.
 
 ";
 
@@ -121,8 +122,10 @@ const GATE: &str = "\
 usage: rist gate LINK.. [OPTION..]
 
 Receives on the first links, and sends on over the others, each payload as it is played out. There are
-two to sixteen. A LINK is an address and a port, a.b.c.d:port, or rist://HOST:port with a name or an
-address; the port is 1 to 65535, in the Simple Profile even: control is on the next. Without --in-profile all links have one profile and one
+two to sixteen. A LINK is HOST:port, where HOST is a.b.c.d, or another address in brackets, as [::a]; or
+rist://HOST:port where HOST may be a name, too. The port is 1 to 65535, in the Simple Profile even: control
+is on the next. Behind the port of a link that sends ?from=ADDRESS makes it leave from this address of the
+machine, and ?ttl=N lets it pass so many networks. Without --in-profile all links have one profile and one
 passphrase; with it those that receive have what the options --in-.. say.
 
 ";

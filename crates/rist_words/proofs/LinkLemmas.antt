@@ -5,6 +5,7 @@ use Rattle.std.specs.Prelude.{option_map}
 use Rattle.clap.specs.Words.{Text}
 use Rattle.link_channels.specs.declared.profile.Profile.{Profile}
 use Rattle.outside_net.specs.declared.link_spec.LinkSpec.{LinkSpec}
+use Rattle.outside_net.specs.declared.link_spec.Role.{Role}
 use Rattle.rist_words.specs.Values.{number_in, ◌>>=◌}
 use Rattle.rist_words.specs.Links.{colon, each_link, link_of, link_weights, split_at, weights_in}
 
@@ -18,36 +19,36 @@ one_more links link None = refl
 one_more links link (Some ls) = ap Some (sym (append_assoc links (link ∷ []) ls))
 
 -- the links that references from a place on write
-abbrev pub links_from : Profile → List (Bor Text) → ℕ → Option (List LinkSpec)
-links_from profile texts i = each_link profile (drop i (map (λ t. t.now) texts))
+abbrev pub links_from : Role → Profile → List (Bor Text) → ℕ → Option (List LinkSpec)
+links_from role profile texts i = each_link role profile (drop i (map (λ t. t.now) texts))
 
-next_at : (profile : Profile) (texts : List (Bor Text)) (i j : ℕ) (d : Bor Text) (links : List LinkSpec) (link : LinkSpec) → i < length texts → j ≡ i + 1
-    → link_of profile (get_or texts i d).now ≡ Some link
-    → links_with links (links_from profile texts i) ≡ links_with (links ++ link ∷ []) (links_from profile texts j)
-next_at profile [] i j d links link inside next is = absurd (omega arith)
-next_at profile (text ∷ texts) zero zero d links link inside next is = absurd (omega arith)
-next_at profile (text ∷ texts) zero (suc zero) d links link inside next is = rw is (one_more links link (each_link profile (map (λ t. t.now) texts)))
-next_at profile (text ∷ texts) zero (suc (suc j)) d links link inside next is = absurd (omega arith)
-next_at profile (text ∷ texts) (suc i) zero d links link inside next is = absurd (omega arith)
-next_at profile (text ∷ texts) (suc i) (suc j) d links link inside next is = next_at profile texts i j d links link (omega arith) (omega arith) is
+next_at : (role : Role) (profile : Profile) (texts : List (Bor Text)) (i j : ℕ) (d : Bor Text) (links : List LinkSpec) (link : LinkSpec) → i < length texts → j ≡ i + 1
+    → link_of role profile (get_or texts i d).now ≡ Some link
+    → links_with links (links_from role profile texts i) ≡ links_with (links ++ link ∷ []) (links_from role profile texts j)
+next_at role profile [] i j d links link inside next is = absurd (omega arith)
+next_at role profile (text ∷ texts) zero zero d links link inside next is = absurd (omega arith)
+next_at role profile (text ∷ texts) zero (suc zero) d links link inside next is = rw is (one_more links link (each_link role profile (map (λ t. t.now) texts)))
+next_at role profile (text ∷ texts) zero (suc (suc j)) d links link inside next is = absurd (omega arith)
+next_at role profile (text ∷ texts) (suc i) zero d links link inside next is = absurd (omega arith)
+next_at role profile (text ∷ texts) (suc i) (suc j) d links link inside next is = next_at role profile texts i j d links link (omega arith) (omega arith) is
 
-pub next_link : (profile : Profile) (texts : List (Bor Text)) (i : ℕ) (d : Bor Text) (links : List LinkSpec) (link : LinkSpec) → i < length texts
-    → link_of profile (get_or texts i d).now ≡ Some link
-    → links_with links (links_from profile texts i) ≡ links_with (links ++ link ∷ []) (links_from profile texts (i + 1))
-next_link profile texts i d links link inside is = next_at profile texts i (i + 1) d links link inside refl is
+pub next_link : (role : Role) (profile : Profile) (texts : List (Bor Text)) (i : ℕ) (d : Bor Text) (links : List LinkSpec) (link : LinkSpec) → i < length texts
+    → link_of role profile (get_or texts i d).now ≡ Some link
+    → links_with links (links_from role profile texts i) ≡ links_with (links ++ link ∷ []) (links_from role profile texts (i + 1))
+next_link role profile texts i d links link inside is = next_at role profile texts i (i + 1) d links link inside refl is
 
-pub no_link : (profile : Profile) (texts : List (Bor Text)) (i : ℕ) (d : Bor Text) (links : List LinkSpec) → i < length texts
-    → link_of profile (get_or texts i d).now ≡ None
-    → links_with links (links_from profile texts i) ≡ None
-no_link profile [] i d links inside is = absurd (omega arith)
-no_link profile (text ∷ texts) zero d links inside is = rw is refl
-no_link profile (text ∷ texts) (suc i) d links inside is = no_link profile texts i d links (omega arith) is
+pub no_link : (role : Role) (profile : Profile) (texts : List (Bor Text)) (i : ℕ) (d : Bor Text) (links : List LinkSpec) → i < length texts
+    → link_of role profile (get_or texts i d).now ≡ None
+    → links_with links (links_from role profile texts i) ≡ None
+no_link role profile [] i d links inside is = absurd (omega arith)
+no_link role profile (text ∷ texts) zero d links inside is = rw is refl
+no_link role profile (text ∷ texts) (suc i) d links inside is = no_link role profile texts i d links (omega arith) is
 
-pub no_more : (profile : Profile) (texts : List (Bor Text)) (i : ℕ) (links : List LinkSpec) → length texts ≤ i → links_with links (links_from profile texts i) ≡ Some links
-no_more profile [] zero links past = ap Some (append-nil links)
-no_more profile [] (suc i) links past = ap Some (append-nil links)
-no_more profile (text ∷ texts) zero links past = absurd (omega arith)
-no_more profile (text ∷ texts) (suc i) links past = no_more profile texts i links (omega arith)
+pub no_more : (role : Role) (profile : Profile) (texts : List (Bor Text)) (i : ℕ) (links : List LinkSpec) → length texts ≤ i → links_with links (links_from role profile texts i) ≡ Some links
+no_more role profile [] zero links past = ap Some (append-nil links)
+no_more role profile [] (suc i) links past = ap Some (append-nil links)
+no_more role profile (text ∷ texts) zero links past = absurd (omega arith)
+no_more role profile (text ∷ texts) (suc i) links past = no_more role profile texts i links (omega arith)
 
 -- ---- weights
 

@@ -9,6 +9,8 @@ use Rattle.std.specs.Str.Parse.{digits_value}
 use Rattle.std.proofs.lemmas.Bool.Decides.{nat_tests}
 use Rattle.clap.specs.Words.{Row, Text, first_of}
 use Rattle.outside_net.specs.declared.link_spec.LinkSpec.{LinkSpec}
+use Rattle.outside_net.specs.declared.link_spec.Role.{Role}
+use Rattle.outside_net.specs.declared.link_spec.Role.TheVariants.{Receives, Forwards}
 use Rattle.gre_tunnel.specs.declared.tunnel.Tunnel.{Tunnel}
 use Rattle.gre_tunnel.specs.declared.tunnel.Tunnel.TheVariants.{Own}
 use Rattle.link_channels.specs.declared.profile.Profile.{Profile}
@@ -225,12 +227,12 @@ stream_range profile rows s e =
     })
 
 -- as many links as texts
-pub each_count : (profile : Profile) (texts : List Text) (links : List LinkSpec) → each_link profile texts ≡ Some links → length links ≡ length texts
-each_count profile [] links e = sym (ap length (same_some [] links e))
-each_count profile (text ∷ texts) links e =
-    let link = reads (link_of profile text) _ links e in
-    let more = reads (each_link profile texts) _ links link.rest in
-    sym (ap length (same_some _ _ more.rest)) ∙ ap suc (each_count profile texts more.value more.is)
+pub each_count : (role : Role) (profile : Profile) (texts : List Text) (links : List LinkSpec) → each_link role profile texts ≡ Some links → length links ≡ length texts
+each_count role profile [] links e = sym (ap length (same_some [] links e))
+each_count role profile (text ∷ texts) links e =
+    let link = reads (link_of role profile text) _ links e in
+    let more = reads (each_link role profile texts) _ links link.rest in
+    sym (ap length (same_some _ _ more.rest)) ∙ ap suc (each_count role profile texts more.value more.is)
 
 pub texts_range : (given : Option (List Text)) (texts : List Text) → link_texts given ≡ Some texts → (1 ≤ length texts) × (length texts ≤ 16)
 texts_range None texts e = cc
@@ -240,12 +242,12 @@ texts_range (Some all) texts e = by_fit (nat_lt 0 (length all) && nat_lt (length
     by_fit true fit p = subst (λ ts. (1 ≤ length ts) × (length ts ≤ 16)) (same_some all texts p) (grind (arith, nat_tests), grind (arith, nat_tests))
     by_fit false fit p = cc
 
-pub links_range : (profile : Profile) (given : Option (List Text)) (links : List LinkSpec) → links_of profile given ≡ Some links
+pub links_range : (role : Role) (profile : Profile) (given : Option (List Text)) (links : List LinkSpec) → links_of role profile given ≡ Some links
     → (1 ≤ length links) × (length links ≤ 16)
-links_range profile given links e =
+links_range role profile given links e =
     let texts = reads (link_texts given) _ links e in
     let r = texts_range given texts.value texts.is in
-    let count = each_count profile texts.value links texts.rest in
+    let count = each_count role profile texts.value links texts.rest in
     (omega (arith, count, r.0), omega (arith, count, r.1))
 
 pub weight_range : (text : Text) (weight : ℕ) → number_in link_weights text ≡ Some weight → IsWeight weight
@@ -350,12 +352,12 @@ pub gate_links_range : (incoming onward : Profile) (given : Option (List Text)) 
 gate_links_range incoming onward given count links e =
     let texts = reads (link_texts given) _ links e in
     let inputs = reads (inputs_of (length texts.value) count) _ links texts.rest in
-    let received = reads (each_link incoming (take inputs.value texts.value)) _ links inputs.rest in
-    let sent = reads (each_link onward (drop inputs.value texts.value)) _ links received.rest in
+    let received = reads (each_link Receives incoming (take inputs.value texts.value)) _ links inputs.rest in
+    let sent = reads (each_link Forwards onward (drop inputs.value texts.value)) _ links received.rest in
     let r = texts_range given texts.value texts.is in
     let i = inputs_range (length texts.value) count inputs.value inputs.is in
-    let first = each_count incoming (take inputs.value texts.value) received.value received.is in
-    let rest = each_count onward (drop inputs.value texts.value) sent.value sent.is in
+    let first = each_count Receives incoming (take inputs.value texts.value) received.value received.is in
+    let rest = each_count Forwards onward (drop inputs.value texts.value) sent.value sent.is in
     let front : length (take inputs.value texts.value) ≡ inputs.value = length-take-le inputs.value texts.value (omega (arith, i.1)) in
     let back : length (drop inputs.value texts.value) ≡ length texts.value - inputs.value = length-drop inputs.value texts.value in
     subst AreGateLinks (same_some _ _ sent.rest) (record {

@@ -10,7 +10,7 @@ use Rattle.rist_words.specs.CommandLine.{CommandLine, Replay, Show, Count, Repor
 use Rattle.rist_words.specs.CommandLine.{delays, spans, restarts, gaps, leads, stores, holds, lingers, turn_counts, incoming_of, session_of, tunnel_session_of, pcap_of, stream_of, receiver_of, serving_of, watching_of}
 use Rattle.rist_words.specs.CommandLine.{drill_numbers, drill_counts, drill_links, drill_losses}
 use Rattle.rist_words.specs.CommandLine.{replay_of, show_of, count_of, pack_of, split_of, send_of, recv_of, fan_of, gate_of, drill_of, command_line, taken_line, line_of}
-use Rattle.rist_words.specs.Links.{gate_links_of, links_of, shares_of}
+use Rattle.rist_words.specs.Links.{gate_links_of, links_of, receiving_role, sending_role, shares_of}
 use Rattle.rist_words.specs.Outs.{outs_of}
 use Rattle.rist_words.specs.Ranges.{IsInReplay, IsInShow, IsInCount, IsInPack, IsInSplit, IsInSend, IsInRecv, IsInFan, IsInGate, IsInDrill, IsInRange, AreOutputs}
 use Rattle.rist_words.proofs.PartRanges.{reads, same_some, number_range, position_range, flag_simple, session_range, incoming_range, tunnel_session_range, udp_range, option_range, stream_range, links_range, share_range, receiver_range, serving_range, watching_range, gate_links_range}
@@ -128,9 +128,9 @@ send_range : (rows : List Row) (c : SendCommand) → send_of rows ≡ Some c →
 send_range rows c e =
     let source = reads (name_of (first_of (codes "source") rows)) _ c e in
     let session = reads (session_of rows) _ c source.rest in
-    let links = reads (links_of session.value.profile (all_of (codes "link") rows)) _ c session.rest in
-    let listens = reads (flag_of session.value.profile (first_of (codes "listen") rows)) _ c links.rest in
-    let stream = reads (stream_of session.value.profile rows) _ c listens.rest in
+    let listens = reads (flag_of session.value.profile (first_of (codes "listen") rows)) _ c session.rest in
+    let links = reads (links_of (sending_role listens.value) session.value.profile (all_of (codes "link") rows)) _ c listens.rest in
+    let stream = reads (stream_of session.value.profile rows) _ c links.rest in
     let gap = reads (number_of gaps (first_of (codes "gap") rows)) _ c stream.rest in
     let lead = reads (number_of leads (first_of (codes "lead") rows)) _ c gap.rest in
     let store = reads (number_of stores (first_of (codes "store") rows)) _ c lead.rest in
@@ -139,7 +139,7 @@ send_range rows c e =
     let linger = reads (number_of lingers (first_of (codes "linger") rows)) _ c share.rest in
     let turns = reads (number_of turn_counts (first_of (codes "turns") rows)) _ c linger.rest in
     let watching = reads (watching_of rows) _ c turns.rest in
-    let l = links_range session.value.profile (all_of (codes "link") rows) links.value links.is in
+    let l = links_range (sending_role listens.value) session.value.profile (all_of (codes "link") rows) links.value links.is in
     let g = number_range gaps (first_of (codes "gap") rows) gap.value default_gap gap.is in
     let d = number_range leads (first_of (codes "lead") rows) lead.value default_lead lead.is in
     let s = number_range stores (first_of (codes "store") rows) store.value default_store store.is in
@@ -170,12 +170,12 @@ recv_range : (rows : List Row) (c : RecvCommand) → recv_of rows ≡ Some c →
 recv_range rows c e =
     let out = reads (name_of (first_of (codes "out") rows)) _ c e in
     let session = reads (session_of rows) _ c out.rest in
-    let links = reads (links_of session.value.profile (all_of (codes "link") rows)) _ c session.rest in
-    let calls = reads (flag_of session.value.profile (first_of (codes "call") rows)) _ c links.rest in
-    let receiver = reads (receiver_of rows) _ c calls.rest in
+    let calls = reads (flag_of session.value.profile (first_of (codes "call") rows)) _ c session.rest in
+    let links = reads (links_of (receiving_role calls.value) session.value.profile (all_of (codes "link") rows)) _ c calls.rest in
+    let receiver = reads (receiver_of rows) _ c links.rest in
     let serving = reads (serving_of rows) _ c receiver.rest in
     let watching = reads (watching_of rows) _ c serving.rest in
-    let l = links_range session.value.profile (all_of (codes "link") rows) links.value links.is in
+    let l = links_range (receiving_role calls.value) session.value.profile (all_of (codes "link") rows) links.value links.is in
     subst IsInRecv (same_some _ _ watching.rest) (record {
       session = session_range rows session.value session.is;
       some_link = l.0;
@@ -190,13 +190,13 @@ fan_range : (rows : List Row) (c : FanCommand) → fan_of rows ≡ Some c → Is
 fan_range rows c e =
     let outs = reads (outs_of (first_of (codes "outs") rows)) _ c e in
     let session = reads (tunnel_session_of (slice_index outs.value.0 0) rows) _ c outs.rest in
-    let links = reads (links_of Main (all_of (codes "link") rows)) _ c session.rest in
+    let links = reads (links_of (receiving_role (is_set (first_of (codes "call") rows))) Main (all_of (codes "link") rows)) _ c session.rest in
     let receiver = reads (receiver_of rows) _ c links.rest in
     let serving = reads (serving_of rows) _ c receiver.rest in
     let watching = reads (watching_of rows) _ c serving.rest in
     let o = split_outs_range (first_of (codes "outs") rows) outs.value outs.is in
     let t = tunnel_session_range (slice_index outs.value.0 0) rows session.value (o.are.numbers 0 (omega (arith, o.some))) session.is in
-    let l = links_range Main (all_of (codes "link") rows) links.value links.is in
+    let l = links_range (receiving_role (is_set (first_of (codes "call") rows))) Main (all_of (codes "link") rows) links.value links.is in
     subst IsInFan (same_some _ _ watching.rest) (record {
       session = t.0;
       main = t.1;

@@ -3,6 +3,11 @@ use Rattle.std.proofs.Common.{◌≡◌, [], ◌∷◌, Some, None, codes, false
 use Rattle.clap.proofs.OnLiterals.{clap_on_literals}
 use Rattle.gre_tunnel.specs.declared.tunnel.Tunnel.TheVariants.{Librist, Own}
 use Rattle.link_channels.specs.declared.profile.Profile.TheVariants.{Main, Simple}
+use Rattle.outside_net.specs.Sockets.{plain_link}
+use Rattle.outside_net.specs.declared.link_spec.Role.TheVariants.{Forwards, Receives, Sends}
+use Rattle.host_text.specs.Hosts.{ipv4_address, ipv6_address}
+use Rattle.std.specs.Net.Reader.{read_ipv4, read_ipv6, read_number, read_octet, read_segment, read_segments}
+use Rattle.rist_words.specs.Links.{link_of}
 use Rattle.rist_words.specs.Commands.{command_in, faults_of}
 use Rattle.request_rules.specs.declared.policy.NackKind.TheVariants.{Mask, Range}
 use Rattle.rist_words.specs.CommandLine.{Count, Drill, Fan, Gate, Pack, Receiver, Recv, Replay, Report, Send, Serving, Session, Show, Split, Stream, Watching, line_of}
@@ -169,7 +174,7 @@ unwatched = record { capture = None; stats = None; stats_file = None }
 shared : line_of (codes "rist" ∷ codes "send" ∷ codes "-" ∷ codes "127.0.0.1:5000" ∷ codes "--share=3:1" ∷ codes "010.0.0.255:5002" ∷ [])
     ≡ Some (Send (record {
       source = codes "-";
-      links = record { address = 127 ∷ 0 ∷ 0 ∷ 1 ∷ []; port = 5000 } ∷ record { address = 10 ∷ 0 ∷ 0 ∷ 255 ∷ []; port = 5002 } ∷ [];
+      links = plain_link (ipv4_address (127 ∷ 0 ∷ 0 ∷ 1 ∷ [])) 5000 ∷ plain_link (ipv4_address (10 ∷ 0 ∷ 0 ∷ 255 ∷ [])) 5002 ∷ [];
       session = plain;
       stream = plain_stream;
       gap = 1000;
@@ -188,7 +193,7 @@ shared = refl
 led : line_of (codes "rist" ∷ codes "send" ∷ codes "--echo" ∷ codes "a" ∷ codes "127.0.0.1:5000" ∷ codes "--lead=200" ∷ [])
     ≡ Some (Send (record {
       source = codes "a";
-      links = record { address = 127 ∷ 0 ∷ 0 ∷ 1 ∷ []; port = 5000 } ∷ [];
+      links = plain_link (ipv4_address (127 ∷ 0 ∷ 0 ∷ 1 ∷ [])) 5000 ∷ [];
       session = record plain { echo = true };
       stream = plain_stream;
       gap = 1000;
@@ -223,7 +228,7 @@ plain_serving = record { turns = 1099511627776; idle = 0; keep = 0 }
 received : line_of (codes "rist" ∷ codes "recv" ∷ codes "--nack=mask" ∷ codes "-" ∷ codes "127.0.0.1:5000" ∷ codes "--idle" ∷ codes "5" ∷ [])
     ≡ Some (Recv (record {
       out = codes "-";
-      links = record { address = 127 ∷ 0 ∷ 0 ∷ 1 ∷ []; port = 5000 } ∷ [];
+      links = plain_link (ipv4_address (127 ∷ 0 ∷ 0 ∷ 1 ∷ [])) 5000 ∷ [];
       session = plain;
       receiver = record plain_receiver { nack = Mask };
       serving = record plain_serving { idle = 5 };
@@ -236,7 +241,7 @@ received = refl
 watched : line_of (codes "rist" ∷ codes "recv" ∷ codes "-" ∷ codes "127.0.0.1:5000" ∷ codes "--record=a" ∷ codes "--stats" ∷ codes "100" ∷ codes "--stats-file" ∷ codes "b" ∷ [])
     ≡ Some (Recv (record {
       out = codes "-";
-      links = record { address = 127 ∷ 0 ∷ 0 ∷ 1 ∷ []; port = 5000 } ∷ [];
+      links = plain_link (ipv4_address (127 ∷ 0 ∷ 0 ∷ 1 ∷ [])) 5000 ∷ [];
       session = plain;
       receiver = plain_receiver;
       serving = plain_serving;
@@ -258,7 +263,7 @@ fanned : line_of (codes "rist" ∷ codes "fan" ∷ codes "1970=b,1968=c" ∷ cod
     ≡ Some (Fan (record {
       ports = 1970 ∷ 1968 ∷ [];
       names = codes "b" ∷ codes "c" ∷ [];
-      links = record { address = 127 ∷ 0 ∷ 0 ∷ 1 ∷ []; port = 5000 } ∷ record { address = 127 ∷ 0 ∷ 0 ∷ 1 ∷ []; port = 5003 } ∷ [];
+      links = plain_link (ipv4_address (127 ∷ 0 ∷ 0 ∷ 1 ∷ [])) 5000 ∷ plain_link (ipv4_address (127 ∷ 0 ∷ 0 ∷ 1 ∷ [])) 5003 ∷ [];
       session = record plain { profile = Main; port = 1970; pass = Some (codes "p"); full = true };
       receiver = record plain_receiver { drift = true };
       serving = record plain_serving { idle = 5 };
@@ -282,8 +287,8 @@ fan_without_a_link = refl
 
 gateway : line_of (codes "rist" ∷ codes "gate" ∷ codes "127.0.0.1:5000" ∷ codes "127.0.0.1:5002" ∷ codes "--share=3" ∷ [])
     ≡ Some (Gate (record {
-      inputs = record { address = 127 ∷ 0 ∷ 0 ∷ 1 ∷ []; port = 5000 } ∷ [];
-      outputs = record { address = 127 ∷ 0 ∷ 0 ∷ 1 ∷ []; port = 5002 } ∷ [];
+      inputs = plain_link (ipv4_address (127 ∷ 0 ∷ 0 ∷ 1 ∷ [])) 5000 ∷ [];
+      outputs = plain_link (ipv4_address (127 ∷ 0 ∷ 0 ∷ 1 ∷ [])) 5002 ∷ [];
       incoming = plain;
       session = plain;
       receiver = plain_receiver;
@@ -300,8 +305,8 @@ gateway = refl
 into_a_tunnel : line_of (codes "rist" ∷ codes "gate" ∷ codes "127.0.0.1:5000" ∷ codes "127.0.0.1:5003" ∷ codes "--in-profile=simple" ∷ codes "--profile" ∷ codes "main"
     ∷ codes "--tunnel=librist" ∷ codes "--pass=p" ∷ codes "--bits=256" ∷ [])
     ≡ Some (Gate (record {
-      inputs = record { address = 127 ∷ 0 ∷ 0 ∷ 1 ∷ []; port = 5000 } ∷ [];
-      outputs = record { address = 127 ∷ 0 ∷ 0 ∷ 1 ∷ []; port = 5003 } ∷ [];
+      inputs = plain_link (ipv4_address (127 ∷ 0 ∷ 0 ∷ 1 ∷ [])) 5000 ∷ [];
+      outputs = plain_link (ipv4_address (127 ∷ 0 ∷ 0 ∷ 1 ∷ [])) 5003 ∷ [];
       incoming = plain;
       session = record plain { profile = Main; pass = Some (codes "p"); bits = 256; tunnel = Librist; echo = true };
       receiver = plain_receiver;
@@ -318,8 +323,8 @@ into_a_tunnel = refl
 out_of_a_tunnel : line_of (codes "rist" ∷ codes "gate" ∷ codes "127.0.0.1:5001" ∷ codes "127.0.0.1:5002" ∷ codes "--in-profile=main" ∷ codes "--in-port=1970" ∷ codes "--in-pass=p"
     ∷ codes "--in-bits=256" ∷ codes "--in-full" ∷ codes "--echo" ∷ [])
     ≡ Some (Gate (record {
-      inputs = record { address = 127 ∷ 0 ∷ 0 ∷ 1 ∷ []; port = 5001 } ∷ [];
-      outputs = record { address = 127 ∷ 0 ∷ 0 ∷ 1 ∷ []; port = 5002 } ∷ [];
+      inputs = plain_link (ipv4_address (127 ∷ 0 ∷ 0 ∷ 1 ∷ [])) 5001 ∷ [];
+      outputs = plain_link (ipv4_address (127 ∷ 0 ∷ 0 ∷ 1 ∷ [])) 5002 ∷ [];
       incoming = record { profile = Main; port = 1970; pass = Some (codes "p"); bits = 256; full = true; tunnel = Own; echo = false };
       session = record plain { echo = true };
       receiver = plain_receiver;
@@ -370,6 +375,42 @@ unfolding clap_on_literals faults_of command_in
 loss_above_all = refl
 
 -- a receiver calls, and a sender listens, in the Main Profile alone
+called : line_of (codes "rist" ∷ codes "recv" ∷ codes "-" ∷ codes "127.0.0.1:5001?from=127.0.0.2" ∷ codes "--call" ∷ codes "--profile=main" ∷ [])
+    ≡ Some (Recv (record {
+      out = codes "-";
+      links = record (plain_link (ipv4_address (127 ∷ 0 ∷ 0 ∷ 1 ∷ [])) 5001) { from = Some (ipv4_address (127 ∷ 0 ∷ 0 ∷ 2 ∷ [])) } ∷ [];
+      session = record plain { profile = Main };
+      receiver = plain_receiver;
+      serving = plain_serving;
+      calls = true;
+      watching = unwatched;
+    }))
+unfolding clap_on_literals faults_of command_in
+called = refl
+
+listening : line_of (codes "rist" ∷ codes "send" ∷ codes "-" ∷ codes "127.0.0.1:5001" ∷ codes "--listen" ∷ codes "--profile=main" ∷ [])
+    ≡ Some (Send (record {
+      source = codes "-";
+      links = plain_link (ipv4_address (127 ∷ 0 ∷ 0 ∷ 1 ∷ [])) 5001 ∷ [];
+      session = record plain { profile = Main };
+      stream = plain_stream;
+      gap = 1000;
+      lead = 0;
+      store = 4096;
+      hold = 20;
+      share = None;
+      linger = 1000;
+      turns = 1099511627776;
+      listens = true;
+      watching = unwatched;
+    }))
+unfolding clap_on_literals faults_of command_in
+listening = refl
+
+listening_from_an_address : line_of (codes "rist" ∷ codes "send" ∷ codes "-" ∷ codes "127.0.0.1:5001?from=127.0.0.2" ∷ codes "--listen" ∷ codes "--profile=main" ∷ []) ≡ None
+unfolding clap_on_literals faults_of command_in
+listening_from_an_address = refl
+
 simple_receiver_that_calls : line_of (codes "rist" ∷ codes "recv" ∷ codes "-" ∷ codes "127.0.0.1:5000" ∷ codes "--call" ∷ []) ≡ None
 unfolding clap_on_literals faults_of command_in
 simple_receiver_that_calls = refl
@@ -389,3 +430,50 @@ fifth_word = refl
 drill_with_an_option : line_of (codes "rist" ∷ codes "drill" ∷ codes "7" ∷ codes "200" ∷ codes "2" ∷ codes "100" ∷ codes "--port=2" ∷ []) ≡ None
 unfolding clap_on_literals faults_of command_in
 drill_with_an_option = refl
+
+-- ---- links over IPv6, and local addresses
+
+loopback : link_of Receives Simple (codes "[::1]:5000") ≡ Some (plain_link (ipv6_address (0 ∷ 0 ∷ 0 ∷ 0 ∷ 0 ∷ 0 ∷ 0 ∷ 1 ∷ [])) 5000)
+unfolding read_ipv4 read_ipv6 read_number read_octet read_segment read_segments
+loopback = refl
+
+embedded : link_of Receives Main (codes "[64:FF9B::10.9.2.1]:5001") ≡ Some (plain_link (ipv6_address (0x64 ∷ 0xff9b ∷ 0 ∷ 0 ∷ 0 ∷ 0 ∷ 0x0a09 ∷ 0x0201 ∷ [])) 5001)
+unfolding read_ipv4 read_ipv6 read_number read_octet read_segment read_segments
+embedded = refl
+
+two_gaps : link_of Receives Simple (codes "[1::2::3]:5000") ≡ None
+unfolding read_ipv4 read_ipv6 read_number read_octet read_segment read_segments
+two_gaps = refl
+
+eight_and_a_gap : link_of Receives Simple (codes "[1:2:3:4::5:6:7:8]:5000") ≡ None
+unfolding read_ipv4 read_ipv6 read_number read_octet read_segment read_segments
+eight_and_a_gap = refl
+
+from_one : link_of Sends Simple (codes "10.0.0.1:5000?from=10.9.2.1")
+    ≡ Some (record { address = ipv4_address (10 ∷ 0 ∷ 0 ∷ 1 ∷ []); port = 5000; from = Some (ipv4_address (10 ∷ 9 ∷ 2 ∷ 1 ∷ [])); ttl = None })
+from_one = refl
+
+from_one_of_ipv6 : link_of Forwards Simple (codes "[2001:db8::7]:5000?from=2001:db8::1")
+    ≡ Some (record {
+      address = ipv6_address (0x2001 ∷ 0xdb8 ∷ 0 ∷ 0 ∷ 0 ∷ 0 ∷ 0 ∷ 7 ∷ []);
+      port = 5000;
+      from = Some (ipv6_address (0x2001 ∷ 0xdb8 ∷ 0 ∷ 0 ∷ 0 ∷ 0 ∷ 0 ∷ 1 ∷ []));
+      ttl = None;
+    })
+unfolding read_ipv4 read_ipv6 read_number read_octet read_segment read_segments
+from_one_of_ipv6 = refl
+
+from_another_kind : link_of Sends Simple (codes "10.0.0.1:5000?from=::1") ≡ None
+unfolding read_ipv4 read_ipv6 read_number read_octet read_segment read_segments
+from_another_kind = refl
+
+from_where_it_receives : link_of Receives Simple (codes "10.0.0.1:5000?from=10.9.2.1") ≡ None
+from_where_it_receives = refl
+
+passing_networks : link_of Sends Simple (codes "10.0.0.1:5000?ttl=8&from=10.9.2.1")
+    ≡ Some (record { address = ipv4_address (10 ∷ 0 ∷ 0 ∷ 1 ∷ []); port = 5000; from = Some (ipv4_address (10 ∷ 9 ∷ 2 ∷ 1 ∷ [])); ttl = Some 8 })
+passing_networks = refl
+
+passing_networks_of_ipv6 : link_of Sends Simple (codes "[::1]:5000?ttl=8") ≡ None
+unfolding read_ipv4 read_ipv6 read_number read_octet read_segment read_segments
+passing_networks_of_ipv6 = refl

@@ -14,7 +14,7 @@ use Rattle.request_rules.specs.declared.policy.NackKind.{NackKind}
 use Rattle.rist_words.specs.Values.{echo_of, flag_of, is_set, nack_of, name_if, name_of, number_at, number_if}
 use Rattle.rist_words.specs.Values.{number_in, number_of}
 use Rattle.rist_words.specs.Values.{phrase_of, profile_of, tunnel_of, ◌>>=◌}
-use Rattle.rist_words.specs.Links.{gate_links_of, link_ports, links_of, shares_of}
+use Rattle.rist_words.specs.Links.{gate_links_of, link_ports, links_of, receiving_role, sending_role, shares_of}
 use Rattle.rist_words.specs.Outs.{outs_of}
 pub use Rattle.rist_words.specs.Outs.{ports}
 
@@ -476,8 +476,8 @@ abbrev pub send_of : List Row → Option SendCommand
 send_of rows = do
   source ← name_of (first_of (codes "source") rows)
   session ← session_of rows
-  links ← links_of session.profile (all_of (codes "link") rows)
   listens ← flag_of session.profile (first_of (codes "listen") rows)
+  links ← links_of (sending_role listens) session.profile (all_of (codes "link") rows)
   stream ← stream_of session.profile rows
   gap ← number_of gaps (first_of (codes "gap") rows)
   lead ← number_of leads (first_of (codes "lead") rows)
@@ -539,8 +539,8 @@ abbrev pub recv_of : List Row → Option RecvCommand
 recv_of rows = do
   out ← name_of (first_of (codes "out") rows)
   session ← session_of rows
-  links ← links_of session.profile (all_of (codes "link") rows)
   calls ← flag_of session.profile (first_of (codes "call") rows)
+  links ← links_of (receiving_role calls) session.profile (all_of (codes "link") rows)
   receiver ← receiver_of rows
   serving ← serving_of rows
   watching ← watching_of rows
@@ -559,7 +559,7 @@ abbrev pub fan_of : List Row → Option FanCommand
 fan_of rows = do
   outs ← outs_of (first_of (codes "outs") rows)
   session ← tunnel_session_of (slice_index outs.0 0) rows
-  links ← links_of Main (all_of (codes "link") rows)
+  links ← links_of (receiving_role (is_set (first_of (codes "call") rows))) Main (all_of (codes "link") rows)
   receiver ← receiver_of rows
   serving ← serving_of rows
   watching ← watching_of rows

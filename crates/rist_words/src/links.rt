@@ -1,21 +1,16 @@
 //! Links, and the weights by which they share a stream.
 ghost use Rattle.std.specs.Prelude.{◌≡◌, ◌<◌, ◌≤◌, ◌++◌, ◌∷◌, [], Err, Some, None, IfOk, IfSome, OnOk, codes, length, map, option_map};
 ghost use Rattle.clap.specs.Words.{all_of, first_of, found_of, rows_of};
-ghost use Rattle.rist_words.specs.Links.{address_of, each_link, gate_links_of, input_counts, inputs_of, link_of, link_ports, link_texts, links_of, shares_of, split_at, weights_in};
+ghost use Rattle.rist_words.specs.Links.{each_link, gate_links_of, input_counts, inputs_of, link_of, link_ports, link_texts, links_of, receiving_role, sending_role, settings_in, shares_of, split_at, weights_in};
 
 use crate::lines::Refused;
 use crate::values::{Numbers, given, number, number_in};
 use clap::ArgMatches;
+use host_text::{Settings, first_part, place_of};
 use link_channels::{MAX_LINKS, Profile};
-use outside_net::LinkSpec;
+use outside_net::{LinkSpec, Role};
 use std::alloc::{AllocError, Global};
-
-const ADDRESS: Numbers = Numbers {
-    default: 0,
-    least: 0,
-    most: 255,
-    multiple_of: 1,
-};
+use std::net::IpAddr;
 
 const WEIGHT: Numbers = Numbers {
     default: 1,
@@ -24,20 +19,21 @@ const WEIGHT: Numbers = Numbers {
     multiple_of: 1,
 };
 
-/// The links of a command, one to sixteen.
+/// The links of a command, one to sixteen, all in a role.
 pub fn links(
     alloc: Global,
     values: &ArgMatches<'_>,
+    role: Role,
     profile: Profile,
 ) -> Result<Vec<LinkSpec>, Refused>
     ensures ok { IfOk result (λ links.
-        links_of profile (all_of (codes "link") (rows_of (found_of values.now))) ≡ Some links.items) }
+        links_of role profile (all_of (codes "link") (rows_of (found_of values.now))) ≡ Some links.items) }
     ensures usage { result ≡ Err Refused.Usage
-        → links_of profile (all_of (codes "link") (rows_of (found_of values.now))) ≡ None }
+        → links_of role profile (all_of (codes "link") (rows_of (found_of values.now))) ≡ None }
     ensures some { IfOk result (λ links. 1 ≤ length links.items) }
 {
     match link_texts(values) {
-        Some(texts) => each_link(alloc, profile, texts),
+        Some(texts) => each_link(alloc, role, profile, texts),
         None => Err(Refused::Usage),
     }
 }
@@ -72,8 +68,8 @@ pub fn gate_links(
     let texts = link_texts(values).ok_or(Refused::Usage)?;
     let count = inputs_of(values, texts.len()).ok_or(Refused::Usage)?;
     let (received, sent) = texts.split_at(count);
-    let inputs = each_link(alloc, incoming, received)?;
-    let outputs = each_link(alloc, onward, sent)?;
+    let inputs = each_link(alloc, Role::Receives, incoming, received)?;
+    let outputs = each_link(alloc, Role::Forwards, onward, sent)?;
     Ok((inputs, outputs))
 }
 
@@ -109,14 +105,19 @@ pub fn all_given<'m, 'a>(matches: &'m ArgMatches<'a>, id: &str) -> Option<&'m [&
 }
 
 /// These texts as links.
-fn each_link(alloc: Global, profile: Profile, texts: &[&str]) -> Result<Vec<LinkSpec>, Refused>
-    ensures ok { IfOk result (λ links. each_link profile (map (λ t. t.now) texts.now) ≡ Some links.items) }
-    ensures usage { result ≡ Err Refused.Usage → each_link profile (map (λ t. t.now) texts.now) ≡ None }
+fn each_link(
+    alloc: Global,
+    role: Role,
+    profile: Profile,
+    texts: &[&str],
+) -> Result<Vec<LinkSpec>, Refused>
+    ensures ok { IfOk result (λ links. each_link role profile (map (λ t. t.now) texts.now) ≡ Some links.items) }
+    ensures usage { result ≡ Err Refused.Usage → each_link role profile (map (λ t. t.now) texts.now) ≡ None }
     ensures count { IfOk result (λ links. length links.items ≡ length texts.now) }
 {
     let mut links = Vec::new(alloc);
     for text in texts {
-        match link_of(profile, text) {
+        match link_of(role, profile, text) {
             Some(link) => push(&mut links, link)?,
             None => return Err(Refused::Usage),
         }
@@ -124,14 +125,54 @@ fn each_link(alloc: Global, profile: Profile, texts: &[&str]) -> Result<Vec<Link
     Ok(links)
 }
 
-/// A link: `a.b.c.d:port`.
-pub fn link_of(profile: Profile, text: &str) -> Option<LinkSpec>
-    ensures { result ≡ link_of profile text.now }
+/// A link in a role: `a.b.c.d:port` or `[ADDRESS]:port`, and behind a question mark, where it calls, how datagrams leave this
+/// machine.
+pub fn link_of(role: Role, profile: Profile, text: &str) -> Option<LinkSpec>
+    ensures { result ≡ link_of role profile text.now }
 {
-    let (address, port) = split_at(text, ':')?;
-    let address = address_of(address)?;
+    let (place, settings) = first_part(text, '?');
+    let (address, port) = place_of(place)?;
     let port = number_in(port, link_ports(profile))? as u16;
-    Some(LinkSpec { address, port })
+    let settings = settings_in(role, address, settings)?;
+    Some(LinkSpec {
+        address,
+        port,
+        from: settings.from,
+        ttl: settings.ttl,
+    })
+}
+
+/// The role of the links that a stream is received on: they call, or they listen.
+pub fn receiving_role(calls: bool) -> Role
+    ensures value { result ≡ receiving_role calls }
+{
+    if calls {
+        Role::ReceivesCalling
+    } else {
+        Role::Receives
+    }
+}
+
+/// The role of the links that a source is sent on: they listen, or they call.
+pub fn sending_role(listens: bool) -> Role
+    ensures value { result ≡ sending_role listens }
+{
+    if listens {
+        Role::SendsListening
+    } else {
+        Role::Sends
+    }
+}
+
+/// How datagrams of a link to an address leave this machine. Of one that listens nothing is written.
+fn settings_in(role: Role, address: IpAddr, text: Option<&str>) -> Option<Settings>
+    ensures { result ≡ settings_in role address (option_map (λ t. t.now) text.entry) }
+{
+    match (role, text) {
+        (Role::Receives | Role::SendsListening, None) => Some(Settings::none()),
+        (Role::Receives | Role::SendsListening, Some(_)) => None,
+        (Role::ReceivesCalling | Role::Sends | Role::Forwards, text) => Settings::to(address, text),
+    }
 }
 
 /// The ports that a link can have: in the Simple Profile even ones, since RTCP has the next one.
@@ -154,21 +195,6 @@ pub fn link_ports(profile: Profile) -> Numbers
             multiple_of: 1,
         },
     }
-}
-
-/// An address of IPv4.
-fn address_of(text: &str) -> Option<[u8; 4]>
-    ensures { result ≡ address_of text.now }
-{
-    let (a, rest) = split_at(text, '.')?;
-    let (b, rest) = split_at(rest, '.')?;
-    let (c, d) = split_at(rest, '.')?;
-    Some([
-        number_in(a, ADDRESS)? as u8,
-        number_in(b, ADDRESS)? as u8,
-        number_in(c, ADDRESS)? as u8,
-        number_in(d, ADDRESS)? as u8,
-    ])
 }
 
 /// The text before the first of a mark, and the text behind it.

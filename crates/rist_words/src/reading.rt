@@ -9,7 +9,7 @@ use crate::lines::{
     CountLine, FanLine, GateLine, Line, PackLine, RecvLine, Refused, ReplayLine, SendLine,
     ShowLine, SplitLine,
 };
-use crate::links::{gate_links, links, share};
+use crate::links::{gate_links, links, receiving_role, sending_role, share};
 use crate::matching::matched;
 use crate::outs::outs;
 use crate::pcap::pcap;
@@ -198,8 +198,8 @@ fn send_line<'a>(alloc: Global, values: &ArgMatches<'a>) -> Result<SendLine<'a>,
 {
     let source = name(values, "source").ok_or(Refused::Usage)?;
     let session = session(values).ok_or(Refused::Usage)?;
-    let links = links(alloc, values, session.profile)?;
     let listens = flag(values, "listen", session.profile).ok_or(Refused::Usage)?;
+    let links = links(alloc, values, sending_role(listens), session.profile)?;
     let stream = stream(values, session.profile).ok_or(Refused::Usage)?;
     let gap = number(values, "gap", GAP).ok_or(Refused::Usage)?;
     let lead = number(values, "lead", LEAD).ok_or(Refused::Usage)?;
@@ -229,8 +229,8 @@ fn recv_line<'a>(alloc: Global, values: &ArgMatches<'a>) -> Result<RecvLine<'a>,
 {
     let out = name(values, "out").ok_or(Refused::Usage)?;
     let session = session(values).ok_or(Refused::Usage)?;
-    let links = links(alloc, values, session.profile)?;
     let calls = flag(values, "call", session.profile).ok_or(Refused::Usage)?;
+    let links = links(alloc, values, receiving_role(calls), session.profile)?;
     Ok(RecvLine {
         out,
         links,
@@ -249,12 +249,13 @@ fn fan_line<'a>(alloc: Global, values: &ArgMatches<'a>) -> Result<FanLine<'a>, R
     let (ports, names) = outs(alloc, values)?;
     let first = ports[0];
     let session = tunnel_session(values, first).ok_or(Refused::Usage)?;
-    let links = links(alloc, values, Profile::Main)?;
+    let calls = is_set(values, "call");
+    let links = links(alloc, values, receiving_role(calls), Profile::Main)?;
     Ok(FanLine {
         ports,
         names,
         links,
-        calls: is_set(values, "call"),
+        calls,
         session,
         receiver: receiver(values).ok_or(Refused::Usage)?,
         serving: serving(values).ok_or(Refused::Usage)?,

@@ -6,7 +6,7 @@ use Rattle.outside_host.specs.declared.host.Opened.{Opened}
 use Rattle.rist_words.specs.CommandLine.{FanCommand}
 use Rattle.run_parts.specs.Places.{CameBack}
 use Rattle.run_parts.specs.Frame.{KeepsLinksBut}
-use Rattle.run_parts.specs.Roles.{receiving_role}
+use Rattle.rist_words.specs.Links.{receiving_role}
 use Rattle.run_links.specs.Frame.{KeepsWords}
 use Rattle.run_fan.specs.Sessions.{output_name}
 

@@ -10,5 +10,4 @@ pub mod Names
 pub mod Sessions
 pub mod Sealing
 pub mod Frame
-pub mod Roles
 pub mod Complete

@@ -2,14 +2,12 @@
 //! contract sees what the host's objects tell before and after.
 #![tactic(auto)]
 
-mod roles;
 mod sealing;
 mod sessions;
 mod status;
 mod telling;
 mod watching;
 
-pub use roles::{receiving_role, sending_role};
 pub use sealing::sealer_for;
 pub use sessions::session_of;
 pub use status::Status;

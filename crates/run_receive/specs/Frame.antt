@@ -5,7 +5,7 @@ use Rattle.outside_host.specs.declared.host.Opened.{Opened}
 use Rattle.rist_words.specs.CommandLine.{RecvCommand}
 use Rattle.run_parts.specs.Places.{CameBack}
 use Rattle.run_parts.specs.Frame.{KeepsLinksBut}
-use Rattle.run_parts.specs.Roles.{receiving_role}
+use Rattle.rist_words.specs.Links.{receiving_role}
 use Rattle.run_links.specs.Frame.{KeepsWords}
 
 -- what a receiving doesn't speak of stands as it stood, and what it speaks of came back

@@ -31,7 +31,7 @@ use Rattle.run_parts.specs.declared.status.Status.TheVariants as statuses
 use Rattle.run_parts.specs.Causes.{CanRefuse, fault_of}
 use Rattle.run_parts.proofs.HandedLemmas.{places_between}
 use Rattle.run_parts.proofs.PeerLemmas.{stated_known}
-use Rattle.run_parts.specs.Roles.{sending_role}
+use Rattle.rist_words.specs.Links.{sending_role}
 
 -- a sender is set to what a line says
 pub record IsSetTo (s : SenderState) (c : SendCommand) : Type 0 where

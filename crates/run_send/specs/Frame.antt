@@ -5,7 +5,7 @@ use Rattle.outside_host.specs.declared.host.Opened.{Opened}
 use Rattle.rist_words.specs.CommandLine.{SendCommand}
 use Rattle.run_parts.specs.Places.{CameBack}
 use Rattle.run_parts.specs.Frame.{KeepsLinksBut}
-use Rattle.run_parts.specs.Roles.{sending_role}
+use Rattle.rist_words.specs.Links.{sending_role}
 
 -- all clocks and random words stand as they stood but for the first of each, which came back; the first words too where
 -- none are drawn

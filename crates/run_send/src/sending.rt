@@ -24,8 +24,8 @@ use psk_seal::Sealer;
 use rist_send::{SendFault, SendSettings, send};
 use rist_sender::{Sender, Settings};
 use rist_wire::Opener;
-use rist_words::SendLine;
-use run_parts::{Status, Telling, sealer_for, sending_role, session_of, watch};
+use rist_words::{SendLine, sending_role};
+use run_parts::{Status, Telling, sealer_for, session_of, watch};
 use std::alloc::Global;
 
 // How the links of a line have its packets.

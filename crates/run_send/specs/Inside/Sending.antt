@@ -13,7 +13,7 @@ use Rattle.rist_send.specs.declared.fault.SendFault.{SendFault}
 use Rattle.rist_words.specs.CommandLine.{SendCommand}
 use Rattle.run_parts.specs.Places.{HandedOut}
 use Rattle.run_parts.specs.Objects.{Tells, TellsLive}
-use Rattle.run_parts.specs.Roles.{sending_role}
+use Rattle.rist_words.specs.Links.{sending_role}
 use Rattle.run_parts.specs.Sealing.{DrawnFirst, IsFreshFor}
 use Rattle.run_send.specs.Sent.{no_work, outside_left, outside_of, send_status}
 use Rattle.run_send.specs.Sessions.{session_sent, setup_sent}

@@ -11,7 +11,7 @@ returns-in-Err-clause-refused c = λ fault is.
 pub returns-in-None-clause-ok : goal.returns-in-None-clause-ok
 returns-in-None-clause-ok c =
     c.loop.invariant.2
-    ∙ last_parameter (16 - c.loop.counter) _ _ _ _ _ _ _ (omega (arith, c.loop-test.true)) (last_part c.first_part.result _ c.first_part.ensures c.in-None.is) c.in-Ok.ensures.ok c.in_ok-push_word.ensures.ok
+    ∙ last_parameter (16 - c.loop.counter) _ _ _ _ _ _ (omega (arith, c.loop-test.true)) (last_part c.first_part.result _ c.first_part.ensures c.in-None.is) c.in-Ok.ensures.ok
 
 pub loop-preserved : goal.loop-preserved
 loop-preserved c =
@@ -19,9 +19,9 @@ loop-preserved c =
       search rules,
       omega (arith, c.loop-test.true),
       c.loop.invariant.2
-          ∙ next_parameter (16 - c.loop.counter) c.args.command.now c.args.url.now _ (map string_bytes c.push_word.new.words.items) c.loop.rest.now _ c.in-Some.next.now (string_bytes c.in-Ok.word) (omega (arith, c.loop-test.true))
-          (part_with_more c.first_part.result _ _ c.first_part.ensures c.in-Some.is) c.in-Ok.ensures.ok c.in_ok-push_word.ensures.ok
-          ∙ ap (λ k. parameters_in k c.args.command.now c.args.url.now (map string_bytes c.push_word.new.words.items) (Some c.in-Some.next.now)) less,
+          ∙ next_parameter (16 - c.loop.counter) c.args.command.now c.args.url.now _ (map string_bytes c.push_parameter.new.options.items) c.loop.rest.now _ c.in-Some.next.now (omega (arith, c.loop-test.true))
+          (part_with_more c.first_part.result _ _ c.first_part.ensures c.in-Some.is) c.in-Ok.ensures.ok
+          ∙ ap (λ k. parameters_in k c.args.command.now c.args.url.now (map string_bytes c.push_parameter.new.options.items) (Some c.in-Some.next.now)) less,
     )
 
 pub returns-clause-refused : goal.returns-clause-refused

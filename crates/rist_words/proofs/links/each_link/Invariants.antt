@@ -5,4 +5,4 @@ use Rattle.rist_words.proofs.links.each_link.Given as goal
 
 abbrev pub invariant-loop-text : goal.invariant-loop-text
 invariant-loop-text l =
-    (length l.links.items ≡ l.text-index) × (each_link l.profile (map (λ t. t.now) l.texts) ≡ links_with l.links.items (links_from l.profile l.texts l.text-index))
+    (length l.links.items ≡ l.text-index) × (each_link l.role l.profile (map (λ t. t.now) l.texts) ≡ links_with l.links.items (links_from l.role l.profile l.texts l.text-index))
