@@ -18,11 +18,11 @@ use Rattle.rist_desk.specs.Desk.{DeskState, Given, IsDesk, IsNew, StandsFor, is_
 use Rattle.rist_desk.proofs.DeskLemmas.{Stepped}
 use Rattle.turn_lock.specs.History.{added}
 use Rattle.turn_desk.specs.Stands.{Stands, kept_with, with_end}
-use Rattle.turn_desk.proofs.SharedLemmas.{answers_after, stands_more}
+use Rattle.turn_desk.proofs.SharedLemmas.{answers_after, figures_kept, stands_more}
 use Rattle.turn_desk.proofs.EndLemmas.{end_cause, stands_ended}
 use Rattle.rist_fan.specs.declared.flow.Flow.{Flow}
 use Rattle.rist_fan.specs.declared.flow.Came.{Came}
-use Rattle.rist_fan.specs.Fan.{AllAnswer, AllStep, AreNew, FanEnded, FanStands, StepsFlow, outcome_in, step_come}
+use Rattle.rist_fan.specs.Fan.{AllAnswer, AllFigures, AllStep, AreNew, FanEnded, FanStands, StepsFlow, outcome_in, step_come}
 use Rattle.rist_fan.specs.Seen.{Alike, AreAlikeIn, FanStep, KeptAsRefused, Same, fan_step, is_for, row_from, seen, told_for, what_for}
 
 -- ---- its own step
@@ -196,6 +196,23 @@ module _ {K : Type 0} (contents : K → Option (List ℕ)) (faults : K → ℕ) 
       let step : StepsFlow contents faults mine one after had came = steps v one after had came held.1 next.1 at_was at_is in
       answers_after (given v) mine came.answer had.outs came.outs one.receiver after.receiver (contents one.sink) (contents after.sink) (faults one.sink) (faults after.sink) (seen v before)
       (stepped mine one after had came (seen v before) step) step.outs (stands v one held.1)
+
+  -- and its figures are those of what it saw
+  pub all_figures : (given : ℕ → Given) (place : Option ℕ) (told : Told) (old new : List (Flow K)) (was is : List Came) (before : List FanStep)
+      → length new ≡ length old → length was ≡ length old → length is ≡ length was → IsNoEnd told.what
+      → AllStep contents faults place told old new was is
+      → FanStands given contents faults old before → AllFigures given (step_come place told is ∷ before) is
+  all_figures given place told old new was is before as_many room as_long none steps stands v came at_is =
+      let inside : v < length old = subst (λ (n : ℕ). v < n) (as_long ∙ room) (slice_get_within is v came at_is) in
+      let held = at_some old v inside in
+      let next = at_some new v (subst (λ (n : ℕ). v < n) (sym as_many) inside) in
+      let had = at_some was v (subst (λ (n : ℕ). v < n) (sym room) inside) in
+      let one : Flow K = held.0 in
+      let after : Flow K = next.0 in
+      let prior : Came = had.0 in
+      let step : StepsFlow contents faults (told_for (is_for place v) told) one after prior came = steps v one after prior came held.1 next.1 had.1 at_is in
+      figures_kept (given v) after.receiver (contents after.sink) (faults after.sink) (seen v (step_come place told is ∷ before)) came.figures
+      (all_stand given place told old new was is before as_many room as_long none steps stands v after next.1) step.figures
 
   pub all_end : (given : ℕ → Given) (old new : List (Flow K)) (was is : List Came) (before : List FanStep)
       → length new ≡ length old → length was ≡ length old

@@ -7,9 +7,10 @@ use Rattle.rist_ends.specs.declared.outcome.Answer.TheVariants as answers
 use Rattle.rist_ends.specs.declared.outcome.Outcome.{Outcome}
 use Rattle.rist_ends.specs.Outcome.{outcome_with, is_write_fault}
 use Rattle.rist_ends.specs.Receiver.{Steps, settings_of}
+use Rattle.rist_ends.specs.Figures.{figures_of}
 use Rattle.rist_desk.specs.declared.step.Step.{Step}
 use Rattle.rist_desk.specs.Made.{end_told}
-use Rattle.rist_desk.specs.Desk.{Given, IsNew, StandsFor, is_cut_off}
+use Rattle.rist_desk.specs.Desk.{AreFiguresAfter, Given, IsNew, StandsFor, is_cut_off}
 use Rattle.turn_desk.specs.Stands.{Answers, Stands, kept_with}
 use Rattle.rist_fan.specs.declared.fan.Fan.{Fan}
 use Rattle.rist_fan.specs.declared.flow.Flow.{Flow}
@@ -53,6 +54,7 @@ pub record StepsFlow {K : Type 0} (contents : K → Option (List ℕ)) (faults :
   pub cause : RoseWhere (is_write_fault (outcome_in is)) (faults old.sink) (faults new.sink)
   pub same : is.answer ≡ answers.Stopped → (new.receiver ≡ old.receiver) × (new.sink ≡ old.sink)
   pub outs : is.answer ≢ answers.Made → is.outs ≡ was.outs
+  pub figures : is.figures ≡ figures_of new.receiver
 
 -- each receiver made its step of what is told for one of them or for none
 abbrev pub AllStep : {K : Type 0} → (K → Option (List ℕ)) → (K → ℕ) → Option ℕ → Told → List (Flow K) → List (Flow K)
@@ -68,6 +70,11 @@ abbrev pub AllAnswer : (ℕ → Given) → List FanStep → Option ℕ → Told 
 AllAnswer given history place told was is =
     (v : ℕ) (had came : Came) → slice_get was v ≡ Some had → slice_get is v ≡ Some came
     → Answers (given v) (seen v history) (told_for (is_for place v) told) had.outs came.outs came.answer
+
+-- the figures of each are those of what its receiver saw of a history
+abbrev pub AllFigures : (ℕ → Given) → List FanStep → List Came → Type 0
+AllFigures given history is =
+    (v : ℕ) (came : Came) → slice_get is v ≡ Some came → AreFiguresAfter (given v) (seen v history) came.figures
 
 -- ---- the end
 

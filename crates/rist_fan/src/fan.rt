@@ -5,7 +5,7 @@ ghost use Rattle.rist_ends.specs.Told.{IsFit, IsNoEnd};
 ghost use Rattle.rist_desk.specs.Made.{end_told};
 ghost use Rattle.rist_desk.specs.Desk.{Given};
 ghost use Rattle.rist_fan.specs.Seen.{FanStep};
-ghost use Rattle.rist_fan.specs.Fan.{AllAnswer, AllStep, AreNew, FanEnded, FanStands, flows_in, step_come};
+ghost use Rattle.rist_fan.specs.Fan.{AllAnswer, AllFigures, AllStep, AreNew, FanEnded, FanStands, flows_in, step_come};
 ghost use Rattle.rist_fan.specs.Lends.{first_sink, lends_sink};
 
 use crate::flow::{Came, Flow};
@@ -53,6 +53,10 @@ impl<K: Sink> Fan<K> {
         ensures answers { (given : ℕ → Given) (history : List FanStep)
             → FanStands given K.contents K.faults (flows_in self.old) history
             → AllAnswer given history place told.now came.old came.new }
+        // And the figures of each are those of what it saw of the history with this step.
+        ensures figures { (given : ℕ → Given) (history : List FanStep)
+            → FanStands given K.contents K.faults (flows_in self.old) history
+            → AllFigures given (step_come place told.now came.new ∷ history) came.new }
     {
         step_all(&mut self.first, &mut self.more, place, told, came);
     }

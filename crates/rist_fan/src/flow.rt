@@ -1,6 +1,7 @@
 //! One of several flows, and what a step came to there.
 ghost use Rattle.std.specs.Prelude.{◌≡◌, [], None};
 
+use outside_net::ReceiverFigures;
 use rist_ends::{Answer, Outs, Receiver};
 
 /// A receiver and its sink.
@@ -16,6 +17,8 @@ pub struct Came {
     pub answer: Answer,
     /// The datagrams that it made, where the answer is `Made`.
     pub outs: Outs,
+    /// The receiver's figures after it.
+    pub figures: ReceiverFigures,
 }
 
 impl Came {
@@ -27,6 +30,7 @@ impl Came {
         Came {
             answer: Answer::Nothing,
             outs: Outs::none(),
+            figures: ReceiverFigures::default(),
         }
     }
 }

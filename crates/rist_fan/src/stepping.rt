@@ -18,6 +18,7 @@ fn step_flow<K: Sink>(flow: &mut Flow<K>, own: bool, told: &Told<'_>, came: &mut
     came.answer = flow
         .receiver
         .step_into(&told, &mut came.outs, &mut flow.sink);
+    came.figures = flow.receiver.figures();
 }
 
 // The receiver at place 0 makes its step.

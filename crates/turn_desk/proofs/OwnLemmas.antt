@@ -12,7 +12,8 @@ use Rattle.rist_ends.specs.Outcome.{outcome_with}
 use Rattle.rist_desk.specs.declared.step.Step.{Step}
 use Rattle.rist_desk.specs.Legal.{phase_of}
 use Rattle.rist_desk.specs.Made.{step_after, steps_with}
-use Rattle.rist_desk.specs.Desk.{Given, IsDueAfter, is_cut_off}
+use Rattle.rist_desk.specs.declared.figured.Figured.{Figured}
+use Rattle.rist_desk.specs.Desk.{AreFiguresAfter, AreFiguresThere, Given, IsDueAfter, is_cut_off}
 use Rattle.rist_desk.specs.Sending.{IsDueThere}
 use Rattle.turn_lock.specs.History.{added}
 use Rattle.turn_lock.specs.declared.pass.Pass.{Pass}
@@ -21,7 +22,7 @@ use Rattle.turn_lock.specs.Turns.{entries}
 use Rattle.turn_lock.specs.Passes.{IsPassOf, Stepped, entries_with, turns_seen}
 use Rattle.turn_desk.specs.declared.desk.TurnDesk.{TurnDesk}
 use Rattle.turn_desk.specs.declared.shared.Shared.{Shared}
-use Rattle.turn_desk.specs.Stands.{Answers, step_added}
+use Rattle.turn_desk.specs.Stands.{Answers, AnswersFigured, figured_added, step_added}
 use Rattle.turn_desk.specs.Own.{AreOf, IsOf, HasSeenFault, own_list}
 use Rattle.turn_desk.proofs.SharedLemmas.{kept_more}
 
@@ -43,6 +44,26 @@ still_of desk given told was is answer old new own pass_of s = record {
   own = pass_of;
   number = s.number_same ∙ own.number;
   steps = subst (AreOf told.link) (sym s.own) (of_added told (outcome_with answer is) (entries_with old) own.steps);
+}
+
+-- a step that tells figures is a step
+pub as_answered : {X : Type 0} (given : Given) (old new : Pass Step X) (told : Told) (was is : Outs) (figured : Figured) → Stepped figured_added (AnswersFigured given) old new told was is figured → Stepped step_added (Answers given) old new told was is figured.answer
+as_answered given old new told was is figured s = record {
+  since = s.since;
+  seen = s.seen;
+  own = s.own;
+  number_same = s.number_same;
+  left = s.left;
+  answered = s.answered.answers;
+}
+
+pub figures_told : (given : Given) (before : List Step) (told : Told) (was is : Outs) (figured : Figured) → AnswersFigured given before told was is figured → AreFiguresThere given told (outcome_with figured.answer is) figured.figures
+figures_told given before told was is figured a = record {
+  before = Some (reverse before);
+  tells = sym a.answers.tells;
+  after = λ list some.
+      let same : reverse (added (step_added told is figured.answer) before) ≡ list = cc (kept_more (step_added told is figured.answer) before ∙ some) in
+      subst (λ (l : List Step). AreFiguresAfter given l figured.figures) (sym (reverse-reverse (added (step_added told is figured.answer) before)) ∙ ap (λ (l : List Step). reverse l) same) a.figures;
 }
 
 pub due_there : (given : Given) (before : List Step) (told : Told) (was is : Outs) (answer : Answer) → Answers given before told was is answer → IsDueThere given told (outcome_with answer is)

@@ -14,7 +14,10 @@ use Rattle.rist_ends.specs.Receiver.{ReceiverState}
 use Rattle.rist_desk.specs.declared.step.Step.{Step}
 use Rattle.rist_desk.specs.Legal.{phase_of}
 use Rattle.rist_desk.specs.Made.{step_after, steps_with}
-use Rattle.rist_desk.specs.Desk.{DeskState, Given, IsDesk, IsDueAfter, MakesDue}
+use Rattle.outside_net.specs.declared.figures.ReceiverFigures.{ReceiverFigures}
+use Rattle.rist_ends.specs.Figures.{figures_of}
+use Rattle.rist_desk.specs.Desk.{AreFiguresAfter, DeskState, Given, IsDesk, IsDueAfter, MakesDue}
+use Rattle.rist_desk.proofs.FigureLemmas.{figures_after}
 use Rattle.rist_desk.proofs.ListLemmas.{reverse_more}
 use Rattle.rist_desk.proofs.DeskLemmas.{Stepped, desk_with, makes_due, due_after, answer_stopped}
 use Rattle.turn_lock.specs.History.{added}
@@ -60,3 +63,8 @@ answers_after given told answer was is r s c e f n before step outs old =
       stopped = λ stop going. step.work.stopped (ap (λ (a : Answer). outcome_with a is) stop) (phase ∙ going);
       ended = λ not. answer_stopped answer is (step.work.ended (λ going. not (sym phase ∙ going)));
     }
+
+-- the figures of a receiver that stands for these steps
+pub figures_kept : (given : Given) (r : ReceiverState) (c : Option (List ℕ)) (n : ℕ) (steps : List Step) (f : ReceiverFigures) → IsDesk given (kept_with r c n steps) → f ≡ figures_of r → AreFiguresAfter given steps f
+figures_kept given r c n steps f desk is =
+    subst (λ (l : List Step). AreFiguresAfter given l f) (reverse-reverse steps) (figures_after given (kept_with r c n steps) (reverse (reverse steps)) f desk (desk.stands (reverse steps) refl) is)

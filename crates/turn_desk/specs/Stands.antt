@@ -12,7 +12,9 @@ use Rattle.rist_ends.specs.Receiver.{ReceiverState, settings_of}
 use Rattle.rist_desk.specs.declared.step.Step.{Step}
 use Rattle.rist_desk.specs.Legal.{phase_of}
 use Rattle.rist_desk.specs.Made.{end_told, step_after}
-use Rattle.rist_desk.specs.Desk.{DeskState, Given, IsDesk, StandsFor, MakesDue, IsDueAfter, is_cut_off, state_of}
+use Rattle.rist_desk.specs.Desk.{AreFiguresAfter, DeskState, Given, IsDesk, StandsFor, MakesDue, IsDueAfter, is_cut_off}
+use Rattle.rist_desk.specs.Desk.{state_of}
+use Rattle.rist_desk.specs.declared.figured.Figured.{Figured}
 use Rattle.turn_lock.specs.History.{added}
 use Rattle.turn_desk.specs.declared.parts.Parts.{Parts}
 
@@ -45,6 +47,16 @@ pub record Answers (given : Given) (before : List Step) (told : Told) (was is : 
   pub outs : answer ≢ answers.Made → is ≡ was
   pub stopped : answer ≡ answers.Stopped → phase_of before ≢ Open
   pub ended : phase_of before ≢ Open → answer ≡ answers.Stopped
+
+-- the step that is added where figures are told with it
+abbrev pub figured_added : Told → Outs → Figured → Option Step
+figured_added told outs figured = step_added told outs figured.answer
+
+-- what such a step answers after these steps: the figures are those of the receiver after it
+pub record AnswersFigured (given : Given) (before : List Step) (told : Told) (was is : Outs) (figured : Figured)
+    : Type 0 where
+  pub answers : Answers given before told was is figured.answer
+  pub figures : AreFiguresAfter given (added (figured_added told is figured) before) figured.figures
 
 -- these steps and the end, as far as it was made
 abbrev pub with_end : List Step → Answer → Outs → List Step

@@ -6,7 +6,7 @@ use crate::desk::TurnDesk;
 use crate::shared::Shared;
 use outside_io::Sink;
 use outside_net::Full;
-use rist_desk::{DeskOrigin, Shares, Step};
+use rist_desk::{DeskOrigin, Figured, Shares, Step};
 use rist_ends::{Answer, Outs, Told};
 use std::sync::Wait;
 use turn_lock::Pass;
@@ -36,5 +36,15 @@ impl<N: DeskOrigin, K: Sink + Drop> Shares<Pass<Step, Shared<N, K>>> for TurnDes
         outs: &mut Outs,
     ) -> Result<Answer, Full> {
         Ok(self.step_in_turn(rt, own, told, outs))
+    }
+
+    fn step_figured<R: Wait>(
+        &self,
+        rt: &R,
+        own: &mut Pass<Step, Shared<N, K>>,
+        told: &Told<'_>,
+        outs: &mut Outs,
+    ) -> Result<Figured, Full> {
+        Ok(self.step_figured_in_turn(rt, own, told, outs))
     }
 }

@@ -3,7 +3,7 @@ ghost use Rattle.std.specs.Prelude.{◌≡◌, ◌<◌, ◌≤◌, ◌+◌, [], 
 ghost use Rattle.rist_ends.specs.Told.{IsFit, IsNoEnd};
 ghost use Rattle.rist_desk.specs.Desk.{IsNew, state_of};
 ghost use Rattle.turn_lock.specs.Passes.{Stepped, IsClosed, turns_left};
-ghost use Rattle.turn_desk.specs.Stands.{Answers, StandAs, step_added};
+ghost use Rattle.turn_desk.specs.Stands.{Answers, AnswersFigured, StandAs, figured_added, step_added};
 ghost use Rattle.turn_desk.specs.Asides.{LooksAt, no_added};
 ghost use Rattle.turn_desk.specs.Own.{AreFreshFor, AreAllOf, IsOf, IsBeside, passes_in};
 
@@ -12,7 +12,7 @@ use crate::desk::TurnDesk;
 use crate::parts::Parts;
 use crate::shared::Shared;
 use outside_io::Sink;
-use rist_desk::{Beside, DeskOrigin, Side, Step};
+use rist_desk::{Beside, DeskOrigin, Figured, Side, Step};
 use rist_ends::{Answer, Outs, Receiver, Told};
 use std::alloc::{AllocFailed, Global};
 use std::marker::PhantomData;
@@ -64,6 +64,26 @@ impl<N: DeskOrigin, K: Sink + Drop> TurnDesk<N, K> {
     {
         self.lock
             .step::<Told<'_>, Outs, Answer, R>(rt, pass, told, outs)
+    }
+
+    /// Waits for its turn and makes one step of the pass's link, as `step_in_turn` does; the figures are those after it.
+    pub fn step_figured_in_turn<R: Wait>(
+        &self,
+        rt: &R,
+        pass: &mut Pass<Step, Shared<N, K>>,
+        told: &Told<'_>,
+        outs: &mut Outs,
+    ) -> Figured
+        requires fits { IsFit told.now }
+        requires going { IsNoEnd told.now.what }
+        requires own { IsOf self.now told.now.link pass.old }
+        requires left { 0 < turns_left pass.old }
+        ensures own { IsOf self.now told.now.link pass.new }
+        ensures stepped { Stepped figured_added (AnswersFigured N.given) pass.old pass.new told.now outs.old outs.new
+            result }
+    {
+        self.lock
+            .step::<Told<'_>, Outs, Figured, R>(rt, pass, told, outs)
     }
 
     /// The receiver and the sink, once each pass is back, in order. They stand for the one history of which each pass has
