@@ -29,7 +29,7 @@ use Rattle.session_figures.specs.declared.numbers.Numbers.{Numbers}
 use Rattle.session_figures.specs.declared.playout.Playout.{Playout}
 use Rattle.session_figures.specs.declared.table.Table.{Table}
 use Rattle.session_figures.specs.Numbers.{missing_count, sent_count}
-use Rattle.session_figures.specs.Amounts.{amounts_by, amounts_of, first_on, missing_by, nothing_passed, octets_on, passed_by, playout_by, records_in, recovered_on, restarts_by}
+use Rattle.session_figures.specs.Amounts.{amounts_by, amounts_of, first_on, missing_by, nothing_passed, octets_on, passed_by, playout_by, records_in, recovered_on, restarts_by, used_before}
 use Rattle.session_figures.specs.Spreads.{jitters_by, jitters_of, last_transit, timestamp_in, transit_before, transit_word, trips_of}
 use Rattle.session_figures.specs.Figures.{Entry, entries_of, figures_of, links_by, marks_by, start_of, sums_by, ticks_of}
 use Rattle.session_figures.specs.Counting.{AreJittersOf, AreLinksOf, AreNumbersOf, AreSeriesOf, CounterState, IsCountedAfter, end_told, figures_in}
@@ -188,7 +188,7 @@ figures_same limits history t ticks sent jitter trips a b j r are =
     let late = shown t.late (marks_by (λ x. x.late) entries) are.of_late in
     let restarts = shown t.restarts (marks_by (λ x. x.passed.restarts) entries) are.of_restarts in
     let fill = shown_peaks t.fill (marks_by (λ x. x.passed.playout.fill) entries) are.of_fill in
-    let used = shown_peaks t.used (marks_by (λ x. x.passed.playout.used) entries) are.of_used in
+    let used = shown_peaks t.used (marks_by used_before entries) are.of_used in
     let later = shown t.later (marks_by (λ x. x.passed.playout.later) entries) are.of_later in
     let earlier = shown t.earlier (marks_by (λ x. x.passed.playout.earlier) entries) are.of_earlier in
     cc

@@ -1,5 +1,5 @@
 -- What each step of a history adds to the figures.
-use Rattle.std.specs.Prelude.{ℕ, ◌-◌, List, ◌∷◌, length, Bool, true, false, not, ◌&&◌, ◌==◌, if◌then◌else◌}
+use Rattle.std.specs.Prelude.{ℕ, ◌+◌, ◌-◌, List, ◌∷◌, length, Bool, true, false, not, ◌&&◌, ◌==◌, if◌then◌else◌}
 use Rattle.time_series.specs.Points.{capped}
 use Rattle.receiver_rules.specs.declared.limits.Limits.{Limits}
 use Rattle.receiver_rules.specs.declared.verdict.Verdict.{Verdict}
@@ -12,7 +12,7 @@ use Rattle.session_figures.specs.declared.amounts.Amounts.{Amounts}
 use Rattle.session_figures.specs.declared.amounts.Passed.{Passed}
 use Rattle.session_figures.specs.declared.playout.Playout.{Playout}
 use Rattle.session_figures.specs.Numbers.{missing_count}
-use Rattle.session_figures.specs.Playout.{playout_between, standing_of}
+use Rattle.session_figures.specs.Playout.{playout_between, standing_of, unless_restarted}
 
 -- a packet came after its deadline, or after one of the same or a higher number was played out
 abbrev pub is_too_late : Verdict → Bool
@@ -108,6 +108,10 @@ passed_by limits before step =
 abbrev pub amounts_of : Limits → List Step → Step → Amounts
 amounts_of limits before step =
     amounts_by limits before step.link step.tick (passed_by limits before step) step.input
+
+-- how much of the playout delay was used up before a packet that was kept, but for the first of each epoch
+abbrev pub used_before : Amounts → ℕ
+used_before a = if a.first + a.recovered == 0 then 0 else unless_restarted a.passed.restarts a.passed.playout.used
 
 -- what came on a link, of an amount that came on one
 abbrev pub on_link : ℕ → ℕ → ℕ → ℕ

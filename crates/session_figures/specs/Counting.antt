@@ -15,7 +15,7 @@ use Rattle.session_figures.specs.declared.jitter.Jitter.{Jitter}
 use Rattle.session_figures.specs.declared.numbers.Numbers.{Numbers}
 use Rattle.session_figures.specs.declared.table.Table.{Table}
 use Rattle.session_figures.specs.Numbers.{lowest_of, sent_over, missing_over, missing_count}
-use Rattle.session_figures.specs.Amounts.{first_on, octets_on, recovered_on}
+use Rattle.session_figures.specs.Amounts.{first_on, octets_on, recovered_on, used_before}
 use Rattle.session_figures.specs.Spreads.{jitters_of, last_transit, trips_of}
 use Rattle.session_figures.specs.declared.amounts.Amounts.{Amounts}
 use Rattle.session_figures.specs.Figures.{Entry, Figures, marks_by, entries_of, start_of}
@@ -50,7 +50,7 @@ pub record AreSeriesOf (t : Table) (entries : List Entry) : Type 0 where
   pub of_late : IsSeriesOf t.late (marks_by (λ a. a.late) entries)
   pub of_restarts : IsSeriesOf t.restarts (marks_by (λ a. a.passed.restarts) entries)
   pub of_fill : IsPeaksOf t.fill (marks_by (λ a. a.passed.playout.fill) entries)
-  pub of_used : IsPeaksOf t.used (marks_by (λ a. a.passed.playout.used) entries)
+  pub of_used : IsPeaksOf t.used (marks_by used_before entries)
   pub of_later : IsSeriesOf t.later (marks_by (λ a. a.passed.playout.later) entries)
   pub of_earlier : IsSeriesOf t.earlier (marks_by (λ a. a.passed.playout.earlier) entries)
 

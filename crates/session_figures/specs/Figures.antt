@@ -11,7 +11,7 @@ use Rattle.receiver_rules.specs.declared.limits.Limits.{Limits}
 use Rattle.request_rules.specs.Steps.{Step, buffer_history, effective_time}
 use Rattle.session_figures.specs.declared.amounts.Amounts.{Amounts}
 use Rattle.session_figures.specs.Numbers.{sent_count}
-use Rattle.session_figures.specs.Amounts.{amounts_of, first_on, octets_on, recovered_on}
+use Rattle.session_figures.specs.Amounts.{amounts_of, first_on, octets_on, recovered_on, used_before}
 use Rattle.session_figures.specs.Spreads.{jitters_of, trips_of}
 
 -- ---- time
@@ -61,7 +61,7 @@ recovered_count limits history = sum (map (λ entry. entry.amounts.recovered) (e
 -- retransmission on each recovered, the octets of packets that were kept, the packets that were received first time
 -- and those that a retransmission recovered, the numbers that the playout passed without a packet, the packets that
 -- came too late, and how often the flow restarted; the greatest fill of the buffer after a step, and the most of the
--- playout delay that was used up as one came, in milliseconds; and by how many ticks the base of deadlines moved to
+-- playout delay that was used up before a packet that was kept, in milliseconds; and by how many ticks the base of deadlines moved to
 -- later, and to earlier
 pub record Figures : Type 0 where
   pub ticks : ℕ
@@ -114,7 +114,7 @@ figures_by ticks sent jitter trips entries =
       late = sums_by (λ a. a.late) entries;
       restarts = sums_by (λ a. a.passed.restarts) entries;
       fill = peaks_by (λ a. a.passed.playout.fill) entries;
-      used = peaks_by (λ a. a.passed.playout.used) entries;
+      used = peaks_by used_before entries;
       later = sums_by (λ a. a.passed.playout.later) entries;
       earlier = sums_by (λ a. a.passed.playout.earlier) entries;
     }

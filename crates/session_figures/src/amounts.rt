@@ -1,6 +1,6 @@
 //! What a step adds to the figures.
 ghost use Rattle.std.specs.Prelude.{◌≡◌};
-ghost use Rattle.session_figures.specs.Amounts.{is_too_late, media_amounts, nothing_passed, on_link, silent_amounts};
+ghost use Rattle.session_figures.specs.Amounts.{is_too_late, media_amounts, nothing_passed, on_link, silent_amounts, used_before};
 
 use crate::playout::Playout;
 use receiver_rules::Verdict;
@@ -86,6 +86,18 @@ impl Amounts {
             late: 0,
             passed: Passed::nothing(),
         }
+    }
+}
+
+/// How much of the playout delay was used up before a packet that was kept, but for the first of each epoch.
+pub fn used_before(amounts: &Amounts) -> u64
+    ensures value { result ≡ used_before amounts.now }
+{
+    let kept = amounts.first > 0 || amounts.recovered > 0;
+    if kept && amounts.passed.restarts == 0 {
+        amounts.passed.playout.used
+    } else {
+        0
     }
 }
 

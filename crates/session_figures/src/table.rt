@@ -6,7 +6,7 @@ ghost use Rattle.session_figures.specs.Amounts.{on_link};
 ghost use Rattle.session_figures.specs.Figures.{Entry};
 ghost use Rattle.session_figures.specs.Counting.{AreSeriesOf};
 
-use crate::amounts::{Amounts, on_link};
+use crate::amounts::{Amounts, on_link, used_before};
 use link_channels::MAX_LINKS;
 use std::alloc::{AllocError, Global};
 use time_series::{Peaks, Series};
@@ -34,7 +34,7 @@ pub struct Table {
     pub restarts: Series,
     /// The greatest fill of the buffer, in milliseconds.
     pub fill: Peaks,
-    /// The most of the playout delay that was used up, in milliseconds.
+    /// The most of the playout delay that was used up before a packet that was kept, in milliseconds.
     pub used: Peaks,
     /// By how many ticks the base of deadlines moved to later.
     pub later: Series,
@@ -81,7 +81,7 @@ impl Table {
         self.restarts.add(second, amounts.passed.restarts);
         let playout = amounts.passed.playout;
         self.fill.add(second, playout.fill);
-        self.used.add(second, playout.used);
+        self.used.add(second, used_before(amounts));
         self.later.add(second, playout.later);
         self.earlier.add(second, playout.earlier);
     }

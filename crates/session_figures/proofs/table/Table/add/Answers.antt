@@ -1,6 +1,8 @@
 -- Each series has what the step added.
-use Rattle.session_figures.specs.Amounts.{first_on, octets_on, recovered_on}
+use Rattle.session_figures.specs.Amounts.{first_on, octets_on, recovered_on, used_before}
 use Rattle.session_figures.specs.Figures.{marks_by}
+use Rattle.std.proofs.Common.{◌∷◌, ℕ, subst}
+use Rattle.time_series.specs.Peaks.{IsPeaksOf}
 use Rattle.session_figures.proofs.FigureLemmas.{links_added}
 use Rattle.session_figures.proofs.table.Table.add.Goals as goal
 
@@ -17,7 +19,9 @@ returns c = record {
     of_late = c.add-5.ensures.state (marks_by (λ a. a.late) entries) are.of_late;
     of_restarts = c.add-6.ensures.state (marks_by (λ a. a.passed.restarts) entries) are.of_restarts;
     of_fill = c.add-7.ensures.state (marks_by (λ a. a.passed.playout.fill) entries) are.of_fill;
-    of_used = c.add-8.ensures.state (marks_by (λ a. a.passed.playout.used) entries) are.of_used;
+    of_used =
+        subst (λ (n : ℕ). IsPeaksOf c.add-8.new.self (record { second = c.args.second; amount = n } ∷ marks_by used_before entries)) c.used_before.ensures.value
+        (c.add-8.ensures.state (marks_by used_before entries) are.of_used);
     of_later = c.add-9.ensures.state (marks_by (λ a. a.passed.playout.later) entries) are.of_later;
     of_earlier = c.add-10.ensures.state (marks_by (λ a. a.passed.playout.earlier) entries) are.of_earlier;
   };
