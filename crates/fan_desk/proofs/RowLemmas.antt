@@ -10,14 +10,14 @@ use Rattle.rist_ends.specs.declared.outcome.Answer.TheVariants as answers
 use Rattle.rist_ends.specs.Outcome.{outcome_with}
 use Rattle.rist_desk.specs.declared.step.Step.{Step}
 use Rattle.rist_desk.specs.Made.{step_after}
-use Rattle.rist_desk.specs.Desk.{Given}
+use Rattle.rist_desk.specs.Desk.{AreFiguresAfter, Given}
 use Rattle.turn_lock.specs.History.{added}
 use Rattle.turn_lock.specs.declared.rule.Turn.{Turn}
 use Rattle.turn_lock.specs.Turns.{entries, of}
 use Rattle.turn_desk.specs.Stands.{Stands}
 use Rattle.rist_fan.specs.declared.flow.Flow.{Flow}
 use Rattle.rist_fan.specs.declared.flow.Came.{Came}
-use Rattle.rist_fan.specs.Fan.{FanStands, outcome_in, step_come}
+use Rattle.rist_fan.specs.Fan.{AllFigures, FanStands, outcome_in, step_come}
 use Rattle.rist_fan.specs.Seen.{FanStep, fan_step, is_for, seen, told_for, what_for}
 use Rattle.rist_fan.proofs.FanLemmas.{at_some, sees_own}
 use Rattle.fan_desk.specs.declared.told.FanTold.{FanTold}
@@ -60,6 +60,12 @@ sees_added ask room before v came at = by_all (are_all_stopped room) refl
         → seen v (added (row_unless b (step_come ask.place ask.told room)) before) ≡ added (step_after (told_for (is_for ask.place v) ask.told) (outcome_in came)) (seen v before)
     by_all true all = sym (sees_none ask.place ask.told room before v came at all) ∙ sees_step ask.place ask.told room before v came at
     by_all false all = sees_step ask.place ask.told room before v came at
+
+-- the figures of each are those of the history with what a turn added
+pub figures_added : (given : ℕ → Given) (ask : FanTold) (room : List Came) (before : List FanStep) → AllFigures given (step_come ask.place ask.told room ∷ before) room
+    → AllFigures given (added (row_added ask room tt) before) room
+figures_added given ask room before all v came at =
+    subst (λ (l : List Step). AreFiguresAfter (given v) l came.figures) (sees_step ask.place ask.told room before v came at ∙ sym (sees_added ask room before v came at)) (all v came at)
 
 module _ {K : Type 0} (given : ℕ → Given) (contents : K → Option (List ℕ)) (faults : K → ℕ) where
   -- each stands for the history with what a turn added

@@ -11,10 +11,11 @@ use Rattle.rist_ends.specs.declared.outcome.Answer.TheVariants as answers
 use Rattle.rist_desk.specs.declared.step.Step.{Step}
 use Rattle.rist_desk.specs.Desk.{Given}
 use Rattle.turn_lock.specs.declared.rule.Turn.{Turn}
+use Rattle.turn_lock.specs.History.{added}
 use Rattle.rist_fan.specs.declared.fan.Fan.{Fan}
 use Rattle.rist_fan.specs.declared.flow.Came.{Came}
 use Rattle.rist_fan.specs.Seen.{FanStep, seen_in}
-use Rattle.rist_fan.specs.Fan.{AllAnswer, FanStands, flows_in, step_come}
+use Rattle.rist_fan.specs.Fan.{AllAnswer, AllFigures, FanStands, flows_in, step_come}
 use Rattle.fan_desk.specs.declared.told.FanTold.{FanTold}
 
 -- each receiver and its sink stand for what it saw of a history, by what is given of its place
@@ -53,6 +54,12 @@ pub record Answers (given : ℕ → Given) (before : List FanStep) (ask : FanTol
     (answer : Unit {0}) : Type 0 where
   pub each : AllAnswer given before ask.place ask.told was is
   pub places : length is ≡ length was
+
+-- so, and the figures of each place are those of what it saw of the history with the row
+pub record AnswersFigured (given : ℕ → Given) (before : List FanStep) (ask : FanTold) (was is : List Came)
+    (answer : Unit {0}) : Type 0 where
+  pub rows : Answers given before ask was is answer
+  pub figures : AllFigures given (added (row_added ask is answer) before) is
 
 -- ---- each place by itself
 

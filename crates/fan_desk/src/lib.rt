@@ -5,6 +5,7 @@
 mod desk;
 mod ending;
 mod fan_step;
+mod figures;
 mod flows;
 pub mod laws;
 mod origin;

@@ -34,13 +34,13 @@ impl<N: FanOrigin, K: Sink> Turned<FanStep> for SharedFan<N, K> {
 }
 
 impl<'a, N: FanOrigin, K: Sink> Acts<FanStep, FanTold<'a>, Vec<Came>, ()> for SharedFan<N, K> {
-    ghost use Rattle.fan_desk.specs.Rows.{MayBeTold, Answers, row_added};
+    ghost use Rattle.fan_desk.specs.Rows.{MayBeTold, AnswersFigured, row_added};
 
     ghost asks = { λ ask room. MayBeTold N.places ask room.items };
 
     ghost adds = { λ ask room answer. row_added ask room.items answer };
 
-    ghost answers = { λ before ask was is answer. Answers N.given before ask was.items is.items answer };
+    ghost answers = { λ before ask was is answer. AnswersFigured N.given before ask was.items is.items answer };
 
     fn act(&mut self, ask: &FanTold<'a>, room: &mut Vec<Came>) {
         let fan = &mut *self.fan;

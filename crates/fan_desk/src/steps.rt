@@ -6,7 +6,7 @@ ghost use Rattle.rist_desk.specs.Desk.{is_cut_off};
 ghost use Rattle.turn_lock.specs.Passes.{Stepped, IsClosed, turns_left};
 ghost use Rattle.rist_fan.specs.declared.flow.Came.{Came};
 ghost use Rattle.rist_fan.specs.Fan.{AreNew, flows_in};
-ghost use Rattle.fan_desk.specs.Rows.{Answers, StandAs, row_added};
+ghost use Rattle.fan_desk.specs.Rows.{Answers, AnswersFigured, StandAs, row_added};
 ghost use Rattle.fan_desk.specs.Own.{AreFreshFor, AreAllOf, HasSeenFault, IsOf, KnowsEnds, passes_in};
 
 use crate::desk::FanDesk;
@@ -70,6 +70,9 @@ impl<N: FanOrigin, K: Sink + Drop> FanDesk<N, K> {
         ensures own { IsOf self.now told.now.link pass.new }
         // Each place answers what is due there after what it has seen of the history, whatever came of it at others.
         ensures stepped { Stepped row_added (Answers N.given) pass.old pass.new
+            (record { place = place; told = told.now }) came.old.items came.new.items tt }
+        // So, and what came of it has the figures of each place after it.
+        ensures figured { Stepped row_added (AnswersFigured N.given) pass.old pass.new
             (record { place = place; told = told.now }) came.old.items came.new.items tt }
         // A place whose write failed before, by the turns that the pass had seen, makes no step.
         ensures failed { (v : ℕ) (c : Came) → slice_get came.new.items v ≡ Some c → HasSeenFault v pass.old

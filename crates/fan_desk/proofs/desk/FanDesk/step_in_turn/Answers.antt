@@ -16,12 +16,13 @@ returns g c =
     let new = c.step.new.pass in
     let s = c.step.ensures.stepped in
     let stepped : Stepped row_added (Answers g.N.FanOrigin.given) old new ask was is tt =
-    record { since = s.since; seen = s.seen; own = s.own; number_same = s.number_same; left = s.left; answered = s.answered } in
+    record { since = s.since; seen = s.seen; own = s.own; number_same = s.number_same; left = s.left; answered = s.answered.rows } in
     record {
-      room = s.answered.places ∙ c.requires.room;
+      room = s.answered.rows.places ∙ c.requires.room;
       own = still_of c.args.self.now g.N.FanOrigin.given ask was is old new c.requires.own c.step.ensures.own stepped;
       stepped = stepped;
-      ends = knows_more g.N.FanOrigin.given g.N.FanOrigin.places ask was is old new stepped (s.answered.places ∙ c.requires.room);
+      figured = record { since = s.since; seen = s.seen; own = s.own; number_same = s.number_same; left = s.left; answered = s.answered };
+      ends = knows_more g.N.FanOrigin.given g.N.FanOrigin.places ask was is old new stepped (s.answered.rows.places ∙ c.requires.room);
       failed = ended_stays g.N.FanOrigin.given ask was is old new stepped;
       broken = cut_seen g.N.FanOrigin.given ask was is old new stepped;
     }

@@ -4,9 +4,9 @@ use Rattle.std.proofs.lemmas.List.{with_items_is}
 use Rattle.turn_lock.specs.History.{added}
 use Rattle.rist_fan.specs.declared.fan.Fan.{Fan}
 use Rattle.rist_fan.specs.declared.flow.Came.{Came}
-use Rattle.rist_fan.specs.Fan.{AllAnswer, FanStands, flows_in}
+use Rattle.rist_fan.specs.Fan.{AllAnswer, AllFigures, FanStands, flows_in}
 use Rattle.fan_desk.specs.Rows.{row_added}
-use Rattle.fan_desk.proofs.RowLemmas.{stand_added}
+use Rattle.fan_desk.proofs.RowLemmas.{figures_added, stand_added}
 use Rattle.fan_desk.proofs.shared.SharedFanActsFanStepFanToldVecCameUnit.act.Goals as goal
 
 pub returns-clause-stands : goal.returns-clause-stands
@@ -28,9 +28,14 @@ returns-clause-answers g c = λ before old.
     let ask = c.args.ask.now in
     let lent : c.deref_mut-fan.result.now ≡ c.args.self.now = search (c.deref_mut-fan.ensures.value, c.self.view_is) in
     let left = with_items_is c.args.room.now c.step.new.came (c.step.ensures.room ∙ c.deref_mut.ensures.len) in
+    let stands = subst (λ (f : Fan _). FanStands given g.K.Sink.contents g.K.Sink.faults (flows_in f) before) (sym lent) old in
     record {
-      each = subst (λ (l : List Came). AllAnswer given before ask.place ask.told c.args.room.now.items l) (sym left)
-          (subst (λ (l : List Came). AllAnswer given before ask.place ask.told l c.step.new.came) c.deref_mut.ensures.value
-          (c.step.ensures.answers given before (subst (λ (f : Fan _). FanStands given g.K.Sink.contents g.K.Sink.faults (flows_in f) before) (sym lent) old)));
-      places = ap (λ (l : List Came). length l) left ∙ (c.step.ensures.room ∙ ap (λ (l : List Came). length l) c.deref_mut.ensures.value);
+      rows = record {
+        each = subst (λ (l : List Came). AllAnswer given before ask.place ask.told c.args.room.now.items l) (sym left)
+            (subst (λ (l : List Came). AllAnswer given before ask.place ask.told l c.step.new.came) c.deref_mut.ensures.value
+            (c.step.ensures.answers given before stands));
+        places = ap (λ (l : List Came). length l) left ∙ (c.step.ensures.room ∙ ap (λ (l : List Came). length l) c.deref_mut.ensures.value);
+      };
+      figures = subst (λ (l : List Came). AllFigures given (added (row_added ask l tt) before) l) (sym left)
+          (figures_added given ask c.step.new.came before (c.step.ensures.figures given before stands));
     }
