@@ -58,7 +58,7 @@ refused() {
 refused 3 'no address: nobody.invalid' send "$work/source" rist://nobody.invalid:5000
 refused 3 'no address: nobody.invalid' recv "$work/out.ts" 127.0.0.1:5000 nobody.invalid:5002
 refused 2 'no HOST:PORT in rist://127.0.0.1' send "$work/source" rist://127.0.0.1
-refused 2 'no HOST:PORT in rist://[::1]:5000' send "$work/source" 'rist://[::1]:5000'
+refused 2 'no HOST:PORT in rist://::1:5000' send "$work/source" 'rist://::1:5000'
 refused 2 'no HOST:PORT in rist://u:p@localhost:5000' send "$work/source" rist://u:p@localhost:5000
 refused 2 'cannot take @ in rist://@localhost:5000' send "$work/source" rist://@localhost:5000
 refused 2 'cannot take buffer= in rist://localhost:5000' send "$work/source" 'rist://localhost:5000?buffer=500'

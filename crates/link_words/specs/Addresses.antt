@@ -35,8 +35,8 @@ abbrev pub endpoint_by : Table → Word → Word → Result Word Fault
 endpoint_by table host port =
     if is_name host then with_address host port (table host) else Ok (host_text host ++ 58 ∷ port)
 
--- a link with an address, and behind it the parameters that stay with it; one that has neither a name nor a URL is as it
--- is
+-- a link with an address, and behind it the parameters that stay with it; one that has neither a name nor a URL is as
+-- it is
 abbrev pub link_by : Table → Word → Form → Result Word Fault
 link_by table word Plain = Ok word
 link_by table word Faulty = Err (NoEndpoint (parts_of word).0)

@@ -45,7 +45,7 @@ fn all_asked(alloc: Global) -> Result<bool, Fail> {
 }
 
 /// Words that are no line, and what is said of them.
-static COMPLAINTS: [(&str, &str); 58] = [
+static COMPLAINTS: [(&str, &str); 66] = [
     ("rist", "a command is missing (rist --help)"),
     (
         "rist play a b",
@@ -61,11 +61,48 @@ static COMPLAINTS: [(&str, &str); 58] = [
     ),
     (
         "rist recv out localhost:5000",
-        "LINK localhost:5000: an address and a port, as 127.0.0.1:5000 (rist recv --help)",
+        "LINK localhost:5000: an address and a port, as 127.0.0.1:5000 or [::1]:5000 (rist recv --help)",
+    ),
+    (
+        "rist recv out [::1]:5001",
+        "LINK [::1]:5001: in the Simple Profile a port is even, from 2 to 65534 (rist recv --help)",
+    ),
+    (
+        "rist recv out [1::2::3]:5000",
+        "LINK [1::2::3]:5000: an address and a port, as 127.0.0.1:5000 or [::1]:5000 (rist recv --help)",
+    ),
+    (
+        "rist recv out ::1:5000",
+        "LINK ::1:5000: an address and a port, as 127.0.0.1:5000 or [::1]:5000 (rist recv --help)",
+    ),
+    (
+        "rist recv out 127.0.0.1:2?from=127.0.0.1",
+        "LINK 127.0.0.1:2?from=127.0.0.1: a link that receives is bound to its address, and takes nothing behind it \
+         (rist recv --help)",
+    ),
+    (
+        "rist gate 127.0.0.1:2?ttl=3 127.0.0.1:4?ttl=3",
+        "LINK 127.0.0.1:2?ttl=3: a link that receives is bound to its address, and takes nothing behind it \
+         (rist gate --help)",
+    ),
+    (
+        "rist send a 127.0.0.1:2?from=::1",
+        "LINK 127.0.0.1:2?from=::1: behind ? stand from= with an address of the same kind, ttl=1..255 for IPv4, or \
+         both by & (rist send --help)",
+    ),
+    (
+        "rist send a [::1]:2?ttl=3",
+        "LINK [::1]:2?ttl=3: behind ? stand from= with an address of the same kind, ttl=1..255 for IPv4, or both by & \
+         (rist send --help)",
+    ),
+    (
+        "rist send a 127.0.0.1:2?",
+        "LINK 127.0.0.1:2?: behind ? stand from= with an address of the same kind, ttl=1..255 for IPv4, or both by & \
+         (rist send --help)",
     ),
     (
         "rist recv out 127.0.0.1:2 127.0.0.1:0",
-        "LINK 127.0.0.1:0: an address and a port, as 127.0.0.1:5000 (rist recv --help)",
+        "LINK 127.0.0.1:0: an address and a port, as 127.0.0.1:5000 or [::1]:5000 (rist recv --help)",
     ),
     (
         "rist recv out 127.0.0.1:2 --delay 0",
@@ -141,7 +178,7 @@ static COMPLAINTS: [(&str, &str); 58] = [
     ),
     (
         "rist gate 127.0.0.1:2 127.0.0.1",
-        "LINK 127.0.0.1: an address and a port, as 127.0.0.1:5000 (rist gate --help)",
+        "LINK 127.0.0.1: an address and a port, as 127.0.0.1:5000 or [::1]:5000 (rist gate --help)",
     ),
     (
         "rist gate 127.0.0.1:3 127.0.0.1:5 --profile main --in-profile simple",
@@ -229,7 +266,7 @@ static COMPLAINTS: [(&str, &str); 58] = [
     ),
     (
         "rist fan 1968=a 127.0.0.1",
-        "LINK 127.0.0.1: an address and a port, as 127.0.0.1:5000 (rist fan --help)",
+        "LINK 127.0.0.1: an address and a port, as 127.0.0.1:5000 or [::1]:5000 (rist fan --help)",
     ),
     (
         "rist fan 1968=a 127.0.0.1:5000 --keep 1",

@@ -7,6 +7,7 @@ use rist_words::{
     StreamWords, WatchingWords, line,
 };
 use std::alloc::Global;
+use std::net::{IpAddr, Ipv4Addr};
 use std::test::Fail;
 
 pub const PLAIN: SessionWords<'static> = SessionWords {
@@ -387,10 +388,7 @@ fn all_packed(alloc: Global) -> Result<bool, Fail> {
 pub fn specs(alloc: Global, ports: &[u16]) -> Result<Vec<LinkSpec>, Fail> {
     let mut links = Vec::new(alloc);
     for port in ports {
-        links.push(LinkSpec {
-            address: [127, 0, 0, 1],
-            port: *port,
-        })?;
+        links.push(LinkSpec::at(IpAddr::V4(Ipv4Addr::LOCALHOST), *port))?;
     }
     Ok(links)
 }

@@ -1,104 +1,149 @@
 //! Words that write an address of UDP, words that begin as one and are none, and names of files.
 use media_address::{AddressBad, Form, MediaAddress, Settings, address_of};
+use std::net::IpAddr;
 use std::test::Fail;
 
-/// No setting.
-const NONE: Settings = Settings {
-    ttl: None,
-    from: None,
-};
-
-static TAKEN: [(&str, Form, [u8; 4], u16, Settings); 10] = [
+/// Words, and the form, the address, the port, the time to live and the local address that each has.
+static TAKEN: [(&str, Form, [u8; 4], u16, Option<u8>, Option<[u8; 4]>); 10] = [
     (
         "udp://127.0.0.1:5000",
         Form::Udp,
         [127, 0, 0, 1],
         5000,
-        NONE,
+        None,
+        None,
     ),
     (
         "rtp://239.1.1.1:5004",
         Form::Rtp,
         [239, 1, 1, 1],
         5004,
-        NONE,
+        None,
+        None,
     ),
-    ("udp://0.0.0.0:1", Form::Udp, [0, 0, 0, 0], 1, NONE),
+    ("udp://0.0.0.0:1", Form::Udp, [0, 0, 0, 0], 1, None, None),
     (
         "rtp://255.255.255.255:65535",
         Form::Rtp,
         [255, 255, 255, 255],
         65_535,
-        NONE,
+        None,
+        None,
     ),
     // Leading zeros, as a link's address may have them.
-    ("udp://010.0.0.09:0080", Form::Udp, [10, 0, 0, 9], 80, NONE),
+    (
+        "udp://010.0.0.09:0080",
+        Form::Udp,
+        [10, 0, 0, 9],
+        80,
+        None,
+        None,
+    ),
     (
         "udp://239.1.1.1:5004?ttl=1",
         Form::Udp,
         [239, 1, 1, 1],
         5004,
-        Settings {
-            ttl: Some(1),
-            from: None,
-        },
+        Some(1),
+        None,
     ),
     (
         "udp://239.1.1.1:5004?ttl=255",
         Form::Udp,
         [239, 1, 1, 1],
         5004,
-        Settings {
-            ttl: Some(255),
-            from: None,
-        },
+        Some(255),
+        None,
     ),
     (
         "rtp://239.1.1.1:5004?from=10.0.0.7",
         Form::Rtp,
         [239, 1, 1, 1],
         5004,
-        Settings {
-            ttl: None,
-            from: Some([10, 0, 0, 7]),
-        },
+        None,
+        Some([10, 0, 0, 7]),
     ),
     (
         "rtp://239.1.1.1:5004?from=10.0.0.7&ttl=16",
         Form::Rtp,
         [239, 1, 1, 1],
         5004,
-        Settings {
-            ttl: Some(16),
-            from: Some([10, 0, 0, 7]),
-        },
+        Some(16),
+        Some([10, 0, 0, 7]),
     ),
     (
         "rtp://239.1.1.1:5004?ttl=16&from=10.0.0.7",
         Form::Rtp,
         [239, 1, 1, 1],
         5004,
-        Settings {
-            ttl: Some(16),
-            from: Some([10, 0, 0, 7]),
-        },
+        Some(16),
+        Some([10, 0, 0, 7]),
     ),
 ];
 
 #[test]
 fn an_address_is_read_part_by_part(rt: HostRuntime) {
-    for (word, form, host, port, settings) in &TAKEN {
+    for (word, form, host, port, ttl, from) in &TAKEN {
         let want = MediaAddress {
             form: *form,
-            host: *host,
+            host: IpAddr::from(*host),
             port: *port,
-            settings: *settings,
+            settings: Settings {
+                ttl: *ttl,
+                from: from.map(|from| IpAddr::from(from)),
+            },
         };
         assert!(rt; address_of(word) == Ok(Some(want)), "{word}");
     }
 }
 
-static REFUSED: [(&str, AddressBad); 29] = [
+/// Words, and the pieces of the address of IPv6, the port and the pieces of the local address that each has.
+static OF_IPV6: [(&str, [u16; 8], u16, Option<[u16; 8]>); 6] = [
+    ("udp://[::1]:5000", [0, 0, 0, 0, 0, 0, 0, 1], 5000, None),
+    ("udp://[::]:1", [0; 8], 1, None),
+    (
+        "udp://[ff3e::8000:1]:5004?from=2001:db8::7",
+        [0xff3e, 0, 0, 0, 0, 0, 0x8000, 1],
+        5004,
+        Some([0x2001, 0xdb8, 0, 0, 0, 0, 0, 7]),
+    ),
+    (
+        "udp://[2001:0DB8:0:0:8:800:200C:417A]:80",
+        [0x2001, 0xdb8, 0, 0, 8, 0x800, 0x200c, 0x417a],
+        80,
+        None,
+    ),
+    (
+        "udp://[::13.1.68.3]:80",
+        [0, 0, 0, 0, 0, 0, 0x0d01, 0x4403],
+        80,
+        None,
+    ),
+    (
+        "udp://[1:2:3:4:5:6:7::]:80",
+        [1, 2, 3, 4, 5, 6, 7, 0],
+        80,
+        None,
+    ),
+];
+
+#[test]
+fn an_address_of_ipv6_is_read_piece_by_piece(rt: HostRuntime) {
+    for (word, host, port, from) in &OF_IPV6 {
+        let want = MediaAddress {
+            form: Form::Udp,
+            host: IpAddr::from(*host),
+            port: *port,
+            settings: Settings {
+                ttl: None,
+                from: from.map(|from| IpAddr::from(from)),
+            },
+        };
+        assert!(rt; address_of(word) == Ok(Some(want)), "{word}");
+    }
+}
+
+static REFUSED: [(&str, AddressBad); 41] = [
     ("udp://", AddressBad::NoAddress),
     ("rtp://", AddressBad::NoAddress),
     ("udp://127.0.0.1", AddressBad::NoAddress),
@@ -114,7 +159,16 @@ static REFUSED: [(&str, AddressBad); 29] = [
     ("udp://127.0..1:80", AddressBad::NoAddress),
     ("udp://localhost:80", AddressBad::NoAddress),
     ("udp://@239.1.1.1:80", AddressBad::NoAddress),
-    ("udp://[::1]:80", AddressBad::NoAddress),
+    ("udp://::1:80", AddressBad::NoAddress),
+    ("udp://[::1]", AddressBad::NoAddress),
+    ("udp://[::1]80", AddressBad::NoAddress),
+    ("udp://[::1:80", AddressBad::NoAddress),
+    ("udp://[127.0.0.1]:80", AddressBad::NoAddress),
+    ("udp://[1::2::3]:80", AddressBad::NoAddress),
+    ("udp://[1:2:3:4:5:6:7]:80", AddressBad::NoAddress),
+    ("udp://[1:2:3:4:5:6:7:8::]:80", AddressBad::NoAddress),
+    ("udp://[::12345]:80", AddressBad::NoAddress),
+    ("udp://[fe80::1%eth0]:80", AddressBad::NoAddress),
     ("rtp://udp://127.0.0.1:80", AddressBad::NoAddress),
     ("udp://127.0.0.1?ttl=0", AddressBad::NoAddress),
     ("udp://127.0.0.1:80?", AddressBad::NoSetting),
@@ -124,6 +178,9 @@ static REFUSED: [(&str, AddressBad); 29] = [
     ("udp://127.0.0.1:80?ttl=256", AddressBad::NoSetting),
     ("udp://127.0.0.1:80?TTL=3", AddressBad::NoSetting),
     ("udp://127.0.0.1:80?from=eth0", AddressBad::NoSetting),
+    ("udp://127.0.0.1:80?from=::1", AddressBad::NoSetting),
+    ("udp://[::1]:80?from=127.0.0.1", AddressBad::NoSetting),
+    ("udp://[::1]:80?ttl=3", AddressBad::NoSetting),
     ("udp://127.0.0.1:80?pkt_size=1316", AddressBad::NoSetting),
     ("udp://127.0.0.1:80?ttl=3&ttl=3", AddressBad::NoSetting),
     ("udp://127.0.0.1:80?ttl=3&", AddressBad::NoSetting),
@@ -163,7 +220,8 @@ fn each_refusal_has_its_text(rt: HostRuntime) -> Result<(), Fail> {
     let shown = format!(in rt.alloc(); "{}; {}", AddressBad::NoAddress, AddressBad::NoSetting)?;
     assert!(rt;
         shown.as_str()
-            == "no address a.b.c.d:port; behind ? stands neither ttl=1..255 nor from=a.b.c.d, or one twice"
+            == "no address a.b.c.d:port or [IPv6]:port; behind ? stands neither from= with an address of the same kind \
+                nor ttl=1..255 for IPv4, or one twice"
     );
     Ok(())
 }

@@ -283,11 +283,12 @@ fn a_host_says_why_an_address_is_refused(rt: HostRuntime) -> Result<(), Fail> {
     for (name, want) in [
         (
             "udp://localhost:80",
-            "udp://localhost:80: no address a.b.c.d:port",
+            "udp://localhost:80: no address a.b.c.d:port or [IPv6]:port",
         ),
         (
             "rtp://1.2.3.4:80?ttl=0",
-            "rtp://1.2.3.4:80?ttl=0: behind ? stands neither ttl=1..255 nor from=a.b.c.d, or one twice",
+            "rtp://1.2.3.4:80?ttl=0: behind ? stands neither from= with an address of the same kind nor \
+             ttl=1..255 for IPv4, or one twice",
         ),
     ] {
         assert_refused(&rt, &mut host, name);

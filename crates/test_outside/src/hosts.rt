@@ -9,6 +9,7 @@ use outside_io::{Bytes, Entropy, Failed, MemSource, NoMemory, Store8, Words};
 use outside_net::{Clock, Got, LinkSpec, Role, ScriptClock, ScriptLink};
 use std::alloc::Global;
 use std::fs;
+use std::net::{IpAddr, Ipv4Addr};
 use std::process::Abort;
 use std::test::Fail;
 
@@ -332,10 +333,7 @@ fn a_link_that_knows_no_peer_is_only_received_on(rt: HostRuntime) -> Result<(), 
     let link = ScriptLink::with(alloc, Vec::new(alloc), false, 1, &[], &[])?;
     parts.links.push(Place::Here(link))?;
     let mut host = MemHost::with(alloc, parts)?;
-    let spec = LinkSpec {
-        address: [127, 0, 0, 1],
-        port: 5000,
-    };
+    let spec = LinkSpec::at(IpAddr::V4(Ipv4Addr::LOCALHOST), 5000);
     for role in [Role::Sends, Role::Forwards] {
         assert_no_link(&rt, &mut host, &spec, role);
     }
@@ -397,10 +395,7 @@ fn second_link<H: Host>(
 #[test]
 fn links_and_clocks_are_handed_out_by_place(rt: HostRuntime) -> Result<(), Fail> {
     let mut host = host_of_places(rt.alloc())?;
-    let spec = LinkSpec {
-        address: [127, 0, 0, 1],
-        port: 5000,
-    };
+    let spec = LinkSpec::at(IpAddr::V4(Ipv4Addr::LOCALHOST), 5000);
     let (second, clock) = second_link(&rt, &mut host, &spec)?;
     let want = Opened {
         spec,
@@ -414,10 +409,7 @@ fn links_and_clocks_are_handed_out_by_place(rt: HostRuntime) -> Result<(), Fail>
 /// A receiving link on a free port of this machine, and where it is.
 fn bound<H: Host>(host: &mut H) -> Result<(H::Wire, LinkSpec), Fail> {
     for step in 0..100 {
-        let spec = LinkSpec {
-            address: [127, 0, 0, 1],
-            port: 42_100 + step,
-        };
+        let spec = LinkSpec::at(IpAddr::V4(Ipv4Addr::LOCALHOST), 42_100 + step);
         if let Ok(link) = host.link(&spec, Role::Receives, Profile::Main) {
             return Ok((link, spec));
         }

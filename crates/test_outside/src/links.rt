@@ -10,6 +10,7 @@ use outside_net::{
     Clock, Full, Got, Link, LinkSpec, ListTrace, Octets, ProcessClock, Role, ScriptClock,
     ScriptLink, ScriptRead, Trace, UdpLink,
 };
+use std::net::{IpAddr, Ipv4Addr};
 use std::process::Abort;
 use std::test::Fail;
 
@@ -110,10 +111,7 @@ fn a_refused_datagram_leaves_the_peers(rt: HostRuntime) -> Result<(), Fail> {
 /// A receiving link on a free port of this machine, and where it is.
 fn bound(rt: &HostRuntime, profile: Profile) -> Result<(UdpLink, LinkSpec), Failed> {
     for step in 0..100_u16 {
-        let spec = LinkSpec {
-            address: [127, 0, 0, 1],
-            port: 24_000 + 2 * step,
-        };
+        let spec = LinkSpec::at(IpAddr::V4(Ipv4Addr::LOCALHOST), 24_000 + 2 * step);
         if let Ok(receiving) = UdpLink::open(rt, &spec, Role::Receives, profile) {
             return Ok((receiving, spec));
         }

@@ -5,6 +5,7 @@ use outside_host::{
 };
 use outside_net::{LinkSpec, Role, ScriptClock, ScriptLink};
 use std::alloc::Global;
+use std::net::{IpAddr, Ipv4Addr};
 use std::process::Abort;
 use std::test::Fail;
 
@@ -42,17 +43,8 @@ fn host(alloc: Global, count: usize, failing: &[u64]) -> Result<MemHost, Fail> {
 
 /// Whether two links open. They are given back.
 fn do_links_open(alloc: Global, host: &mut MemHost) -> Result<bool, Fail> {
-    let address = [127, 0, 0, 1];
-    let specs = [
-        LinkSpec {
-            address,
-            port: 5000,
-        },
-        LinkSpec {
-            address,
-            port: 5002,
-        },
-    ];
+    let address = IpAddr::V4(Ipv4Addr::LOCALHOST);
+    let specs = [LinkSpec::at(address, 5000), LinkSpec::at(address, 5002)];
     match open_links(alloc, host, specs.as_slice(), Role::Sends, Profile::Simple) {
         Ok(links) => {
             back_links(host, links);
