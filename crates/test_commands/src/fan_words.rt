@@ -10,12 +10,14 @@ use std::test::Fail;
 /// What a line sets beside its outputs and its links.
 #[derive(Clone, Copy)]
 struct FanWords {
+    calls: bool,
     session: SessionWords<'static>,
     receiver: ReceiverWords,
     serving: ServingWords,
 }
 
 const UNSET: FanWords = FanWords {
+    calls: false,
     session: SessionWords {
         profile: Profile::Main,
         ..PLAIN
@@ -25,6 +27,7 @@ const UNSET: FanWords = FanWords {
 };
 
 const GREATEST: FanWords = FanWords {
+    calls: true,
     session: SessionWords {
         profile: Profile::Main,
         port: 65_534,
@@ -59,7 +62,7 @@ static FANS: [(&str, [u16; 2], [&str; 2], FanWords); 3] = [
     (
         "rist fan --full --pass p --bits 256 --tunnel=librist --drift --delay 30000 --span=16384 \
          --restart 60000 --reorder 1000 --least 1000 --tries 32 --nack=mask --own 4294967295 65534=a,2=b \
-         127.0.0.1:2 --turns 1099511627776 --idle 86400000 127.0.0.1:65535",
+         127.0.0.1:2 --turns 1099511627776 --call --idle 86400000 127.0.0.1:65535",
         [65_534, 2],
         ["a", "b"],
         GREATEST,
@@ -106,6 +109,7 @@ fn is_fan(
         ports: Vec::from_slice(alloc, &ports)?,
         names: Vec::from_slice(alloc, &names)?,
         links: specs(alloc, &[2, 65_535])?,
+        calls: words.calls,
         session: SessionWords {
             port: ports[0],
             ..words.session

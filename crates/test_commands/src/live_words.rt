@@ -91,7 +91,7 @@ static RECEIVED: [(&str, (ReceiverWords, ServingWords)); 3] = [
 
 /// Words that are no line of a receiving: an option one past its least or its greatest, or one of another command; and
 /// links.
-static NOT_RECEIVED: [&str; 32] = [
+static NOT_RECEIVED: [&str; 34] = [
     "rist recv",
     "rist recv -",
     "rist recv  127.0.0.1:2",
@@ -120,6 +120,8 @@ static NOT_RECEIVED: [&str; 32] = [
     "rist recv - 127.0.0.1:2 --in 1",
     "rist recv - 127.0.0.1:2 --nulls",
     "rist recv - 127.0.0.1:2 --full",
+    "rist recv - 127.0.0.1:2 --call",
+    "rist recv - 127.0.0.1:2 --profile main --listen",
     "rist recv - 127.0.0.1:2 --linger 1",
     "rist recv - 127.0.0.1:2 --store 1",
     "rist recv - 1.1.1.1:2 1.1.1.1:2 1.1.1.1:2 1.1.1.1:2 1.1.1.1:2 1.1.1.1:2 1.1.1.1:2 1.1.1.1:2 1.1.1.1:2 1.1.1.1:2 1.1.1.1:2 1.1.1.1:2 1.1.1.1:2 1.1.1.1:2 1.1.1.1:2 1.1.1.1:2 1.1.1.1:2",
@@ -177,6 +179,7 @@ fn is_received(
     let line = RecvLine {
         out: "-",
         links: specs(alloc, &[2, 65_534])?,
+        calls: false,
         session: PLAIN,
         receiver,
         serving,
@@ -227,6 +230,7 @@ fn all_watched(alloc: Global) -> Result<bool, Fail> {
         let line = RecvLine {
             out: "-",
             links: specs(alloc, &[2, 65_534])?,
+            calls: false,
             session: PLAIN,
             receiver: RECEIVER,
             serving: SERVING,

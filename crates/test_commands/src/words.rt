@@ -410,6 +410,7 @@ fn send_line(
     Ok(SendLine {
         source: "a",
         links: specs(alloc, ports)?,
+        listens: false,
         session,
         stream: STREAM,
         gap: 1000,
@@ -431,6 +432,7 @@ fn all_sent(alloc: Global) -> Result<bool, Fail> {
     };
     let plain = send_line(alloc, PLAIN, &[2, 65_534], Some(&[100, 1]))?;
     let full = SendLine {
+        listens: true,
         gap: 1,
         lead: 1000,
         store: 65_536,
@@ -440,7 +442,8 @@ fn all_sent(alloc: Global) -> Result<bool, Fail> {
         ..send_line(alloc, main, &[65_535], None)?
     };
     let shared = "rist send a 127.0.0.1:2 127.000.0.1:65534 --share 100:1";
-    let text = "rist send a --profile main --gap 1 --lead 1000 --echo --tunnel own --store 65536 \
+    let text =
+        "rist send a --profile main --gap 1 --lead 1000 --echo --tunnel own --listen --store 65536 \
                 --hold 1000 --linger 0 --turns 1 127.0.0.1:65535";
     Ok(reads(alloc, shared, Ok(Line::Send(plain)))? && reads(alloc, text, Ok(Line::Send(full)))?)
 }
