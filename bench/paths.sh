@@ -182,7 +182,7 @@ refused() {
 
 place='an address and a port, as 127.0.0.1:5000 or [::1]:5000'
 settings='behind ? stand from= with an address of the same kind, ttl=1..255 for IPv4, or both by &'
-bound='a link that receives is bound to its address, and takes nothing behind it'
+bound='a link that listens is bound to its address, and takes nothing behind it'
 refused 2 'no HOST:PORT in rist://::1:5000' send "$work/short" rist://::1:5000
 refused 2 'no HOST:PORT in rist://[1::2::3]:5000' send "$work/short" 'rist://[1::2::3]:5000'
 refused 2 'no HOST:PORT in rist://[10.9.0.1]:5000' send "$work/short" 'rist://[10.9.0.1]:5000'

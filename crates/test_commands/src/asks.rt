@@ -45,7 +45,7 @@ fn all_asked(alloc: Global) -> Result<bool, Fail> {
 }
 
 /// Words that are no line, and what is said of them.
-static COMPLAINTS: [(&str, &str); 66] = [
+static COMPLAINTS: [(&str, &str); 68] = [
     ("rist", "a command is missing (rist --help)"),
     (
         "rist play a b",
@@ -77,12 +77,12 @@ static COMPLAINTS: [(&str, &str); 66] = [
     ),
     (
         "rist recv out 127.0.0.1:2?from=127.0.0.1",
-        "LINK 127.0.0.1:2?from=127.0.0.1: a link that receives is bound to its address, and takes nothing behind it \
+        "LINK 127.0.0.1:2?from=127.0.0.1: a link that listens is bound to its address, and takes nothing behind it \
          (rist recv --help)",
     ),
     (
         "rist gate 127.0.0.1:2?ttl=3 127.0.0.1:4?ttl=3",
-        "LINK 127.0.0.1:2?ttl=3: a link that receives is bound to its address, and takes nothing behind it \
+        "LINK 127.0.0.1:2?ttl=3: a link that listens is bound to its address, and takes nothing behind it \
          (rist gate --help)",
     ),
     (
@@ -131,6 +131,15 @@ static COMPLAINTS: [(&str, &str); 66] = [
     (
         "rist recv out 127.0.0.1:2 --full",
         "--full: only with --profile main (rist recv --help)",
+    ),
+    (
+        "rist recv out 127.0.0.1:2 --call",
+        "--call: only with --profile main (rist recv --help)",
+    ),
+    (
+        "rist send a 127.0.0.1:2?from=127.0.0.1 --listen --profile main",
+        "LINK 127.0.0.1:2?from=127.0.0.1: a link that listens is bound to its address, and takes nothing behind it \
+         (rist send --help)",
     ),
     (
         "rist recv out 127.0.0.1:2 --profile mein",

@@ -310,6 +310,27 @@ fn a_flow_is_answered_where_it_came_from(rt: HostRuntime) -> Result<(), Failed> 
     Ok(())
 }
 
+/// A sending link that listens on a free port of this machine, and a receiving one that calls it.
+fn exchanged(rt: &HostRuntime) -> Result<(UdpLink, UdpLink), Failed> {
+    for step in 0..100_u16 {
+        let spec = LinkSpec::at(IpAddr::V4(Ipv4Addr::LOCALHOST), 24_400 + step);
+        if let Ok(sending) = UdpLink::open(rt, &spec, Role::SendsListening, Profile::Main) {
+            let receiving = UdpLink::open(rt, &spec, Role::ReceivesCalling, Profile::Main)?;
+            return Ok((sending, receiving));
+        }
+    }
+    Err(Failed)
+}
+
+#[test]
+fn a_sender_that_listens_sends_to_who_calls(rt: HostRuntime) -> Result<(), Failed> {
+    let (mut sending, mut receiving) = exchanged(&rt)?;
+    assert_written(&rt, &mut sending, Channel::Tunnel, b"A", Ok(false));
+    assert_sent(&rt, &mut receiving, &mut sending, b"HERE");
+    assert_sent(&rt, &mut sending, &mut receiving, b"B");
+    Ok(())
+}
+
 /// A receiving link on a free port of this machine, and a link that forwards to it.
 fn hop(rt: &HostRuntime) -> Result<(UdpLink, UdpLink), Failed> {
     let (receiving, spec) = bound(rt, Profile::Main)?;
