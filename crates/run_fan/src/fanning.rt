@@ -27,7 +27,8 @@ use outside_host::{
 use outside_io::Sink;
 use outside_net::{Clock, Link};
 use psk_seal::Sealer;
-use rist_words::{FanLine, receiving_role};
+use rist_words::FanLine;
+use rist_words::links::receiving_role;
 use run_parts::{Status, Telling, watch};
 use std::alloc::Global;
 use std::sync::Wait;

@@ -24,7 +24,8 @@ use psk_seal::Sealer;
 use rist_send::{SendFault, SendSettings, send};
 use rist_sender::{Sender, Settings};
 use rist_wire::Opener;
-use rist_words::{SendLine, sending_role};
+use rist_words::SendLine;
+use rist_words::links::sending_role;
 use run_parts::{Status, Telling, sealer_for, session_of, watch};
 use std::alloc::Global;
 
