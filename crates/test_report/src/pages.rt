@@ -126,7 +126,8 @@ pub fn reported(alloc: Global, source: Pieces, sink: Store8) -> (Result<(), Walk
     reported_with(alloc, 0, false, source, sink)
 }
 
-/// The same, where a flow may restart so many milliseconds after its last packet, and deadlines may follow a drifting clock.
+/// The same, where a flow may restart so many milliseconds after its last packet, and deadlines may follow a drifting
+/// clock.
 fn reported_with(
     alloc: Global,
     restart: u64,
