@@ -3,7 +3,7 @@
 # deleted and enciphered, and a session from `rist send` to `rist recv --record` over loopback on two links that lose 5 per cent of the
 # datagrams each way. What was sent has to be what came first time, what was recovered and what was never written; kept and late packets
 # those of `count`, octets those of `replay`, and each chart has to add up to its row of the table. In the Simple Profile what came on each
-# link, jitter and round trips have to be those that report_count.py counts apart. Then its processor time and its greatest memory over
+# link, jitter, round trips, the buffer's fill and the delay that was used up have to be those that report_count.py counts apart. Then its processor time and its greatest memory over
 # millions of records from a pipe: the time at most twice that of `count`, the memory that of a hundredth of them.
 # The script ends with 1 where that doesn't hold. It takes two minutes, needs python3, and writes only below a new folder in /tmp.
 # Words: how many pieces are sent (10000), how many records are piped (3000000), and a built program that stands for bin/rist (none).
@@ -38,8 +38,9 @@ told() {
     python3 - "$name" "$work/page" "$work/count" "$work/back" "$work/apart" <<'PY' || bad=1
 import os, re, sys
 name, page, counts, back, apart = sys.argv[1:6]
-text = open(page, encoding='ascii').read()
-row = {it[0]: int(it[1]) for it in re.findall(r'<tr><th>([^<]*)</th><td>(\d+) ', text)}
+# Numbers without the commas between groups of three digits.
+text = re.sub(r'(?<=\d),(?=\d{3})', '', open(page, encoding='ascii').read())
+row = {it[0]: int(it[1]) for it in re.findall(r'<tr><th>([^<]*)</th><td>(\d+)</td>', text)}
 charts = {title: [int(it) for it in re.findall(r'V(\d+)', steps)]
           for title, steps in re.findall(r"<h2>([^<]*)</h2>.*? d='M0 0([^']*)'", text, re.S)}
 count = {line.split()[0]: int(line.split()[1]) for line in open(counts)}
@@ -48,7 +49,7 @@ links = [total for title, total in sums.items() if title.startswith('Link ')]
 table = [[int(it) for it in numbers] for numbers in re.findall('<tr>' + r'<td>(\d+)</td>' * 4 + '</tr>', text)]
 counted = open(apart).read().splitlines()
 told = [f'link {" ".join(map(str, it))}' for it in table]
-told += [f'{it[0]} {it[1]}' for it in re.findall(r'<tr><th>((?:Jitter|Round)[^<]*)</th><td>([\d.]+) ', text)]
+told += [f'{it[0]} {it[1]}' for it in re.findall(r'<tr><th>((?:Jitter|Round|Buffer|Delay)[^<]*)</th><td>([\d.]+)</td>', text)]
 tests = [
     ('sent', row['Sent'], row['First time'] + row['Recovered'] + row['Never written']),
     ('kept', row['First time'] + row['Recovered'], count['kept']),
@@ -59,7 +60,7 @@ tests = [
     ('recovered by link', sum(it[3] for it in table), row['Recovered']),
     *((f'{kind} by link {it[0]}, its chart', it[at], sums.get(f'{kind}, link {it[0]}', 0))
       for it in table for at, kind in ((2, 'First time'), (3, 'Recovered'))),
-    ('links, jitter and round trips', told, counted or told),
+    ('links, jitter, round trips and the buffer', told, counted or told),
     *((f'chart of {title}', sums[title], row[title]) for title in ('Written', 'First time', 'Recovered', 'Never written', 'Late')),
 ]
 print(f'{name}: ' + ', '.join(f'{key} {value}' for key, value in row.items()) + f'; octets on links {links}')

@@ -1,4 +1,5 @@
-"""What a capture of the Simple Profile comes to, counted apart from `rist report`: prints the rows of each link, of jitter and of round trips.
+"""What a capture of the Simple Profile comes to, counted apart from `rist report`: prints the rows of each link, of jitter, of round
+trips and of the buffer.
 
 Words: the capture, and the delay in milliseconds. It knows one flow whose base stays, no span and no null packets that are deleted."""
 import struct
@@ -29,12 +30,18 @@ class Count:
         self.waiting, self.kept, self.floor = {}, set(), 0
         self.octets, self.first, self.recovered = [0] * 16, [0] * 16, [0] * 16
         self.jitter, self.trips = [], []
+        # the greatest fill after a record, and the most of the delay that was used up before a packet that was kept, in ticks
+        self.most = self.used = 0
 
     def play(self):
         due = [number for number, deadline in self.waiting.items() if deadline <= self.time]
         if due:
             self.floor = max(self.floor, max(due) + 1)
             self.waiting = {number: deadline for number, deadline in self.waiting.items() if number >= self.floor}
+
+    def fill(self):
+        """How far ahead the packet with the highest number is due, where it waits."""
+        return max(self.waiting.get(self.high, 0) - self.time, 0)
 
     def media(self, link, tick, packet):
         _, kind, word, stamp, ssrc = struct.unpack('>BBHII', packet[:12])
@@ -81,12 +88,16 @@ def main(path, delay):
     count = Count(int(delay))
     for link, channel, us, octets in records(path):
         tick = us * 9 // 100
+        fill, before, begun, kept = count.fill(), count.time, count.start is not None, len(count.kept)
         count.time = max(count.time, tick)
         count.play()
         if channel == 0 and octets:
             count.media(link, tick, octets)
         elif channel == 1:
             count.control(us, octets)
+        count.most = max(count.most, count.fill())
+        if begun and len(count.kept) > kept:
+            count.used = max(count.used, count.delay - max(fill - (count.time - before), 0))
     for link in range(16):
         if count.octets[link]:
             print('link', link, count.octets[link], count.first[link], count.recovered[link])
@@ -99,6 +110,8 @@ def main(path, delay):
         print('Round trips', many)
         for name, above in (('least', many - 1), ('median', many // 2), ('most', 0)):
             print(f'Round trip, {name}', ranked(count.trips, above))
+    print('Buffer, most', count.most // 90)
+    print('Delay used, most', count.used // 90)
 
 
 main(*sys.argv[1:])

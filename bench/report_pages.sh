@@ -113,10 +113,10 @@ started=
 
 for page in hour bursts cut restart peers; do
     [ -s "$pages/$page.html" ] || { echo "no page: $page"; bad=1; continue; }
-    echo "$page: $(sed -n 's/^<tr><th>\([^<]*\)<.th><td>\([^<]*\)<.*/\1 \2/p' "$pages/$page.html" | paste -sd ';')"
+    echo "$page: $(sed -n 's/^<tr><th>\([^<]*\)<.th><td>\([^<]*\)<.td><td>\([^<]*\)<.*/\1 \2 \3/p' "$pages/$page.html" | paste -sd ';')"
     command -v chromium > /dev/null || continue
     for width in 1000 400; do
-        timeout 60 chromium --headless --no-sandbox --disable-gpu --hide-scrollbars --user-data-dir="$work/chromium" --window-size=$width,2600 \
+        timeout 60 chromium --headless --no-sandbox --disable-gpu --hide-scrollbars --user-data-dir="$work/chromium" --window-size=$width,$((3200 + 1200 * (width < 500))) \
             --screenshot="$pages/$page-$width.png" "file://$pages/$page.html" > "$work/chromium.log" 2>&1 || { cat "$work/chromium.log"; bad=1; }
     done
 done

@@ -126,12 +126,12 @@ spread = {f'Jitter, {name}': f'{jitter[above] // 10}.{jitter[above] % 10}'
           for name, above in (('least', len(jitter) - 1), ('median', len(jitter) // 2), ('99%', len(jitter) // 100))}
 
 # By the page.
-text = open(f'{work}/page', encoding='ascii').read()
-page = {it[0]: int(it[1]) for it in re.findall(r'<tr><th>([^<]*)</th><td>(\d+) ', text)}
-tenths = dict(re.findall(r'<tr><th>(Jitter[^<]*)</th><td>([\d.]+) ', text))
+text = re.sub(r'(?<=\d),(?=\d{3})', '', open(f'{work}/page', encoding='ascii').read())
+page = {it[0]: int(it[1]) for it in re.findall(r'<tr><th>([^<]*)</th><td>(\d+)</td>', text)}
+tenths = dict(re.findall(r'<tr><th>(Jitter[^<]*)</th><td>([\d.]+)</td>', text))
 links = re.findall('<tr>' + r'<td>(\d+)</td>' * 4 + '</tr>', text)
-chart = re.search(r"<h2>Link 0</h2>.*?points='([^']*)'", text, re.S)
-points = [int(it.split(',')[1]) for it in chart.group(1).split()] if chart else []
+chart = re.search(r"<h2>Link 0</h2>.*? d='M0 0([^']*)'", text, re.S)
+points = [int(it) for it in re.findall(r'V(\d+)', chart.group(1))] if chart else []
 
 # What was asked for: the numbers of all requests, each as often as it was named.
 asked = []

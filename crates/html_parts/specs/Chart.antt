@@ -1,6 +1,6 @@
 -- A chart of points: SVG that stands in a page. Each definition is a text with a part behind it.
 use Rattle.std.specs.Prelude.{ℕ, ◌+◌, ◌-◌, ◌^◌, max, min, List, [], ◌∷◌, ◌++◌, length, codes}
-use Rattle.html_parts.specs.Numbers.{with_number}
+use Rattle.html_parts.specs.Numbers.{with_grouped, with_number}
 use Rattle.std.specs.List.{sum}
 
 -- the greatest of some points, and 0 where there are none
@@ -20,11 +20,10 @@ with_title text name = (text ++ codes "<section><h2>") ++ name
 abbrev pub with_numbered_title : List ℕ → List ℕ → ℕ → List ℕ
 with_numbered_title text name number = with_number (with_title text name) number
 
--- the greatest of some points with their unit, and how many seconds wide a bucket is
+-- the unit of points, how many seconds wide a bucket is, and the greatest of them
 abbrev pub with_most : List ℕ → List ℕ → ℕ → ℕ → List ℕ
 with_most text unit width most =
-    with_number (((with_number (text ++ codes "At most ") most ++ codes " ") ++ unit) ++ codes " in ") width
-    ++ codes " s"
+    with_grouped (with_number (((text ++ codes "Most ") ++ unit) ++ codes " in ") width ++ codes " s: ") most
 
 -- that stands between a title and a chart
 abbrev pub with_caption : List ℕ → List ℕ → ℕ → ℕ → List ℕ

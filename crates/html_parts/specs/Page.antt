@@ -1,6 +1,6 @@
 -- A page that stands alone: HTML with no script and nothing to fetch. Each definition is a text with a part behind it.
 use Rattle.std.specs.Prelude.{ℕ, List, ◌++◌, codes}
-use Rattle.html_parts.specs.Numbers.{with_number, with_tenths}
+use Rattle.html_parts.specs.Numbers.{with_grouped, with_number, with_tenths}
 
 -- what the head says of itself
 abbrev pub head_line : List ℕ
@@ -14,7 +14,7 @@ title_line =
 
 -- how the table looks
 abbrev pub table_line : List ℕ
-table_line = codes "th,td{text-align:left;vertical-align:top;padding:.2em 1em .2em 0}section{break-inside:avoid}\n"
+table_line = codes "th,td{text-align:left;vertical-align:top;padding:.2em .8em .2em 0}th+td{text-align:right}\n"
 
 -- how charts look: a thin frame, with room between it and the line, which is drawn whole at the greatest point and at 0
 abbrev pub chart_line : List ℕ
@@ -27,22 +27,23 @@ stroke_line = codes "table{margin-bottom:1em}path{fill:none;stroke:#000;vector-e
 
 -- where the page begins
 abbrev pub begin_line : List ℕ
-begin_line = codes "</style></head><body><h1>RIST session</h1><table>\n"
+begin_line = codes "section{break-inside:avoid}</style></head><body><h1>RIST session</h1><table>\n"
 
 -- the head, up to where the rows of the table begin
 abbrev pub with_head : List ℕ → List ℕ
 with_head text = (((((text ++ head_line) ++ title_line) ++ table_line) ++ chart_line) ++ stroke_line) ++ begin_line
 
--- a row of the table: a name, a number in decimal digits with its unit, and the rule that it is counted by
+-- a row of the table: a name, a number with commas between groups of three digits, its unit, and the rule that it is
+-- counted by
 abbrev pub with_row : List ℕ → List ℕ → ℕ → List ℕ → List ℕ → List ℕ
 with_row text name number unit rule =
-    ((((with_number (((text ++ codes "<tr><th>") ++ name) ++ codes "</th><td>") number ++ codes " ") ++ unit)
+    ((((with_grouped (((text ++ codes "<tr><th>") ++ name) ++ codes "</th><td>") number ++ codes "</td><td>") ++ unit)
     ++ codes "</td><td>") ++ rule) ++ codes "</td></tr>\n"
 
 -- a row of a number of tenths
 abbrev pub with_tenths_row : List ℕ → List ℕ → ℕ → List ℕ → List ℕ → List ℕ
 with_tenths_row text name tenths unit rule =
-    ((((with_tenths (((text ++ codes "<tr><th>") ++ name) ++ codes "</th><td>") tenths ++ codes " ") ++ unit)
+    ((((with_tenths (((text ++ codes "<tr><th>") ++ name) ++ codes "</th><td>") tenths ++ codes "</td><td>") ++ unit)
     ++ codes "</td><td>") ++ rule) ++ codes "</td></tr>\n"
 
 -- a sentence of a number between two texts
@@ -62,7 +63,7 @@ with_columns text first second third fourth =
 
 -- a number in a cell of its own
 abbrev pub with_cell : List ℕ → ℕ → List ℕ
-with_cell text number = with_number (text ++ codes "<td>") number ++ codes "</td>"
+with_cell text number = with_grouped (text ++ codes "<td>") number ++ codes "</td>"
 
 -- a row of four numbers
 abbrev pub with_numbers : List ℕ → ℕ → ℕ → ℕ → ℕ → List ℕ

@@ -2,7 +2,7 @@
 ghost use Rattle.std.specs.Prelude.{◌≡◌, ◌≤◌, ◌+◌, ◌*◌, length, take};
 ghost use Rattle.html_parts.specs.Chart.{with_title, with_numbered_title, with_most, with_caption, with_label, with_frame, with_point, with_points, with_chart};
 
-use crate::digits::put_number;
+use crate::digits::{put_grouped, put_number};
 use crate::points::greatest;
 use octet_fields::put_at;
 
@@ -57,9 +57,9 @@ pub fn put_chart(out: &mut [u8], at: usize, unit: &str, width: u64, points: &[u6
 
 // What stands above a chart.
 fn put_caption(out: &mut [u8], at: usize, unit: &str, width: u64, most: u64) -> usize
-    requires room { at + length unit.now + 100 ≤ length out.old }
+    requires room { at + length unit.now + 110 ≤ length out.old }
     ensures octets { take result out.new ≡ with_caption (take at out.old) unit.now width most }
-    ensures within { result ≤ at + length unit.now + 100 }
+    ensures within { result ≤ at + length unit.now + 110 }
 {
     let at = put_at(out, at, b"</h2><p>");
     let at = put_most(out, at, unit, width, most);
@@ -68,9 +68,9 @@ fn put_caption(out: &mut [u8], at: usize, unit: &str, width: u64, most: u64) -> 
 
 // What a chart is called where it isn't seen.
 fn put_label(out: &mut [u8], at: usize, unit: &str, width: u64, most: u64) -> usize
-    requires room { at + length unit.now + 100 ≤ length out.old }
+    requires room { at + length unit.now + 110 ≤ length out.old }
     ensures octets { take result out.new ≡ with_label (take at out.old) unit.now width most }
-    ensures within { result ≤ at + length unit.now + 100 }
+    ensures within { result ≤ at + length unit.now + 110 }
 {
     let at = put_at(out, at, b"<svg role=img aria-label='");
     put_most(out, at, unit, width, most)
@@ -78,17 +78,16 @@ fn put_label(out: &mut [u8], at: usize, unit: &str, width: u64, most: u64) -> us
 
 // The greatest of some points.
 fn put_most(out: &mut [u8], at: usize, unit: &str, width: u64, most: u64) -> usize
-    requires room { at + length unit.now + 55 ≤ length out.old }
+    requires room { at + length unit.now + 75 ≤ length out.old }
     ensures octets { take result out.new ≡ with_most (take at out.old) unit.now width most }
-    ensures within { result ≤ at + length unit.now + 55 }
+    ensures within { result ≤ at + length unit.now + 75 }
 {
-    let at = put_at(out, at, b"At most ");
-    let at = put_number(out, at, most);
-    let at = put_at(out, at, b" ");
+    let at = put_at(out, at, b"Most ");
     let at = put_at(out, at, unit.as_bytes());
     let at = put_at(out, at, b" in ");
     let at = put_number(out, at, width);
-    put_at(out, at, b" s")
+    let at = put_at(out, at, b" s: ");
+    put_grouped(out, at, most)
 }
 
 // How the line is drawn: a unit of the frame is a bucket to the right, and one of what is counted upwards.

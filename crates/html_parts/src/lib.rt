@@ -1,5 +1,5 @@
-//! Parts of a page that stands alone, as octets: its head, rows of a table, and charts of points, drawn as lines of SVG.
-//! A contract sees the text with the part behind it.
+//! Parts of a page that stands alone, as octets: its head, rows of a table, and charts of points, drawn as lines of
+//! SVG. A contract sees the text with the part behind it.
 #![tactic(auto)]
 
 mod chart;

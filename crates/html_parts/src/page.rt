@@ -2,17 +2,17 @@
 ghost use Rattle.std.specs.Prelude.{◌≡◌, ◌≤◌, ◌+◌, length, take};
 ghost use Rattle.html_parts.specs.Page.{with_head, with_row, with_tenths_row, with_name, with_columns, with_cell, with_numbers, with_note, with_table_end, with_foot};
 
-use crate::digits::{put_number, put_tenths};
+use crate::digits::{put_grouped, put_number, put_tenths};
 use octet_fields::put_at;
 
 /// How many octets the head has at most.
 pub const HEAD_LEN: usize = 700;
 
 /// How many octets a row has at most beside its three texts.
-pub const ROW_LEN: usize = 80;
+pub const ROW_LEN: usize = 110;
 
 /// How many octets a row of four numbers has at most.
-pub const NUMBERS_LEN: usize = 150;
+pub const NUMBERS_LEN: usize = 220;
 
 /// How many octets the foot has at most, and the end of the table.
 pub const FOOT_LEN: usize = 64;
@@ -36,7 +36,7 @@ pub fn put_head(out: &mut [u8], at: usize) -> usize
     let at = put_at(
         out,
         at,
-        b"th,td{text-align:left;vertical-align:top;padding:.2em 1em .2em 0}section{break-inside:avoid}\n",
+        b"th,td{text-align:left;vertical-align:top;padding:.2em .8em .2em 0}th+td{text-align:right}\n",
     );
     let at = put_at(
         out,
@@ -51,11 +51,12 @@ pub fn put_head(out: &mut [u8], at: usize) -> usize
     put_at(
         out,
         at,
-        b"</style></head><body><h1>RIST session</h1><table>\n",
+        b"section{break-inside:avoid}</style></head><body><h1>RIST session</h1><table>\n",
     )
 }
 
-/// Puts a row of the table to its place: a name, a number with its unit, and the rule that it is counted by.
+/// Puts a row of the table to its place: a name, a number with commas between groups of three digits, its unit, and the
+/// rule that it is counted by.
 pub fn put_row(out: &mut [u8], at: usize, name: &str, number: u64, unit: &str, rule: &str) -> usize
     requires room { at + length name.now + length unit.now + length rule.now + ROW_LEN ≤ length out.old }
     ensures octets { take result out.new ≡ with_row (take at out.old) name.now number unit.now rule.now }
@@ -64,8 +65,8 @@ pub fn put_row(out: &mut [u8], at: usize, name: &str, number: u64, unit: &str, r
     let at = put_at(out, at, b"<tr><th>");
     let at = put_at(out, at, name.as_bytes());
     let at = put_at(out, at, b"</th><td>");
-    let at = put_number(out, at, number);
-    let at = put_at(out, at, b" ");
+    let at = put_grouped(out, at, number);
+    let at = put_at(out, at, b"</td><td>");
     let at = put_at(out, at, unit.as_bytes());
     let at = put_at(out, at, b"</td><td>");
     let at = put_at(out, at, rule.as_bytes());
@@ -89,7 +90,7 @@ pub fn put_tenths_row(
     let at = put_at(out, at, name.as_bytes());
     let at = put_at(out, at, b"</th><td>");
     let at = put_tenths(out, at, tenths);
-    let at = put_at(out, at, b" ");
+    let at = put_at(out, at, b"</td><td>");
     let at = put_at(out, at, unit.as_bytes());
     let at = put_at(out, at, b"</td><td>");
     let at = put_at(out, at, rule.as_bytes());
@@ -166,12 +167,12 @@ pub fn put_numbers(
 
 // A number in a cell of its own.
 fn put_cell(out: &mut [u8], at: usize, number: u64) -> usize
-    requires room { at + 29 ≤ length out.old }
+    requires room { at + 49 ≤ length out.old }
     ensures octets { take result out.new ≡ with_cell (take at out.old) number }
-    ensures within { result ≤ at + 29 }
+    ensures within { result ≤ at + 49 }
 {
     let at = put_at(out, at, b"<td>");
-    let at = put_number(out, at, number);
+    let at = put_grouped(out, at, number);
     put_at(out, at, b"</td>")
 }
 

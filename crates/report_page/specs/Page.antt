@@ -7,7 +7,7 @@ use Rattle.time_series.specs.Points.{capped}
 use Rattle.value_histogram.specs.declared.spread.Spread.{Spread}
 use Rattle.html_parts.specs.Page.{with_head, with_row, with_tenths_row, with_columns, with_numbers, with_note}
 use Rattle.html_parts.specs.Page.{with_table_end, with_foot}
-use Rattle.html_parts.specs.Chart.{total_of, with_title, with_numbered_title, with_chart}
+use Rattle.html_parts.specs.Chart.{greatest_of, total_of, with_title, with_numbered_title, with_chart}
 use Rattle.session_figures.specs.Figures.{Figures}
 
 -- kilobits in a second, rounded down, of octets that came in ticks of 1/90,000 s; 0 where no time has passed
@@ -55,6 +55,28 @@ with_trip_rows text trips =
     (codes "Round trip, median") trips.median (codes "ms") (codes "at most half are greater"))
     (codes "Round trip, most") trips.greatest (codes "ms") (codes "none is greater")
 
+-- the playout buffer
+abbrev pub with_buffer_rows : List ℕ → Figures → List ℕ
+with_buffer_rows text f =
+    with_row (with_row text
+    (codes "Buffer, most") (greatest_of f.fill) (codes "ms")
+    (codes "how far ahead the packet with the highest number was due"))
+    (codes "Delay used, most") (greatest_of f.used) (codes "ms")
+    (codes "of the playout delay: what the buffer lacked of it before a packet that was kept")
+
+-- a row of what some points sum up to, if any of them isn't 0
+abbrev pub with_some_row : List ℕ → List ℕ → List ℕ → List ℕ → List ℕ → List ℕ
+with_some_row text name points unit rule =
+    if total_of points == 0 then text else with_row text name (total_of points) unit rule
+
+-- how the base of deadlines drifted, if it moved
+abbrev pub with_drift_rows : List ℕ → Figures → List ℕ
+with_drift_rows text f =
+    with_some_row (with_some_row text
+    (codes "Drift to later") f.later (codes "ticks")
+    (codes "of 1/90,000 s: deadlines moved so, as where the sender's clock is slow"))
+    (codes "Drift to earlier") f.earlier (codes "ticks") (codes "of 1/90,000 s: as where it is fast")
+
 -- what came in vain, how often the flow restarted, and how wide a bucket of the charts is
 abbrev pub with_last_rows : List ℕ → Figures → List ℕ
 with_last_rows text f =
@@ -66,8 +88,8 @@ with_last_rows text f =
 -- the table of all that
 abbrev pub with_table : List ℕ → Figures → List ℕ
 with_table text f =
-    with_table_end (with_last_rows (with_trip_rows (with_jitter_rows (with_came_rows (with_sent_rows text f) f)
-    f.jitter) f.trips) f)
+    with_table_end (with_last_rows (with_drift_rows (with_buffer_rows (with_trip_rows (with_jitter_rows
+    (with_came_rows (with_sent_rows text f) f) f.jitter) f.trips) f) f) f)
 
 -- ---- links
 
@@ -134,6 +156,20 @@ with_lost_charts text f =
     (codes "Late") (codes "packets") f.width f.late)
     (codes "Restarts") (codes "restarts") f.width f.restarts
 
+-- the playout buffer
+abbrev pub with_buffer_charts : List ℕ → Figures → List ℕ
+with_buffer_charts text f =
+    with_titled_chart (with_titled_chart text
+    (codes "Buffer") (codes "ms") f.width f.fill)
+    (codes "Delay used") (codes "ms") f.width f.used
+
+-- where the base of deadlines moved, if it did
+abbrev pub with_drift_charts : List ℕ → Figures → List ℕ
+with_drift_charts text f =
+    with_some_chart (with_some_chart text
+    (codes "Drift to later") (codes "ticks") f.width f.later)
+    (codes "Drift to earlier") (codes "ticks") f.width f.earlier
+
 -- an amount that came on a link, if any did: under a name and the link's place
 abbrev pub with_link : List ℕ → List ℕ → List ℕ → ℕ → ℕ → List ℕ → List ℕ
 with_link text name unit width link points =
@@ -156,8 +192,8 @@ with_link_charts text f =
 -- the page up to where the charts of links begin
 abbrev pub front_of : Figures → List ℕ
 front_of f =
-    with_lost_charts (with_came_charts (with_link_table (with_table (with_head []) f) f.ticks f.links f.first_links
-    f.recovered_links) f) f
+    with_drift_charts (with_buffer_charts (with_lost_charts (with_came_charts (with_link_table (with_table
+    (with_head []) f) f.ticks f.links f.first_links f.recovered_links) f) f) f) f
 
 -- the page
 abbrev pub page_of : Figures → List ℕ

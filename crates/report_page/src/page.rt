@@ -4,7 +4,9 @@ ghost use Rattle.link_channels.specs.declared.bounds.TheConstants.{MAX_LINKS};
 ghost use Rattle.session_figures.specs.Counting.{figures_seen};
 ghost use Rattle.report_page.specs.Page.{HasAllLinks, front_of, page_of, with_link_charts};
 
-use crate::charts::{TITLED_LEN, put_came_charts, put_links, put_lost_charts};
+use crate::charts::{
+    TITLED_LEN, put_buffer_charts, put_came_charts, put_drift_charts, put_links, put_lost_charts,
+};
 use crate::link_table::{LINK_TABLE_LEN, all_links, put_link_table};
 use crate::rows::{TABLE_LEN, put_table};
 use html_parts::{FOOT_LEN, HEAD_LEN, put_foot, put_head};
@@ -12,7 +14,7 @@ use link_channels::MAX_LINKS;
 use session_figures::Figures;
 
 /// How many octets a page has at most in front of the charts of links.
-const FRONT_LEN: usize = HEAD_LEN + TABLE_LEN + LINK_TABLE_LEN + 6 * TITLED_LEN;
+const FRONT_LEN: usize = HEAD_LEN + TABLE_LEN + LINK_TABLE_LEN + 10 * TITLED_LEN;
 
 /// How many octets a page has at most.
 pub const PAGE_LEN: usize = FRONT_LEN + 3 * MAX_LINKS * TITLED_LEN + FOOT_LEN;
@@ -39,7 +41,9 @@ fn put_front(figures: &Figures<'_>, out: &mut [u8]) -> usize
     let at = put_table(out, at, figures);
     let at = put_link_table(out, at, figures.ticks, figures.table);
     let at = put_came_charts(out, at, figures);
-    put_lost_charts(out, at, figures)
+    let at = put_lost_charts(out, at, figures);
+    let at = put_buffer_charts(out, at, figures);
+    put_drift_charts(out, at, figures)
 }
 
 // Puts the charts of links.

@@ -32,7 +32,8 @@ impl PageWriter {
     ghost use Rattle.rist_ends.specs.Settings.{IsInRange, limits_of};
     ghost use Rattle.report_page.specs.Reported.{HasReported};
 
-    /// One in a session, with the limits of these settings, that was told nothing. All memory of a report is taken here.
+    /// One in a session, with the limits of these settings, that was told nothing. All memory of a report is taken
+    /// here.
     pub fn with(
         alloc: Global,
         session: &Session,

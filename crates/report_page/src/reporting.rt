@@ -10,9 +10,9 @@ use crate::page_writer::PageWriter;
 use capture_walk::{Records, WalkBad, walk};
 use outside_io::Sink;
 
-/// Counts the step of each record of a file, in its session, and then writes one page: what the session came to in all and
-/// over time. It is written also where no record stands at an offset, where a read fails, and where a record ends past 2^40
-/// octets, of the whole records before. No memory is taken.
+/// Counts the step of each record of a file, in its session, and then writes one page: what the session came to in all
+/// and over time. It is written also where no record stands at an offset, where a read fails, and where a record ends
+/// past 2^40 octets, of the whole records before. No memory is taken.
 pub fn report<R: Records, K: Sink>(
     mut writer: PageWriter,
     reader: &mut R,

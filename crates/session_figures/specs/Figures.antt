@@ -61,8 +61,8 @@ recovered_count limits history = sum (map (λ entry. entry.amounts.recovered) (e
 -- retransmission on each recovered, the octets of packets that were kept, the packets that were received first time
 -- and those that a retransmission recovered, the numbers that the playout passed without a packet, the packets that
 -- came too late, and how often the flow restarted; the greatest fill of the buffer after a step, and the most of the
--- playout delay that was used up before a packet that was kept, in milliseconds; and by how many ticks the base of deadlines moved to
--- later, and to earlier
+-- playout delay that was used up before a packet that was kept, in milliseconds; and by how many ticks the base of
+-- deadlines moved to later, and to earlier
 pub record Figures : Type 0 where
   pub ticks : ℕ
   pub sent : ℕ

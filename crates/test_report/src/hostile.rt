@@ -11,44 +11,50 @@ use std::test::Fail;
 const CUT_PAGE: &[u8] = b"<!DOCTYPE html>\n<html lang=en><head><meta charset=utf-8>\
 <meta name=viewport content='width=device-width'>\n\
 <title>RIST session</title><style>body{font-family:sans-serif;max-width:60em;margin:auto;padding:1em}\n\
-th,td{text-align:left;vertical-align:top;padding:.2em 1em .2em 0}section{break-inside:avoid}\n\
+th,td{text-align:left;vertical-align:top;padding:.2em .8em .2em 0}th+td{text-align:right}\n\
 svg{box-sizing:border-box;width:100%;height:8em;padding:6px;border:1px solid #999;overflow:visible}\n\
 table{margin-bottom:1em}path{fill:none;stroke:#000;vector-effect:non-scaling-stroke}\n\
-</style></head><body><h1>RIST session</h1><table>\n\
-<tr><th>Length</th><td>1 s</td><td>from the first record to the last</td></tr>\n\
-<tr><th>Rate</th><td>0 kbit/s</td><td>octets written, over the length</td></tr>\n\
-<tr><th>Written</th><td>7 octets</td><td>payloads kept, null packets restored</td></tr>\n\
-<tr><th>Sent</th><td>6 packets</td><td>numbers from the lowest kept to the highest, flow by flow</td></tr>\n\
-<tr><th>First time</th><td>3 packets</td><td>kept, and no retransmission</td></tr>\n\
-<tr><th>Recovered</th><td>1 packets</td><td>kept, and a retransmission</td></tr>\n\
-<tr><th>Never written</th><td>2 packets</td><td>numbers passed without a packet</td></tr>\n\
-<tr><th>Jitter, least</th><td>0.0 ms</td><td>time between two first-time packets, against that between their timestamps</td></tr>\n\
-<tr><th>Jitter, median</th><td>0.0 ms</td><td>at most half are greater</td></tr>\n\
-<tr><th>Jitter, 99%</th><td>0.0 ms</td><td>at most one in a hundred is greater</td></tr>\n\
-<tr><th>Late</th><td>1 packets</td><td>came after their deadline or the playout</td></tr>\n\
-<tr><th>Restarts</th><td>0 restarts</td><td>another flow took the place of the one before</td></tr>\n\
-<tr><th>Bucket</th><td>1 s</td><td>of the charts below: 1 s, doubled until 4,096 are enough</td></tr>\n\
+section{break-inside:avoid}</style></head><body><h1>RIST session</h1><table>\n\
+<tr><th>Length</th><td>1</td><td>s</td><td>from the first record to the last</td></tr>\n\
+<tr><th>Rate</th><td>0</td><td>kbit/s</td><td>octets written, over the length</td></tr>\n\
+<tr><th>Written</th><td>7</td><td>octets</td><td>payloads kept, null packets restored</td></tr>\n\
+<tr><th>Sent</th><td>6</td><td>packets</td><td>numbers from the lowest kept to the highest, flow by flow</td></tr>\n\
+<tr><th>First time</th><td>3</td><td>packets</td><td>kept, and no retransmission</td></tr>\n\
+<tr><th>Recovered</th><td>1</td><td>packets</td><td>kept, and a retransmission</td></tr>\n\
+<tr><th>Never written</th><td>2</td><td>packets</td><td>numbers passed without a packet</td></tr>\n\
+<tr><th>Jitter, least</th><td>0.0</td><td>ms</td><td>time between two first-time packets, against that between their timestamps</td></tr>\n\
+<tr><th>Jitter, median</th><td>0.0</td><td>ms</td><td>at most half are greater</td></tr>\n\
+<tr><th>Jitter, 99%</th><td>0.0</td><td>ms</td><td>at most one in a hundred is greater</td></tr>\n\
+<tr><th>Buffer, most</th><td>1,000</td><td>ms</td><td>how far ahead the packet with the highest number was due</td></tr>\n\
+<tr><th>Delay used, most</th><td>1,000</td><td>ms</td><td>of the playout delay: what the buffer lacked of it before a packet that was kept</td></tr>\n\
+<tr><th>Late</th><td>1</td><td>packets</td><td>came after their deadline or the playout</td></tr>\n\
+<tr><th>Restarts</th><td>0</td><td>restarts</td><td>another flow took the place of the one before</td></tr>\n\
+<tr><th>Bucket</th><td>1</td><td>s</td><td>of the charts below: 1 s, doubled until 4,096 are enough</td></tr>\n\
 </table>\n\
 <table>\n<tr><th>Link</th><th>Octets</th><th>First time</th><th>Recovered</th></tr>\n\
 <tr><td>0</td><td>6</td><td>3</td><td>0</td></tr>\n<tr><td>1</td><td>3</td><td>0</td><td>1</td></tr>\n</table>\n\
 <p>Each chart runs from 0 s to the end after 1 s, and its lower edge is 0. Its last bucket is cut short by the end.</p>\n\
-<section><h2>Written</h2><p>At most 4 octets in 1 s</p>\n<svg role=img aria-label='At most 4 octets in 1 s' preserveAspectRatio=none viewBox='0 0 2 4'>\
+<section><h2>Written</h2><p>Most octets in 1 s: 4</p>\n<svg role=img aria-label='Most octets in 1 s: 4' preserveAspectRatio=none viewBox='0 0 2 4'>\
 <path transform='matrix(1 0 0 -1 0 4)' d='M0 0V4H1V3H2'/></svg></section>\n\
-<section><h2>First time</h2><p>At most 2 packets in 1 s</p>\n<svg role=img aria-label='At most 2 packets in 1 s' preserveAspectRatio=none viewBox='0 0 2 2'>\
+<section><h2>First time</h2><p>Most packets in 1 s: 2</p>\n<svg role=img aria-label='Most packets in 1 s: 2' preserveAspectRatio=none viewBox='0 0 2 2'>\
 <path transform='matrix(1 0 0 -1 0 2)' d='M0 0V2H1V1H2'/></svg></section>\n\
-<section><h2>Recovered</h2><p>At most 1 packets in 1 s</p>\n<svg role=img aria-label='At most 1 packets in 1 s' preserveAspectRatio=none viewBox='0 0 2 1'>\
+<section><h2>Recovered</h2><p>Most packets in 1 s: 1</p>\n<svg role=img aria-label='Most packets in 1 s: 1' preserveAspectRatio=none viewBox='0 0 2 1'>\
 <path transform='matrix(1 0 0 -1 0 1)' d='M0 0V1H1V0H2'/></svg></section>\n\
-<section><h2>Never written</h2><p>At most 2 packets in 1 s</p>\n<svg role=img aria-label='At most 2 packets in 1 s' preserveAspectRatio=none viewBox='0 0 2 2'>\
+<section><h2>Never written</h2><p>Most packets in 1 s: 2</p>\n<svg role=img aria-label='Most packets in 1 s: 2' preserveAspectRatio=none viewBox='0 0 2 2'>\
 <path transform='matrix(1 0 0 -1 0 2)' d='M0 0V0H1V2H2'/></svg></section>\n\
-<section><h2>Late</h2><p>At most 1 packets in 1 s</p>\n<svg role=img aria-label='At most 1 packets in 1 s' preserveAspectRatio=none viewBox='0 0 2 1'>\
+<section><h2>Late</h2><p>Most packets in 1 s: 1</p>\n<svg role=img aria-label='Most packets in 1 s: 1' preserveAspectRatio=none viewBox='0 0 2 1'>\
 <path transform='matrix(1 0 0 -1 0 1)' d='M0 0V0H1V1H2'/></svg></section>\n\
-<section><h2>Link 0</h2><p>At most 3 octets in 1 s</p>\n<svg role=img aria-label='At most 3 octets in 1 s' preserveAspectRatio=none viewBox='0 0 2 3'>\
+<section><h2>Buffer</h2><p>Most ms in 1 s: 1,000</p>\n<svg role=img aria-label='Most ms in 1 s: 1,000' preserveAspectRatio=none viewBox='0 0 2 1000'>\
+<path transform='matrix(1 0 0 -1 0 1000)' d='M0 0V1000H1V1000H2'/></svg></section>\n\
+<section><h2>Delay used</h2><p>Most ms in 1 s: 1,000</p>\n<svg role=img aria-label='Most ms in 1 s: 1,000' preserveAspectRatio=none viewBox='0 0 2 1000'>\
+<path transform='matrix(1 0 0 -1 0 1000)' d='M0 0V300H1V1000H2'/></svg></section>\n\
+<section><h2>Link 0</h2><p>Most octets in 1 s: 3</p>\n<svg role=img aria-label='Most octets in 1 s: 3' preserveAspectRatio=none viewBox='0 0 2 3'>\
 <path transform='matrix(1 0 0 -1 0 3)' d='M0 0V3H1V3H2'/></svg></section>\n\
-<section><h2>Link 1</h2><p>At most 2 octets in 1 s</p>\n<svg role=img aria-label='At most 2 octets in 1 s' preserveAspectRatio=none viewBox='0 0 2 2'>\
+<section><h2>Link 1</h2><p>Most octets in 1 s: 2</p>\n<svg role=img aria-label='Most octets in 1 s: 2' preserveAspectRatio=none viewBox='0 0 2 2'>\
 <path transform='matrix(1 0 0 -1 0 2)' d='M0 0V1H1V2H2'/></svg></section>\n\
-<section><h2>First time, link 0</h2><p>At most 2 packets in 1 s</p>\n<svg role=img aria-label='At most 2 packets in 1 s' preserveAspectRatio=none viewBox='0 0 2 2'>\
+<section><h2>First time, link 0</h2><p>Most packets in 1 s: 2</p>\n<svg role=img aria-label='Most packets in 1 s: 2' preserveAspectRatio=none viewBox='0 0 2 2'>\
 <path transform='matrix(1 0 0 -1 0 2)' d='M0 0V2H1V1H2'/></svg></section>\n\
-<section><h2>Recovered, link 1</h2><p>At most 1 packets in 1 s</p>\n<svg role=img aria-label='At most 1 packets in 1 s' preserveAspectRatio=none viewBox='0 0 2 1'>\
+<section><h2>Recovered, link 1</h2><p>Most packets in 1 s: 1</p>\n<svg role=img aria-label='Most packets in 1 s: 1' preserveAspectRatio=none viewBox='0 0 2 1'>\
 <path transform='matrix(1 0 0 -1 0 1)' d='M0 0V1H1V0H2'/></svg></section>\n\
 </body></html>\n";
 

@@ -1,6 +1,6 @@
 //! Series of worked lengths.
 use std::test::Fail;
-use time_series::Series;
+use time_series::{Peaks, Series};
 
 #[test]
 fn there_is_a_point_for_each_of_4096_seconds(rt: HostRuntime) -> Result<(), Fail> {
@@ -33,5 +33,19 @@ fn a_longer_series_has_wider_buckets(rt: HostRuntime) -> Result<(), Fail> {
     assert!(rt; series.width() == 32);
     assert!(rt; series.points().len() == 2701);
     assert!(rt; series.points().last() == Some(&9));
+    Ok(())
+}
+
+#[test]
+fn a_wider_bucket_keeps_the_greater_peak(rt: HostRuntime) -> Result<(), Fail> {
+    let mut peaks = Peaks::new(rt.alloc())?;
+    peaks.add(0, 3);
+    peaks.add(1, 7);
+    peaks.add(1, 5);
+    assert!(rt; peaks.points() == [3, 7].as_slice());
+    peaks.add(4096, 1);
+    assert!(rt; peaks.points().len() == 2049);
+    assert!(rt; peaks.points().first() == Some(&7));
+    assert!(rt; peaks.points().last() == Some(&1));
     Ok(())
 }

@@ -7,5 +7,5 @@ use Rattle.report_page.proofs.link_table.put_link_rows.Given as goal
 abbrev pub invariant-loop-link : goal.invariant-loop-link
 invariant-loop-link l = record {
   octets : take l.end l.out ≡ with_link_rows (take l.at l.fn.out) l.link (map shown_points l.links) (map shown_points l.firsts) (map shown_points l.recovered);
-  within : l.end ≤ l.at + 150 * l.link;
+  within : l.end ≤ l.at + 220 * l.link;
 }
