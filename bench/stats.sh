@@ -1,7 +1,8 @@
 #!/bin/sh
 # Sends a stream from `rist send` to `rist recv --stats 100` over four links of loopback, once with the lines in a file and once with an
 # error output that nobody reads and that is full after some ten seconds. Each time all must come, octet for octet. Each line of the
-# file must be a JSON object, each link must come up and go down once, and the totals of its last line must have all that was sent.
+# file must be a JSON object, each link must come up and go down once, and the totals of its last line must have all that was sent. The
+# last line of the receiver must have the counts that `recv` prints at its end.
 # The script ends with 1 where that doesn't hold. It takes a minute, needs python3, and writes only below a new folder in /tmp. Where a
 # tool isn't there it says so and ends with status 3, without `recv` with status 4.
 # Words: how many pieces (20000), and a built program that stands for bin/rist (none).
@@ -45,13 +46,16 @@ run() {
 echo 'lines in a file'
 run "$work/recv" --stats-file "$work/lines"
 cat "$work/recv"
-python3 - "$work/lines" "$count" << 'END' || fail 'the lines'
+python3 - "$work/lines" "$count" "$work/recv" << 'END' || fail 'the lines'
 import json
 import sys
 
-last, changes = {}, {}
+last, changes, receiver = {}, {}, []
 for line in open(sys.argv[1], encoding="utf-8"):
     it = json.loads(line)
+    if it["event"] == "receiver":
+        receiver.append(it)
+        continue
     last[it["link"]] = it
     if it["event"] != "interval":
         changes.setdefault(it["link"], []).append(it["event"])
@@ -59,6 +63,18 @@ assert changes == {link: ["up", "down"] for link in range(4)}, changes
 for link, it in sorted(last.items()):
     assert it["datagrams"] >= int(sys.argv[2]) and it["dropped"] == 0, it
     print(link, it["datagrams"], it["octets"])
+
+# The counts that the run printed at its end: the last line of the receiver comes seconds after the last packet, so it has all of them.
+said = open(sys.argv[3], encoding="utf-8").read().replace(",", " ").split()
+counts = {said[at]: int(said[at + 1]) for at in range(len(said) - 1) if said[at + 1].isdigit()}
+assert len(receiver) >= 20 and all(it["flow"] == 0 for it in receiver), len(receiver)
+for before, after in zip(receiver, receiver[1:]):
+    assert all(before["packets"][name] <= after["packets"][name] for name in before["packets"]), after
+end = receiver[-1]
+for name, count in {**end["packets"], "refused": end["refused"]}.items():
+    assert name == "recovered" or counts.get(name) == count, (name, count, counts)
+assert end["packets"]["recovered"] <= end["packets"]["kept"] and end["held"] == 0, end
+print("receiver", end)
 END
 echo 'an error output that nobody reads'
 mkfifo "$work/nobody"

@@ -11,13 +11,13 @@ use Rattle.fan_desk.proofs.flows.TunnelDeskFlowsRowPassUnit.make_step.Goals as g
 pub returns-clause-ok : goal.returns-clause-ok
 returns-clause-ok g c =
     subst (λ (t : Option (List Datagram)). OnOk c.step_and_send-done.result (Goes (several g.N.FanOrigin.ports g.N.FanOrigin.given g.N.FanOrigin.places) (holds (own_rows c.args.own.now.pass) (g.L.Link.taken c.args.link.now)) (holds (own_rows c.step_and_send-done.new.own.pass) t)
-        (record { place = c.args.place; planned = told_plan (g.L.Link.knows c.args.link.now) c.args.told.now } ∷ [])))
+    (record { place = c.args.place; planned = told_plan (g.L.Link.knows c.args.link.now) c.args.told.now } ∷ [])))
     (sym c.tell_where_wanted.ensures.taken) c.step_and_send-done.ensures.ok
 
 pub returns-clause-err : goal.returns-clause-err
 returns-clause-err g c =
     subst (λ (t : Option (List Datagram)). IfErr c.step_and_send-done.result (λ end. CutShort (several g.N.FanOrigin.ports g.N.FanOrigin.given g.N.FanOrigin.places) end (holds (own_rows c.args.own.now.pass) (g.L.Link.taken c.args.link.now)) (holds (own_rows c.step_and_send-done.new.own.pass) t)
-        (record { place = c.args.place; planned = told_plan (g.L.Link.knows c.args.link.now) c.args.told.now } ∷ [])))
+    (record { place = c.args.place; planned = told_plan (g.L.Link.knows c.args.link.now) c.args.told.now } ∷ [])))
     (sym c.tell_where_wanted.ensures.taken) c.step_and_send-done.ensures.err
 
 pub returns-clause-same : goal.returns-clause-same

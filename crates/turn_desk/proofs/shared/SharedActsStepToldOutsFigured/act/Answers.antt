@@ -19,7 +19,7 @@ returns-clause-answers g c = λ before old.
     let was = subst (λ x. StandAs g.N.DeskOrigin.given g.K.Sink.contents g.K.Sink.faults x before) (sym c.deref_mut-parts.ensures.value) old in
     let x = c.step_into-answer.ensures in
     let is = stands_more g.N.DeskOrigin.given c.args.ask.now c.step_into-answer.result c.step_into-answer.new.outs v.receiver c.step_into-answer.new.self (g.K.Sink.contents v.sink) (g.K.Sink.contents c.step_into-answer.new.sink) (g.K.Sink.faults v.sink) (g.K.Sink.faults c.step_into-answer.new.sink) before
-        c.requires.asks.1 (record { work = x.work; cause = x.cause }) (λ stop. let same = x.same stop in (same.0, ap g.K.Sink.contents same.1, ap g.K.Sink.faults same.1)) was in
+    c.requires.asks.1 (record { work = x.work; cause = x.cause }) (λ stop. let same = x.same stop in (same.0, ap g.K.Sink.contents same.1, ap g.K.Sink.faults same.1)) was in
     record {
       answers = answers_after g.N.DeskOrigin.given c.args.ask.now c.step_into-answer.result c.args.room.now c.step_into-answer.new.outs v.receiver c.step_into-answer.new.self (g.K.Sink.contents v.sink) (g.K.Sink.contents c.step_into-answer.new.sink) (g.K.Sink.faults v.sink) (g.K.Sink.faults c.step_into-answer.new.sink) before
           (record { work = x.work; cause = x.cause }) x.outs was;
