@@ -5,9 +5,9 @@ ghost use Rattle.outside_net.specs.Scripts.{FitsDatagram};
 
 use crate::asserts::{assert_got, assert_octets, assert_written};
 use link_channels::Channel;
-use metered_link::{Event, Lines, LinkTotals, Metered, Telling, link_line};
+use metered_link::{Event, Lines, LinkTotals, Metered, Telling, link_line, receiver_line};
 use outside_io::Store8;
-use outside_net::{Got, Octets, ScriptClock, ScriptLink, ScriptRead};
+use outside_net::{Got, Link, Octets, ReceiverFigures, ScriptClock, ScriptLink, ScriptRead};
 use std::test::Fail;
 
 #[test]
@@ -26,6 +26,45 @@ fn a_line_is_one_object(rt: HostRuntime) -> Result<(), Fail> {
     let want =
         b"{\"at\":2000000,\"bits\":5312000,\"datagrams\":1000,\"dropped\":0,\"event\":\"interval\",\"failed\":0,\"link\":3,\"octets\":1328000,\"refused\":0,\"written\":0}\n";
     assert!(rt; line.as_slice() == want.as_slice());
+    Ok(())
+}
+
+#[test]
+fn a_receivers_line_is_one_object(rt: HostRuntime) -> Result<(), Fail> {
+    let figures = ReceiverFigures {
+        kept: 8000,
+        recovered: 31,
+        late: 2,
+        behind: 3,
+        early: 4,
+        twice: 24_000,
+        span: 5,
+        stranger: 6,
+        exhausted: 7,
+        refused: 9,
+        held: 120,
+    };
+    let line = receiver_line(rt.alloc(), 2_000_000, 1, &figures)?;
+    let want =
+        b"{\"at\":2000000,\"event\":\"receiver\",\"flow\":1,\"held\":120,\"packets\":{\"behind\":3,\"early\":4,\"exhausted\":7,\"kept\":8000,\"late\":2,\"recovered\":31,\"span\":5,\"stranger\":6,\"twice\":24000},\"refused\":9}\n";
+    assert!(rt; line.as_slice() == want.as_slice());
+    Ok(())
+}
+
+#[test]
+fn the_first_link_alone_tells_of_the_receiver(rt: HostRuntime) -> Result<(), Fail> {
+    let alloc = rt.alloc();
+    for (place, want) in [(0, [false, true, false, true]), (1, [false; 4])] {
+        let link = ScriptLink::with(alloc, Vec::new(alloc), false, 1, &[], &[])?;
+        let clock = ScriptClock::with(alloc, &[])?;
+        let lines = Lines::over(alloc, Store8::with(alloc, 400, &[])?);
+        let mut link = Metered::over(link, clock, lines, place, 1_000);
+        assert!(rt; link.wants(999) == want[0]);
+        assert!(rt; link.wants(1_000) == want[1]);
+        link.tell(1_000, 0, &ReceiverFigures::default());
+        assert!(rt; link.wants(1_999) == want[2]);
+        assert!(rt; link.wants(2_000) == want[3]);
+    }
     Ok(())
 }
 
