@@ -1,5 +1,5 @@
 -- What a pass knows of places that made no step in a row of its own.
-use Rattle.std.proofs.Common.{◌≡◌, ◌⊎◌, inl, inr, ◌<◌, ℕ, Bool, true, false, length, List, [], ◌∷◌, slice_get, unwrap_or, Option, None, Some, refl, ap, sym, ◌∙◌, subst}
+use Rattle.std.proofs.Common.{◌≡◌, ◌⊎◌, inl, inr, ◌<◌, ℕ, Bool, true, false, length, List, slice_get, unwrap_or, Option, None, Some, refl, ap, sym, ◌∙◌, subst}
 use Rattle.rist_reporter.specs.declared.out.Outs.{Outs}
 use Rattle.rist_ends.specs.declared.told.Told.{Told}
 use Rattle.rist_ends.specs.declared.outcome.Answer.{Answer}

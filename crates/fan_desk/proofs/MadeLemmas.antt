@@ -5,7 +5,6 @@ use Rattle.std.proofs.lemmas.List.{length-map}
 use Rattle.std.proofs.lemmas.Option.{slice_get_within, slice_get-map}
 use Rattle.link_channels.specs.declared.channel.Channel.{Channel}
 use Rattle.outside_net.specs.Links.{Datagram}
-use Rattle.receiver_rules.specs.declared.verdict.Verdict.{Verdict}
 use Rattle.receiver_rules.specs.Steps.{tick_of}
 use Rattle.request_rules.specs.declared.word.AskWord.{AskWord}
 use Rattle.request_rules.specs.Steps.{Input}

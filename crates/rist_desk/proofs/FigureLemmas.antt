@@ -1,5 +1,5 @@
 -- The figures of a desk's receiver are those of its steps.
-use Rattle.std.proofs.Common.{◌≡◌, ℕ, Bool, List, reverse, Option, Some, option_map, ap, sym, ◌∙◌, subst}
+use Rattle.std.proofs.Common.{◌≡◌, ℕ, Bool, List, reverse, Option, option_map, ap, sym, ◌∙◌, subst}
 use Rattle.receiver_rules.specs.declared.limits.Limits.{Limits}
 use Rattle.outside_net.specs.declared.figures.ReceiverFigures.{ReceiverFigures}
 use Rattle.link_channels.specs.declared.channel.Channel.{Channel}

@@ -13,7 +13,7 @@ use Rattle.request_rules.specs.Steps as inputs
 use Rattle.rist_ends.specs.declared.counts.Counts.{Counts}
 use Rattle.rist_ends.specs.declared.told.What.{What}
 use Rattle.rist_ends.specs.declared.told.What.TheVariants.{Media, Control, Keepalive, Refused, Tick, End}
-use Rattle.rist_ends.specs.Counts.{AreCountsOf, capped, count_of, verdict_count, counted_verdict, refused_count, counted_refusal, one_where_same, no_counts, one_more, one_refused, counts_after, counts_with, recovered_count, counted_recovery, recovered_with}
+use Rattle.rist_ends.specs.Counts.{AreCountsOf, capped, count_of, verdict_count, counted_verdict, refused_count, counted_refusal, one_where_same, no_counts, one_more, one_refused, counts_after, counts_with, recovered_count, recovered_with}
 use Rattle.rist_ends.specs.Told.{input_of}
 use Rattle.rist_ends.specs.Inside.Stepping.{SaysVerdictOn}
 

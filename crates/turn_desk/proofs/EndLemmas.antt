@@ -1,5 +1,5 @@
 -- What the end leaves.
-use Rattle.std.proofs.Common.{◌≡◌, ℕ, List, [], reverse, Option, None, Some, true, refl, ap, sym, ◌∙◌, subst}
+use Rattle.std.proofs.Common.{◌≡◌, ℕ, List, reverse, Option, refl, sym, ◌∙◌, subst}
 use Rattle.std.proofs.lemmas.List.{reverse-reverse}
 use Rattle.outside_io.specs.Causes.{Rose, RoseWhere}
 use Rattle.reorder_buffer.specs.declared.phase.Phase.{Phase}
@@ -7,14 +7,12 @@ use Rattle.reorder_buffer.specs.declared.phase.Phase.TheVariants.{Open, Ended, F
 use Rattle.rist_reporter.specs.declared.out.Outs.{Outs}
 use Rattle.rist_ends.specs.declared.outcome.Answer.{Answer}
 use Rattle.rist_ends.specs.declared.outcome.Answer.TheVariants as answers
-use Rattle.rist_ends.specs.declared.outcome.Outcome.TheVariants as outcomes
 use Rattle.rist_ends.specs.Outcome.{outcome_with}
 use Rattle.rist_ends.specs.Receiver.{ReceiverState}
 use Rattle.rist_desk.specs.declared.step.Step.{Step}
 use Rattle.rist_desk.specs.Made.{end_told, step_after}
 use Rattle.rist_desk.specs.Desk.{DeskState, Given, IsDesk, StandsFor, is_cut_off, is_failed}
 use Rattle.rist_desk.proofs.DeskLemmas.{Stepped, stands_told, answer_stopped}
-use Rattle.turn_lock.specs.History.{added}
 use Rattle.turn_desk.specs.Stands.{kept_with, with_end}
 use Rattle.turn_desk.proofs.SharedLemmas.{Same, kept_more}
 

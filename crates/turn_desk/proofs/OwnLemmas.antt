@@ -1,5 +1,5 @@
 -- What a pass owns and knows with one more step.
-use Rattle.std.proofs.Common.{◌≡◌, ◌≢◌, ℕ, true, List, [], ◌∷◌, ◌++◌, reverse, Option, None, Some, option_map, refl, ap, sym, ◌∙◌, subst}
+use Rattle.std.proofs.Common.{◌≡◌, ◌≢◌, true, List, ◌++◌, reverse, Option, Some, option_map, refl, ap, sym, ◌∙◌, subst}
 use Rattle.std.proofs.lemmas.List.{reverse-reverse}
 use Rattle.reorder_buffer.specs.declared.phase.Phase.TheVariants.{Open}
 use Rattle.rist_reporter.specs.declared.out.Outs.{Outs}
@@ -23,7 +23,7 @@ use Rattle.turn_lock.specs.Passes.{IsPassOf, Stepped, entries_with, turns_seen}
 use Rattle.turn_desk.specs.declared.desk.TurnDesk.{TurnDesk}
 use Rattle.turn_desk.specs.declared.shared.Shared.{Shared}
 use Rattle.turn_desk.specs.Stands.{Answers, AnswersFigured, figured_added, step_added}
-use Rattle.turn_desk.specs.Own.{AreOf, IsOf, HasSeenFault, own_list}
+use Rattle.turn_desk.specs.Own.{AreOf, IsOf, HasSeenFault}
 use Rattle.turn_desk.proofs.SharedLemmas.{kept_more}
 
 pub owns_more : (e : Option Step) (l m : List Step) → m ≡ added e l → Some (reverse m) ≡ option_map (steps_with e) (Some (reverse l))

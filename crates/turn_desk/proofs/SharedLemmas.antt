@@ -1,12 +1,9 @@
 -- A receiver and its sink with one more step.
 use Rattle.std.proofs.Common.{◌≡◌, ◌≢◌, ℕ, List, [], ◌∷◌, ◌++◌, reverse, Option, None, Some, option_map, refl, ap, sym, ◌∙◌, subst}
 use Rattle.std.proofs.lemmas.List.{reverse-reverse}
-use Rattle.reorder_buffer.specs.declared.phase.Phase.{Phase}
-use Rattle.reorder_buffer.specs.declared.phase.Phase.TheVariants.{Open, Ended, Failed}
 use Rattle.rist_reporter.specs.declared.out.Outs.{Outs}
 use Rattle.rist_ends.specs.declared.told.Told.{Told}
 use Rattle.rist_ends.specs.Told.{IsNoEnd}
-use Rattle.rist_ends.specs.declared.outcome.Outcome.TheVariants as outcomes
 use Rattle.rist_ends.specs.declared.outcome.Answer.{Answer}
 use Rattle.rist_ends.specs.declared.outcome.Answer.TheVariants as answers
 use Rattle.rist_ends.specs.Outcome.{outcome_with}
@@ -16,7 +13,7 @@ use Rattle.rist_desk.specs.Legal.{phase_of}
 use Rattle.rist_desk.specs.Made.{step_after, steps_with}
 use Rattle.outside_net.specs.declared.figures.ReceiverFigures.{ReceiverFigures}
 use Rattle.rist_ends.specs.Figures.{figures_of}
-use Rattle.rist_desk.specs.Desk.{AreFiguresAfter, DeskState, Given, IsDesk, IsDueAfter, MakesDue}
+use Rattle.rist_desk.specs.Desk.{AreFiguresAfter, Given, IsDesk, IsDueAfter, MakesDue}
 use Rattle.rist_desk.proofs.FigureLemmas.{figures_after}
 use Rattle.rist_desk.proofs.ListLemmas.{reverse_more}
 use Rattle.rist_desk.proofs.DeskLemmas.{Stepped, desk_with, makes_due, due_after, answer_stopped}

@@ -1,5 +1,5 @@
 -- No value of a line is a float.
-use Rattle.std.proofs.Common.{refl, ap, ◌∙◌, ◌++◌, ◌∷◌, []}
+use Rattle.std.proofs.Common.{ap, ◌∙◌, ◌++◌, ◌∷◌, []}
 use Rattle.serde_json.specs.Written.{has_float, compact_text}
 use Rattle.metered_link.proofs.receiver.receiver_line.Goals as goal
 

@@ -1,6 +1,5 @@
 -- One more step of the history.
 use Rattle.std.proofs.Common.{ap, sym, subst}
-use Rattle.rist_desk.proofs.DeskLemmas.{Stepped}
 use Rattle.turn_desk.specs.Stands.{StandAs}
 use Rattle.turn_desk.proofs.SharedLemmas.{stands_more, answers_after, figures_kept}
 use Rattle.turn_desk.proofs.shared.SharedActsStepToldOutsFigured.act.Goals as goal
