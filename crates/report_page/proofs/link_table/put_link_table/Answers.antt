@@ -1,7 +1,6 @@
 -- All links have a row.
 use Rattle.std.proofs.Common.{ℕ, List, ap, length, map, take, ◌∙◌}
 use Rattle.std.specs.Prelude.{codes}
-use Rattle.std.proofs.Math.Seq.{take-length}
 use Rattle.time_series.specs.Points.{shown_points}
 use Rattle.session_figures.specs.declared.table.Table.{Table}
 use Rattle.report_page.specs.Page.{with_reading}

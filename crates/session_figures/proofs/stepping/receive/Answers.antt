@@ -1,5 +1,5 @@
 -- What the buffer tells of an arrival is what the history says of it.
-use Rattle.std.proofs.Common.{◌≡◌, ◌∷◌, ◌∙◌, ℕ, ◌-◌, max, ap}
+use Rattle.std.proofs.Common.{◌≡◌, ◌∷◌, ◌∙◌, ℕ, max, ap}
 use Rattle.receiver_rules.specs.declared.limits.Limits.{Limits}
 use Rattle.receiver_rules.specs.Steps.{media_step, effective_time}
 use Rattle.receiver_rules.specs.Packets.{is_kept}

@@ -1,10 +1,7 @@
 -- The buffer shows its history.
-use Rattle.std.proofs.Common.{◌≡◌, ◌∙◌, ap, ℕ, Option}
-use Rattle.std.specs.Prelude.{ℤ}
+use Rattle.std.proofs.Common.{◌∙◌}
 use Rattle.reorder_buffer.specs.State.{State}
 use Rattle.reorder_buffer.specs.StateAfter.{Shows}
-use Rattle.session_figures.specs.declared.playout.Standing.{Standing}
-use Rattle.session_figures.specs.Playout.{base_at, fill_at, standing_of}
 use Rattle.session_figures.proofs.PlayoutLemmas.{base_shown, fill_shown}
 use Rattle.session_figures.proofs.playout.Standing.of.Goals as goal
 
