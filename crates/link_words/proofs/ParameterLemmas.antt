@@ -1,6 +1,6 @@
 -- One parameter more of a text.
 use Rattle.std.proofs.Common.{◌≡◌, ◌∙◌, ◌≤◌, ◌-◌, ℕ, zero, suc, List, Bor, ap, refl, arith, option_map, sym}
-use Rattle.std.specs.Prelude.{Option, Some, None, Result, Ok, Err}
+use Rattle.std.specs.Prelude.{Option, Some, None, Ok, Err}
 use Rattle.link_words.specs.Texts.{Word}
 use Rattle.link_words.specs.Parameters.{Fault, TooMany, first_part, kept_in, parameters_in, with_kept, with_parameter}
 

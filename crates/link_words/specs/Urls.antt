@@ -1,5 +1,5 @@
 -- How a link is written: by an address, by a host's name, or by a URL (RFC 3986).
-use Rattle.std.specs.Prelude.{ℕ, Bool, true, false, not, List, length, ◌==◌, ◌&&◌, if◌then◌else◌, option_map, codes}
+use Rattle.std.specs.Prelude.{Bool, true, false, length, ◌==◌, ◌&&◌, if◌then◌else◌, option_map, codes}
 use Rattle.std.specs.Prelude.{Option, Some, None}
 use Rattle.std.specs.Str.{bytes_eq}
 use Rattle.link_words.specs.declared.forms.LinkWord.{LinkWord}

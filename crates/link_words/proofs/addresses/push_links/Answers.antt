@@ -1,4 +1,4 @@
-use Rattle.std.proofs.Common.{◌≡◌, ◌∙◌, ◌+◌, ap, arith, drop, get_or, map, string_bytes, sym}
+use Rattle.std.proofs.Common.{◌∙◌, ◌+◌, ap, arith, drop, get_or, map, string_bytes, sym}
 use Rattle.std.proofs.lemmas.List.{at_drop_more}
 use Rattle.link_words.specs.Addresses.{link_at, links_from}
 use Rattle.link_words.proofs.LinkLemmas.{bad_links}

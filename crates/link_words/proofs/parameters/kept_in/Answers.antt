@@ -1,6 +1,6 @@
-use Rattle.std.proofs.Common.{rules, arith, ◌∙◌, ◌+◌, ◌-◌, ◌≡◌, Some, ap, string_bytes, sym}
+use Rattle.std.proofs.Common.{rules, arith, ◌∙◌, ◌-◌, Some, ap, sym}
 use Rattle.link_words.specs.Parameters.{kept_in}
-use Rattle.link_words.proofs.ParameterLemmas.{last_kept, last_part, next_kept, no_more_kept, part_with_more}
+use Rattle.link_words.proofs.ParameterLemmas.{last_kept, last_part}
 use Rattle.link_words.proofs.parameters.kept_in.Goals as goal
 
 pub loop-init : goal.loop-init

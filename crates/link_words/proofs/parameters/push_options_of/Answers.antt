@@ -1,6 +1,6 @@
-use Rattle.std.proofs.Common.{◌≡◌, ◌∙◌, ap, map, option_map, string_bytes, sym}
+use Rattle.std.proofs.Common.{◌∙◌, ap, map, option_map, string_bytes, sym}
 use Rattle.link_words.specs.Urls.{shown_form}
-use Rattle.link_words.specs.Parameters.{options_of, parameters_in}
+use Rattle.link_words.specs.Parameters.{parameters_in}
 use Rattle.link_words.proofs.LinkLemmas.{if_err, on_ok, same_refused, taken_is}
 use Rattle.link_words.proofs.parameters.push_options_of.Goals as goal
 

@@ -1,5 +1,5 @@
-use Rattle.std.proofs.Common.{◌≡◌, ◌∙◌, ◌++◌, [], ap, drop, map, string_bytes, sym, take}
-use Rattle.link_words.specs.Addresses.{command_of, links_from, options_from}
+use Rattle.std.proofs.Common.{◌∙◌, ◌++◌, [], ap, drop, map, string_bytes, sym}
+use Rattle.link_words.specs.Addresses.{links_from, options_from}
 use Rattle.link_words.proofs.LinkLemmas.{links_tell}
 use Rattle.link_words.proofs.resolving.rewritten.Goals as goal
 
