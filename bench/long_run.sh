@@ -1,16 +1,16 @@
 #!/bin/bash
 # A long run in little time: `rist recv` takes a stream of 100 Mbit/s by four links from another host, a network namespace of this machine. Of
 # the datagrams on each link 2 in 100 are lost on each way, at random (nftables). Each minute another link is down for five seconds, and each
-# tenth part of an hour the sender ends and another one begins, as another flow. The receiver follows the sender's clock (--drift), tells how
+# ten minutes the sender ends and another one begins, as another flow. The receiver follows the sender's clock (--drift), tells how
 # its links do (--stats) and records what comes (--record) on a disk that is full after 200 MB.
 #
 # All octets of all senders have to come, in order; the resident memory of `recv` and of each `send` may not grow by more than 1 MB after
 # its first half minute; the record has to end with a line that says so, and a replay of it to give the very octets that `recv` wrote first.
 #
-# It takes an hour, or as many minutes as its first word says (at least 3; up to ten of them without another sender), and needs root, ip (Debian:
-# iproute2), nft (nftables), openssl and sha256sum. RIST in the environment stands for another program than the one that is built here. It
-# writes only below a new folder in /tmp, no more than 500 MB, ends with 1 where something isn't as it should be; where a tool isn't there, or
-# without root, it says so and ends with status 3, without `recv` with status 4.
+# It takes an hour, or as many minutes as its first word says, and another sender begins each ten minutes, or each so many as its second word says
+# (at least 1). It needs root, ip (Debian: iproute2), nft (nftables), openssl and sha256sum. RIST in the environment stands for another program than
+# the one that is built here. It writes only below a new folder in /tmp, no more than 500 MB, ends with 1 where something isn't as it should be;
+# where a tool isn't there, or without root, it says so and ends with status 3, without `recv` with status 4.
 set -eu
 here=$(cd "$(dirname "$0")" && pwd)
 top=$(dirname "$here")
@@ -28,7 +28,8 @@ if [ -z "${RIST-}" ]; then
 fi
 rist="env --block-signal=INT,TERM $RIST"
 gap=105
-each=$((minutes < 10 ? minutes : 10))
+each=${2:-10}
+each=$((minutes < each ? minutes : each))
 senders=$((minutes / each))
 pieces=$((each * 60 * 1000000 / gap))
 bad=0
@@ -102,7 +103,8 @@ started="$started $cutter"
 for number in $(seq "$senders"); do
     mkfifo "$work/source$number"
     source_of "$number" > "$work/source$number" &
-    ip netns exec $near $rist send "$work/source$number" $links --gap $gap --store 16384 --linger 3000 2> "$work/send" &
+    ip netns exec $near $rist send "$work/source$number" $links --flow $((1000 + 2 * number)) --gap $gap --store 16384 --linger 3000 \
+        2> "$work/send" &
     sender=$!
     memory "send$number" "$sender" &
     status=0
