@@ -1,6 +1,6 @@
 -- Which payloads a sending sent of its source, and what its links were given of them.
 use Rattle.std.specs.Prelude.{◌≡◌, ◌<◌, ◌-◌, ◌^◌, ◌++◌, ℕ, List, [], length, reverse, slice_index_or, Option, Some}
-use Rattle.std.specs.Prelude.{Result}
+use Rattle.std.specs.Prelude.{Result, false}
 use Rattle.std.specs.Option.{option_map}
 use Rattle.outside_host.specs.Shelf.{Shelf}
 use Rattle.outside_host.specs.declared.host.Place.TheVariants.{Here, Back}

@@ -37,3 +37,6 @@ returns-clause-links_tried g c unused =
     all_first _ _ (ap (λ s. s.opened_links) (c.back_links.ensures.same unused.told) ∙ (c.fan_by_clocks-status.ensures.others unused.told).opened
     ∙ c.in-Ok-open_links.ensures.opened (unused.told, unused.links) ∙ ap (λ l. links_in c.receiving_role.result c.args.line.now.session.profile l) c.as_slice.ensures.value
     ∙ ap (λ r. links_in r c.args.line.now.session.profile c.args.line.now.links.items) c.receiving_role.ensures.value)
+
+pub returns-in_default-clause-links_tried : goal.returns-in_default-clause-links_tried
+returns-in_default-clause-links_tried g c unused = none_first _ _ unused.links
