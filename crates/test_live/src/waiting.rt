@@ -212,7 +212,9 @@ impl Host for WaitingHost {
         };
         let (packets, meeting) = match role {
             Role::Forwards => (self.packets, None),
-            Role::Receives | Role::Sends => (0, self.meetings.pop()),
+            Role::Receives | Role::ReceivesCalling | Role::Sends | Role::SendsListening => {
+                (0, self.meetings.pop())
+            }
         };
         Ok(WaitingLink {
             link,
