@@ -12,17 +12,20 @@ static PAGES: [(&[&[u8]], Ending, &[&str]); 2] = [
         &[NAME, A, B, C],
         Ending::Done,
         &[
-            "<tr><th>Sent</th><td>3 packets</td>",
-            "<tr><th>First time</th><td>3 packets</td>",
-            "<tr><th>Recovered</th><td>0 packets</td>",
-            "<tr><th>Never written</th><td>0 packets</td>",
-            "<tr><th>Written</th><td>3 octets</td>",
+            "<tr><th>Sent</th><td>3</td><td>packets</td>",
+            "<tr><th>First time</th><td>3</td><td>packets</td>",
+            "<tr><th>Recovered</th><td>0</td><td>packets</td>",
+            "<tr><th>Never written</th><td>0</td><td>packets</td>",
+            "<tr><th>Written</th><td>3</td><td>octets</td>",
         ],
     ),
     (
         &[NAME, A, B, b"\0\x02\0"],
         Ending::BadCapture(CapKind::Truncated, 58),
-        &["<tr><th>Sent</th><td>2 packets</td>", "</body></html>"],
+        &[
+            "<tr><th>Sent</th><td>2</td><td>packets</td>",
+            "</body></html>",
+        ],
     ),
 ];
 
