@@ -1,7 +1,10 @@
 mod LaneLemmas
 mod MixLemmas
 mod TowerLemmas
+mod RowLemmas
 mod WordLemmas
 mod ScheduleLemmas
 mod RoundLemmas
+mod PrefixLemmas
+mod StateLemmas
 mod Vectors

@@ -127,7 +127,7 @@ moved (x ∷ xs) (y ∷ ys) =
     let rest = moved xs ys in
     λ i. here i ∷ rest i
 
-fit : (g : ℕ → ℕ) (v : List ℕ) → Each1 (Fits w8) v → T (all_below (λ x. ltb (g x) 256) 256) → Each1 (Fits w8) (map g v)
+pub fit : (g : ℕ → ℕ) (v : List ℕ) → Each1 (Fits w8) v → T (all_below (λ x. ltb (g x) 256) 256) → Each1 (Fits w8) (map g v)
 fit g [] h all = tt
 fit g (x ∷ xs) h all =
     let low : g x < 256 = ltb-true _ _ (is_true _ (every_below (λ x. ltb (g x) 256) 256 all x h.0.fits)) in

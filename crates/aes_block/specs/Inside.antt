@@ -3,3 +3,5 @@ pub mod Tables
 pub mod Tower
 pub mod Mix
 pub mod Keys
+pub mod Rounds
+pub mod Rows

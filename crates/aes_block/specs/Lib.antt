@@ -3,3 +3,4 @@ pub mod State
 pub mod Schedule
 pub mod Cipher
 pub mod Inside
+pub mod Row

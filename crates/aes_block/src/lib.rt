@@ -6,6 +6,7 @@ mod cipher;
 mod key;
 mod key_schedule;
 mod lanes;
+mod prefix;
 mod rounds;
 mod substitution;
 mod tower;
@@ -13,3 +14,4 @@ mod words;
 
 pub use cipher::Aes;
 pub use key::Key;
+pub use prefix::Prefix;

@@ -1,7 +1,8 @@
 //! The S-box on vectors (FIPS 197, section 5.1.1): inverses over the field of 16 elements, and a table for each result.
 
-ghost use Rattle.std.specs.Prelude.{◌≡◌, map, bit_xor};
-ghost use Rattle.aes_block.specs.Field.{product, sub_byte};
+ghost use Rattle.std.specs.Prelude.{◌≡◌, map};
+ghost use Rattle.aes_block.specs.Field.{sub_byte};
+ghost use Rattle.aes_block.specs.Inside.Rounds.{once, twice};
 ghost use Rattle.aes_block.specs.Inside.Tower.{lower, untower, upper};
 
 use crate::lanes::{high, look_up, low, sum};
@@ -65,8 +66,8 @@ fn parts(t: u8x16) -> (u8x16, u8x16)
 // The S-box at each lane less its constant, and twice that in the field.
 #[inline(always)]
 pub(crate) fn substituted(t: u8x16) -> (u8x16, u8x16)
-    ensures once { map untower result.0 ≡ map (λ y. bit_xor (sub_byte (untower y)) 99) t }
-    ensures twice { map untower result.1 ≡ map (λ y. bit_xor (product 2 (sub_byte (untower y))) 198) t }
+    ensures once { result.0 ≡ map once t }
+    ensures twice { result.1 ≡ map twice t }
 {
     let (u, l) = parts(t);
     let once_upper = look_up(ONCE_UPPER, u);

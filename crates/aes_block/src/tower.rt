@@ -1,8 +1,7 @@
 //! Octets over the field of 16 elements (Hamburg 2009). Between rounds a state is kept so: `untower` is the octet that a
 //! lane stands for.
 
-ghost use Rattle.std.specs.Prelude.{◌≡◌, map, bit_xor};
-ghost use Rattle.std.specs.Simd.Lanes.{zip2};
+ghost use Rattle.std.specs.Prelude.{◌≡◌, map};
 ghost use Rattle.aes_block.specs.Inside.Tower.{tower, untower};
 
 use crate::lanes::{high, look_up, low, sum};
@@ -29,12 +28,4 @@ pub(crate) fn towered(v: u8x16) -> u8x16
     let tower_low = look_up(TOWER_LOW, v_low);
     let tower_high = look_up(TOWER_HIGH, v_high);
     sum(tower_low, tower_high)
-}
-
-// The sum of two vectors, of what they stand for.
-#[inline(always)]
-pub(crate) fn tower_sum(a: u8x16, b: u8x16) -> u8x16
-    ensures { map untower result ≡ zip2 bit_xor (map untower a) (map untower b) }
-{
-    a ^ b
 }

@@ -1,3 +1,4 @@
 mod CtrLemmas
+mod CounterLemmas
 mod AddLemmas
 mod Vectors

@@ -1,6 +1,11 @@
--- ShiftRows and MixColumns as the lanes add: from a state and the state with each octet doubled.
+-- ShiftRows and MixColumns as the lanes add: from a state and the state with each octet doubled. A vector has a state
+-- row by row.
 use Rattle.std.specs.Prelude.{ℕ, List, [], ◌∷◌, ◌++◌, bit_xor}
 use lib.Lanes.{zip2, pick_l}
+
+-- at which lane each octet of a state stands, and at which place of a state each lane's octet
+abbrev pub across : List ℕ
+across = 0 ∷ 4 ∷ 8 ∷ 12 ∷ 1 ∷ 5 ∷ 9 ∷ 13 ∷ 2 ∷ 6 ∷ 10 ∷ 14 ∷ 3 ∷ 7 ∷ 11 ∷ 15 ∷ []
 
 -- which octet comes to each place from row 0 of its column, once ShiftRows has moved it, and from each row below
 abbrev pub from_row_0 : List ℕ
@@ -21,6 +26,10 @@ from_row_3 = 15 ∷ 0 ∷ 5 ∷ 10 ∷ 3 ∷ 4 ∷ 9 ∷ 14 ∷ 7 ∷ 8 ∷ 13 �
 -- the octets of a state that stand so
 abbrev pub picked : List ℕ → List ℕ → List ℕ
 picked s places = pick_l 0 (s ++ s) places
+
+-- the lanes of a vector, column by column
+abbrev pub columns_of : List ℕ → List ℕ
+columns_of v = picked v across
 
 -- each octet three times, as the sum of once and twice
 abbrev pub thrice : List ℕ → List ℕ → List ℕ

@@ -1,10 +1,12 @@
-use Rattle.std.proofs.Common.{◌≡◌, ℕ, ◌+◌, ◌-◌, ◌/◌, ◌%◌, ◌^◌, ◌≤◌, length, get_or}
-use Rattle.std.specs.Int.{w128, from_be_bytes}
+use Rattle.std.proofs.Common.{◌≡◌, ℕ, ◌+◌, ◌-◌, ◌/◌, ◌%◌, ◌^◌, ◌≤◌, length, take, get_or}
+use Rattle.std.specs.Int.{w128, from_be_bytes, to_be_bytes}
 use Rattle.aes_ctr.proofs.CtrLemmas.{EncipheredBelow}
 use Rattle.aes_ctr.proofs.apply.Given as goal
 
 abbrev pub invariant-groups : goal.invariant-groups
 invariant-groups l = record {
+  key : l.prefix.key ≡ l.aes;
+  row : l.prefix.octets ≡ take 15 (to_be_bytes w128 l.counter);
   within : l.offset ≤ length l.text;
   whole : l.offset % 64 ≡ 0;
   counter : l.counter ≡ (from_be_bytes w128 l.fn.first + l.offset / 16) % 2 ^ 128;

@@ -1,10 +1,8 @@
-use Rattle.std.proofs.Common.{ℕ, map, bit_xor, ap, ◌∙◌}
-use Rattle.std.proofs.lemmas.Simd.{map-map}
-use Rattle.aes_block.specs.Field.{times_x, partial_product, product, square, product_of_squares, inverse, affine_image, sub_byte}
+use Rattle.aes_block.specs.Inside.Rounds.{once, twice}
 use Rattle.aes_block.specs.Inside.Tables.{read}
-use Rattle.aes_block.specs.Inside.Tower.{untower, upper, lower}
+use Rattle.aes_block.specs.Inside.Tower.{upper, lower}
 use Rattle.aes_block.specs.declared.substitution.TheConstants.{ONCE_UPPER, ONCE_LOWER, TWICE_UPPER, TWICE_LOWER}
-use Rattle.aes_block.proofs.LaneLemmas.{places, looked_up, summed, map_same}
+use Rattle.aes_block.proofs.LaneLemmas.{places, looked_up, summed}
 use Rattle.aes_block.proofs.substitution.substituted.Goals as goal
 
 pub look_up-once_upper-requires : goal.look_up-once_upper-requires
@@ -24,21 +22,17 @@ unfolding upper lower
 look_up-twice_lower-requires c = places lower c.args.t c.parts.result.1 c.fits-t.1 c.parts.ensures.lower tt
 
 pub returns-clause-once : goal.returns-clause-once
-unfolding times_x partial_product product square product_of_squares inverse affine_image sub_byte untower upper lower
+unfolding once
 returns-clause-once c =
     let t = c.args.t in
     let e_u = looked_up ONCE_UPPER upper t c.look_up-once_upper.ensures c.parts.ensures.upper in
     let e_l = looked_up ONCE_LOWER lower t c.look_up-once_lower.ensures c.parts.ensures.lower in
-    let e = summed (λ x. read ONCE_UPPER (upper x)) (λ x. read ONCE_LOWER (lower x)) t c.sum-once.ensures e_u e_l in
-    let f : ℕ → ℕ = λ y. bit_xor (read ONCE_UPPER (upper y)) (read ONCE_LOWER (lower y)) in
-    ap (map untower) e ∙ map-map untower f t ∙ map_same (λ x. untower (f x)) (λ y. bit_xor (sub_byte (untower y)) 99) t c.fits-t.1 tt
+    summed (λ x. read ONCE_UPPER (upper x)) (λ x. read ONCE_LOWER (lower x)) t c.sum-once.ensures e_u e_l
 
 pub returns-clause-twice : goal.returns-clause-twice
-unfolding times_x partial_product product square product_of_squares inverse affine_image sub_byte untower upper lower
+unfolding twice
 returns-clause-twice c =
     let t = c.args.t in
     let e_u = looked_up TWICE_UPPER upper t c.look_up-twice_upper.ensures c.parts.ensures.upper in
     let e_l = looked_up TWICE_LOWER lower t c.look_up-twice_lower.ensures c.parts.ensures.lower in
-    let e = summed (λ x. read TWICE_UPPER (upper x)) (λ x. read TWICE_LOWER (lower x)) t c.sum-twice.ensures e_u e_l in
-    let f : ℕ → ℕ = λ y. bit_xor (read TWICE_UPPER (upper y)) (read TWICE_LOWER (lower y)) in
-    ap (map untower) e ∙ map-map untower f t ∙ map_same (λ x. untower (f x)) (λ y. bit_xor (product 2 (sub_byte (untower y))) 198) t c.fits-t.1 tt
+    summed (λ x. read TWICE_UPPER (upper x)) (λ x. read TWICE_LOWER (lower x)) t c.sum-twice.ensures e_u e_l
