@@ -22,12 +22,15 @@ packets_data f =
 -- the members of a line: a moment in microseconds, the place of the receiver's flow, and its figures
 abbrev pub receiver_data : ℕ → ℕ → ReceiverFigures → Data
 receiver_data us flow f =
-    object (member (codes "at") (natural us)
+    object (member (codes "asked") (natural f.asked)
+    (member (codes "at") (natural us)
     (member (codes "event") (string (codes "receiver"))
+    (member (codes "fill") (natural f.fill)
     (member (codes "flow") (natural flow)
     (member (codes "held") (natural f.held)
+    (member (codes "lost") (natural f.lost)
     (member (codes "packets") (packets_data f)
-    (member (codes "refused") (natural f.refused) no_members))))))
+    (member (codes "refused") (natural f.refused) no_members)))))))))
 
 -- the line
 abbrev pub receiver_line : ℕ → ℕ → ReceiverFigures → List ℕ

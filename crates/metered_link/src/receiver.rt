@@ -33,10 +33,13 @@ fn receiver_value(
 {
     let packets = packets_value(alloc, figures)?;
     json!(in alloc; {
+        "asked": figures.asked,
         "at": us,
         "event": "receiver",
+        "fill": figures.fill,
         "flow": flow,
         "held": figures.held,
+        "lost": figures.lost,
         "packets": packets,
         "refused": figures.refused
     })

@@ -133,3 +133,8 @@ recovered v Keepalive n limits h link tick us e is = silent_recovered v Keepaliv
 recovered v Refused n limits h link tick us e is = silent_recovered v Refused n (recovered_count limits h) e is
 recovered v Tick n limits h link tick us e is = silent_recovered v Tick n (recovered_count limits h) e is
 recovered v End n limits h link tick us e is = silent_recovered v End n (recovered_count limits h) e is
+
+-- ---- numbers that were asked for
+
+pub asked_more : (asked more now x y : ℕ) → now ≡ capped (asked + more) → asked ≡ capped x → y ≡ x + more → now ≡ capped y
+asked_more asked more now x y is before then_ = omega (arith, is, before, then_)

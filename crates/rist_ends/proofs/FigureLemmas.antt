@@ -1,12 +1,22 @@
 -- The figures that a receiver keeps are those of its history.
-use Rattle.std.proofs.Common.{◌≡◌, ◌≢◌, List, length, refl, ap, ◌∙◌}
+use Rattle.std.proofs.Common.{◌≡◌, ◌≢◌, ℕ, ◌/◌, List, length, refl, ap, ◌∙◌}
 use Rattle.receiver_rules.specs.declared.verdict.Verdict.{Verdict}
 use Rattle.receiver_rules.specs.declared.verdict.Verdict.TheVariants as verdicts
-use Rattle.receiver_rules.specs.Packets.{Packet}
+use Rattle.receiver_rules.specs.Packets.{Packet, playout_floor}
+use Rattle.receiver_rules.specs.Steps.{Step as BufferStep}
+use Rattle.receiver_rules.specs.Epochs.{Epoch, epochs_of}
+use Rattle.receiver_rules.specs.History.{accepted_packets, current_moment}
+use Rattle.reorder_buffer.specs.State.{State}
+use Rattle.reorder_buffer.specs.StateAfter.{Shows}
 use Rattle.reorder_buffer.specs.declared.phase.Phase.TheVariants.{Failed}
-use Rattle.request_rules.specs.Steps.{Step}
-use Rattle.rist_ends.specs.Counts.{count_of}
-use Rattle.rist_ends.specs.Receiver.{ReceiverState, IsReceiverAfter}
+use Rattle.request_rules.specs.Steps.{Step, buffer_history}
+use Rattle.rist_ends.specs.declared.numbers.Numbers.{Numbers}
+use Rattle.rist_ends.specs.Counts.{capped, count_of}
+use Rattle.rist_ends.specs.Numbers.{AreNumbersOf, missing_at, missing_count}
+use Rattle.rist_ends.specs.Taking.{missing_of}
+use Rattle.rist_ends.proofs.FillLemmas.{fill_shown}
+use Rattle.rist_ends.proofs.NumberLemmas.{missing_shown}
+use Rattle.rist_ends.specs.Receiver.{ReceiverState, IsReceiverAfter, settings_of}
 use Rattle.rist_ends.specs.Figures.{AreFiguresOf, figure_of, figures_of}
 
 figure_is : (v : Verdict) (r : ReceiverState) → figure_of v (figures_of r) ≡ count_of v r.counts
@@ -19,10 +29,21 @@ figure_is verdicts.Early r = refl
 figure_is verdicts.Twice r = refl
 figure_is verdicts.Span r = refl
 
-pub figures_are : (r : ReceiverState) (history : List Step) → IsReceiverAfter r history → r.buffer.phase ≢ Failed → AreFiguresOf (figures_of r) r.buffer.limits history
+lost_is : (n : Numbers) (b : State) (history : List BufferStep) → Shows b history → AreNumbersOf n (epochs_of b.limits history) → missing_of n b.floor (length b.held) ≡ capped (missing_count b.limits history)
+lost_is n b history shows are =
+    let epochs : List Epoch = epochs_of b.limits history in
+    let floor : ℕ = playout_floor (accepted_packets b.limits history) (current_moment history) in
+    missing_shown n epochs b.floor (length b.held) (current_moment history) shows.floor are
+    ∙ ap (λ (f : ℕ). capped (missing_at epochs f (length b.held))) shows.floor
+    ∙ ap (λ (ps : List Packet). capped (missing_at epochs floor (length ps))) shows.held
+
+pub figures_are : (r : ReceiverState) (history : List Step) → IsReceiverAfter r history → r.buffer.phase ≢ Failed → AreFiguresOf (figures_of r) (settings_of r) history
 figures_are r history s live = record {
   each = λ v. figure_is v r ∙ (s.counts live).each v;
   again = s.again live;
   bad = (s.counts live).refused;
   waiting = ap (λ (ps : List Packet). length ps) (s.buffer live).held;
+  wanted = s.asked live;
+  passed = lost_is r.numbers r.buffer (buffer_history history) (s.buffer live) (s.numbers live);
+  full = ap (λ n. n / 90) (fill_shown r.buffer (buffer_history history) (s.buffer live));
 }

@@ -1,5 +1,7 @@
 pub mod CountLemmas
+pub mod NumberLemmas
+pub mod FillLemmas
 pub mod SteppingLemmas
 pub mod ReportLemmas
-mod StepLemmas
+pub mod StepLemmas
 pub mod FigureLemmas

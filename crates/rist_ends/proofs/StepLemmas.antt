@@ -1,13 +1,26 @@
 -- What each way to end a step says of it.
-use Rattle.std.proofs.Common.{◌≡◌, ◌≢◌, ℕ, List, true, Option, refl, subst, ap}
+use Rattle.std.proofs.Common.{◌≡◌, ◌≢◌, ◌∙◌, ℕ, ◌+◌, List, [], ◌∷◌, true, Option, Result, refl, sym, subst, ap}
+use Rattle.psk_seal.specs.declared.sealer.Spent as seal
 use Rattle.receiver_rules.specs.declared.limits.Limits.{Limits}
-use Rattle.reorder_buffer.specs.declared.phase.Phase.TheVariants.{Open}
+use Rattle.reorder_buffer.specs.State.{State}
+use Rattle.reorder_buffer.specs.declared.phase.Phase.TheVariants.{Open, Failed}
 use Rattle.rist_wire.specs.declared.session.Session.{Session}
+use Rattle.request_rules.specs.declared.policy.Policy.{Policy}
+use Rattle.request_rules.specs.Steps.{Step}
+use Rattle.rist_reporter.specs.declared.out.Outs.{Outs}
+use Rattle.rist_reporter.specs.Control.{ControlSettings}
+use Rattle.rist_reporter.specs.OneMore.{AnswersAfter, step_answered}
+use Rattle.rist_reporter.specs.Asking.{asked_count, number_count, words_in}
+use Rattle.rist_reporter.proofs.AskingLemmas.{asked_then}
 use Rattle.rist_reporter.specs.Reporter.{ReporterState, settings_with, is_main}
 use Rattle.rist_reporter.specs.Inside.Changes.{IsSetAs}
 use Rattle.rist_ends.specs.declared.outcome.Outcome.{Outcome}
 use Rattle.rist_ends.specs.declared.outcome.Outcome.TheVariants.{Stopped, WriteFault}
 use Rattle.rist_ends.specs.declared.told.Told.{Told}
+use Rattle.rist_ends.specs.declared.told.What.{What}
+use Rattle.rist_ends.specs.declared.told.What.TheVariants.{Media, Control, Keepalive, Refused, Tick, End}
+use Rattle.rist_ends.specs.Told.{ended_at, phase_after}
+use Rattle.rist_ends.specs.Inside.Stepping.{IsMoved}
 use Rattle.rist_ends.specs.Outcome.{is_stepped}
 use Rattle.rist_ends.specs.Receiver.{ReceiverState, Steps}
 
@@ -41,6 +54,18 @@ stopped_work r told taken over =
     not_fault : Stopped ≡ WriteFault → ⊥
     not_fault e = cc
 
+-- a step that was made fails no write
+pub moved_held : (old new : State) (at : ℕ) (told : Told) → IsMoved old new at (ended_at told) → new.phase ≡ Failed → new.held ≡ []
+moved_held old new at told moved failed = absurd (never told.what (sym moved.phase ∙ failed))
+  where
+    never : (w : What) → phase_after w ≡ Failed → ⊥
+    never (Media arrival) e = cc
+    never (Control compound) e = cc
+    never Keepalive e = cc
+    never Refused e = cc
+    never Tick e = cc
+    never End e = cc
+
 -- what it is set to stays
 pub set_as : (limits limits' : Limits) (r r' : ReporterState) → limits' ≡ limits → IsSetAs r r' → settings_with limits' r' ≡ settings_with limits r
 set_as limits limits' r r' l s =
@@ -49,3 +74,11 @@ set_as limits limits' r r' l s =
     let m = s.muted in
     let k : is_main r'.shutter.session.profile ≡ is_main r.shutter.session.profile = ap (λ (x : Session). is_main x.profile) s.session in
     cc
+
+-- one more step asks for the numbers of what it made
+pub asked_stepped : (limits : Limits) (r r' : ReporterState) (history : List Step) (step : Step) (result : Result (Option Outs) seal.Spent) → IsSetAs r r' → AnswersAfter (settings_with limits r) r.shutter history step result
+    → asked_count (settings_with limits r') (step_answered step result ∷ history) ≡ asked_count (settings_with limits r) history + number_count r'.timer.policy.kind (words_in result)
+asked_stepped limits r r' history step result s a =
+    ap (λ (c : ControlSettings). asked_count c (step_answered step result ∷ history)) (set_as limits limits r r' refl s)
+    ∙ asked_then (settings_with limits r) r.shutter history step result a
+    ∙ ap (λ (p : Policy). asked_count (settings_with limits r) history + number_count p.kind (words_in result)) (sym s.policy)

@@ -1,5 +1,8 @@
 pub mod Settings
 pub mod Counts
+pub mod Numbers
+pub mod Taking
+pub mod Fill
 pub mod Told
 pub mod Items
 pub mod Inside

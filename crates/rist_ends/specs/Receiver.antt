@@ -1,5 +1,6 @@
 -- What a contract sees of a receiver.
 use Rattle.std.specs.Prelude.{◌≡◌, ◌≢◌, ℕ, ◌≤◌, ◌^◌, ◌<◌, List, [], ◌∷◌, Option, option_map}
+use Rattle.receiver_rules.specs.Epochs.{epochs_of}
 use Rattle.receiver_rules.specs.History.{released_bytes}
 use Rattle.outside_io.specs.Told.{Writes, WritesPart}
 use Rattle.reorder_buffer.specs.State.{State}
@@ -9,20 +10,25 @@ use Rattle.request_rules.specs.Steps.{Step, buffer_history}
 use Rattle.rist_reporter.specs.Control.{ControlSettings}
 use Rattle.rist_reporter.specs.Reporter.{ReporterState, IsReporterAfter, settings_with}
 use Rattle.rist_reporter.specs.OneMore.{AnswersAfter, TakesPairs, answer_count, step_answered}
+use Rattle.rist_reporter.specs.Asking.{asked_count}
 use Rattle.rist_ends.specs.declared.counts.Counts.{Counts}
+use Rattle.rist_ends.specs.declared.numbers.Numbers.{Numbers}
 use Rattle.rist_ends.specs.declared.outcome.Outcome.{Outcome}
 use Rattle.rist_ends.specs.declared.told.Told.{Told}
 use Rattle.rist_ends.specs.Counts.{AreCountsOf, capped, recovered_count}
+use Rattle.rist_ends.specs.Numbers.{AreNumbersOf}
 use Rattle.rist_ends.specs.declared.outcome.Outcome.TheVariants.{Stopped, WriteFault}
 use Rattle.rist_ends.specs.Outcome.{IfStepped, HasVerdict, verdict_in, result_of}
 use Rattle.rist_ends.specs.Told.{step_of, ended_at}
 
--- its buffer, how many arrivals had each verdict, how many that had been sent again were kept, and what sends datagrams
--- back
+-- its buffer, how many arrivals had each verdict, how many that had been sent again were kept, how many numbers were
+-- asked for, what is kept of the packets' numbers, and what sends datagrams back
 pub record ReceiverState : Type 0 where
   pub buffer : State
   pub counts : Counts
   pub recovered : ℕ
+  pub asked : ℕ
+  pub numbers : Numbers
   pub reporter : ReporterState
 
 -- what it is set to, in ticks
@@ -35,14 +41,19 @@ pub record IsReceiverAfter (r : ReceiverState) (history : List Step) : Type 0 wh
   pub buffer : IsStateAfter r.buffer (buffer_history history)
   pub counts : r.buffer.phase ≢ Failed → AreCountsOf r.counts r.buffer.limits history
   pub again : r.buffer.phase ≢ Failed → r.recovered ≡ capped (recovered_count r.buffer.limits history)
+  pub asked : r.buffer.phase ≢ Failed → r.asked ≡ capped (asked_count (settings_of r) history)
+  pub numbers : r.buffer.phase ≢ Failed
+      → AreNumbersOf r.numbers (epochs_of r.buffer.limits (buffer_history history))
   pub reporter : r.buffer.phase ≡ Open → IsReporterAfter r.reporter r.buffer.limits history
 
--- what holds of each receiver: its time is its buffer's, and its reporter knows its buffer's span and highest number
+-- what holds of each receiver: its time is its buffer's, after a failed write nothing waits, and its reporter knows its
+-- buffer's span and highest number
 pub record IsInStep (r : ReceiverState) (now : ℕ) : Type 0 where
   pub time : r.buffer.phase ≡ Open → r.buffer.time ≡ now
   pub tick : now < 2 ^ 61
   pub delay : 1 ≤ r.buffer.limits.playout_delay
   pub span : r.buffer.limits.capacity ≡ r.reporter.timer.span
+  pub dropped : r.buffer.phase ≡ Failed → r.buffer.held ≡ []
   pub told : r.buffer.phase ≡ Open → option_map (λ h. h.number) r.buffer.highest ≡ r.reporter.timer.high
 
 -- ---- one more step, for each history that the receiver stands for

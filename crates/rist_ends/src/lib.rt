@@ -3,7 +3,9 @@
 #![tactic(auto)]
 
 mod counts;
+mod fill;
 mod items;
+mod numbers;
 mod outcome;
 mod receiver;
 mod reporting;
@@ -13,6 +15,7 @@ mod told;
 
 pub use counts::Counts;
 pub use items::what_of;
+pub use numbers::{Numbers, missing_now, sent_now};
 pub use outcome::{Answer, Outcome};
 pub use receiver::Receiver;
 pub use rist_reporter::{Out, Outs};

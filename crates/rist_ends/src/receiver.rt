@@ -1,6 +1,8 @@
 use crate::counts::{Counts, recovered_with};
+use crate::fill::fill_now;
+use crate::numbers::{Numbers, missing_now};
 use crate::outcome::{Answer, Outcome, outcome_with};
-use crate::reporting::report;
+use crate::reporting::{asked_with, report};
 use crate::settings::Settings;
 use crate::stepping::step_buffer;
 use crate::told::Told;
@@ -15,13 +17,16 @@ use std::marker::Model;
 
 /// The receiving end. `step` brings input, and its outcome is the answer; what is played out goes to the sink.
 /// `step_into` does the same where the caller has memory for the datagrams that are made. `counts` tells what came so
-/// far, and `figures` also what waits. Each step's moment counts as at least that of the steps before it.
+/// far, and `figures` also what waits, what was asked for and what was lost. Each step's moment counts as at least that of
+/// the steps before it.
 #[derive(Drop)]
 pub struct Receiver {
     buffer: Buffer,
     time: u64,
     counts: Counts,
     recovered: u64,
+    asked: u64,
+    numbers: Numbers,
     reporter: Reporter,
 }
 
@@ -34,6 +39,8 @@ impl Model for Receiver {
       buffer = r.buffer;
       counts = r.counts;
       recovered = r.recovered;
+      asked = r.asked;
+      numbers = r.numbers;
       reporter = r.reporter;
     } };
 
@@ -41,6 +48,8 @@ impl Model for Receiver {
       buffer = r.buffer;
       counts = r.counts;
       recovered = r.recovered;
+      asked = r.asked;
+      numbers = r.numbers;
       reporter = r.reporter;
     }) r.time };
 }
@@ -98,6 +107,8 @@ impl Receiver {
             time: 0,
             counts: Counts::none(),
             recovered: 0,
+            asked: 0,
+            numbers: Numbers::none(),
             reporter,
         })
     }
@@ -116,6 +127,7 @@ impl Receiver {
 
     /// Makes one step, and puts the datagrams that it makes into `outs`, which else stays as it was. A step without
     /// datagrams has no room for them, so it costs less than one by `step`.
+    #[tactic(auto, using(crate::proofs::StepLemmas::moved_held))]
     pub fn step_into<K: Sink>(&mut self, told: &Told<'_>, outs: &mut Outs, sink: &mut K) -> Answer
         requires fits { IsFit told.now }
         ensures work { Steps self.old self.new told.now (outcome_with result outs.new)
@@ -135,7 +147,10 @@ impl Receiver {
                 self.time = stepped.at;
                 self.counts.count(&told.what, stepped.verdict);
                 self.recovered = recovered_with(stepped.verdict, &told.what, self.recovered);
-                report(
+                let opened = self.buffer.epoch() != epoch;
+                self.numbers
+                    .take_step(&told.what, stepped.verdict, opened, before);
+                let answer = report(
                     &mut self.reporter,
                     &self.buffer,
                     told,
@@ -143,7 +158,9 @@ impl Receiver {
                     before,
                     epoch,
                     outs,
-                )
+                );
+                self.asked = asked_with(answer, outs, &self.reporter, self.asked);
+                answer
             }
             Err(_) => Answer::WriteFault,
         }
@@ -162,7 +179,7 @@ impl Receiver {
         ensures value { result ≡ figures_of self.now }
         // After a failed write nothing is said of them.
         ensures history { (history : List Step) → IsReceiverAfter self.now history → self.now.buffer.phase ≢ Failed
-            → AreFiguresOf result self.now.buffer.limits history }
+            → AreFiguresOf result (settings_of self.now) history }
     {
         let counts = &self.counts;
         ReceiverFigures {
@@ -177,6 +194,9 @@ impl Receiver {
             exhausted: counts.exhausted,
             refused: counts.refused,
             held: self.buffer.held() as u64,
+            asked: self.asked,
+            lost: missing_now(&self.buffer, &self.numbers),
+            fill: fill_now(&self.buffer),
         }
     }
 

@@ -1,11 +1,13 @@
 //! What a step tells the reporter, and what comes of it.
-ghost use Rattle.std.specs.Prelude.{◌≡◌, ◌≢◌, ◌≤◌, ◌<◌, ◌^◌, None, true, is_err, option_map};
+ghost use Rattle.std.specs.Prelude.{◌≡◌, ◌≢◌, ◌≤◌, ◌<◌, ◌+◌, ◌^◌, None, true, is_err, option_map};
 ghost use Rattle.link_channels.specs.declared.bounds.TheConstants.{MAX_LINKS};
 ghost use Rattle.reorder_buffer.specs.declared.phase.Phase.TheVariants.{Open};
 ghost use Rattle.rist_reporter.specs.OneMore.{TakesPairs, AnswersControl, StandsAfterControl};
 ghost use Rattle.rist_reporter.specs.OneMore.{AnswersTick, StandsAfterTick, answer_count};
+ghost use Rattle.rist_reporter.specs.Asking.{number_count, words_in};
 ghost use Rattle.rist_reporter.specs.Inside.Changes.{IsSetAs};
 ghost use Rattle.rist_ends.specs.declared.outcome.Answer.TheVariants.{Made};
+ghost use Rattle.rist_ends.specs.Counts.{capped};
 ghost use Rattle.rist_ends.specs.Told.{IsFit, ended_at};
 ghost use Rattle.rist_ends.specs.Outcome.{outcome_with, verdict_in, is_stepped};
 ghost use Rattle.rist_ends.specs.Inside.Stepping.{IsJudged, IsHighNumber, IsQuiet};
@@ -139,5 +141,20 @@ pub fn report(
         What::Control(compound) => { answer_compound(reporter, told.link, told.us, compound, outs) }
         What::Tick => answer_tick(reporter, buffer, stepped.at, told.link, told.us, outs),
         What::Keepalive | What::Refused | What::End => Answer::Nothing,
+    }
+}
+
+/// How many numbers were asked for, after a step with this answer, whose datagrams stand in `outs`.
+pub fn asked_with(answer: Answer, outs: &Outs, reporter: &Reporter, asked: u64) -> u64
+    ensures value { result ≡ capped (asked
+        + number_count reporter.now.timer.policy.kind (words_in (made_in answer outs.now))) }
+{
+    match answer {
+        Answer::Made => asked.saturating_add(reporter.asked_in(outs)),
+        Answer::Stopped
+        | Answer::WriteFault
+        | Answer::Verdict(_)
+        | Answer::Spent
+        | Answer::Nothing => asked,
     }
 }

@@ -4,3 +4,4 @@ pub mod GroupLemmas
 pub mod LinksLemmas
 pub mod TickLemmas
 pub mod MediaLemmas
+pub mod AskingLemmas

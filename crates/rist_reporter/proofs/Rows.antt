@@ -10,9 +10,11 @@ use Rattle.receiver_rules.specs.declared.limits.Limits.{Limits}
 use Rattle.request_rules.specs.declared.policy.NackKind.TheVariants.{Range, Mask}
 use Rattle.request_rules.specs.declared.policy.Policy.{Policy}
 use Rattle.request_rules.specs.Steps.{Step, Control, Keepalive, control_input}
+use Rattle.request_rules.specs.Words.{masked_numbers}
 use Rattle.request_rules.specs.Rows.{usual, patient, comes, packet, clock, clock_on}
 use Rattle.rist_reporter.specs.Nacks.{nacks}
 use Rattle.rist_reporter.specs.Control.{ControlSettings, Datagram, Compound, Alive, opening, datagrams_of}
+use Rattle.rist_reporter.specs.Asking.{asked_count, number_count}
 
 -- a receiver with SSRC 7 in the Main Profile, or the Simple one
 abbrev end_of : Limits → Policy → Bool → ControlSettings
@@ -152,3 +154,38 @@ two_requests = receiver_report 9 [] ∷ request 99 1000000 ∷ request 98 200000
 first_of_two : made main [] (record { link = 0; tick = 0; input = control_input 0 two_requests }) ≡ Compound (opening 7 ++ response asking 0 ∷ []) ∷ []
 unfolding nearest Rattle.rist_rtt.specs.Echo.stamp_in Rattle.rist_rtt.specs.Echo.delay_in
 first_of_two = refl
+
+-- ---- how many numbers are asked for
+
+-- a range of 100 and four more: 100 to 104
+five_of_a_range : number_count Range (record { first = 100; second = 4 } ∷ []) ≡ 5
+unfolding masked_numbers
+five_of_a_range = refl
+
+-- 100, and the first and the third after it
+three_of_a_mask : number_count Mask (record { first = 100; second = 5 } ∷ []) ≡ 3
+unfolding masked_numbers
+three_of_a_mask = refl
+
+-- 100 alone, and 200 and the sixteen after it
+eighteen_of_two_masks : number_count Mask (record { first = 100; second = 0 } ∷ record { first = 200; second = 65535 } ∷ []) ≡ 18
+unfolding masked_numbers
+eighteen_of_two_masks = refl
+
+-- 11 to 14 are asked for at 2350, and 50 ms later again, by range or by mask
+asked_once : asked_count simple (reverse (gap ++ clock 2350 ∷ clock 6849 ∷ [])) ≡ 4
+unfolding nearest masked_numbers
+asked_once = refl
+
+asked_twice : asked_count simple (reverse (gap ++ clock 2350 ∷ clock 6850 ∷ [])) ≡ 8
+unfolding nearest masked_numbers
+asked_twice = refl
+
+asked_twice_in_masks : asked_count (end_of usual (patient Mask 8) false) (reverse (gap ++ clock 2350 ∷ clock 6850 ∷ [])) ≡ 8
+unfolding nearest masked_numbers
+asked_twice_in_masks = refl
+
+-- a muted receiver asks for nothing
+none_asked : asked_count (record simple { is_muted = true }) (reverse (gap ++ clock 2350 ∷ [])) ≡ 0
+unfolding nearest masked_numbers
+none_asked = refl

@@ -5,4 +5,5 @@ pub mod Made
 pub mod Links
 pub mod Reporter
 pub mod OneMore
+pub mod Asking
 pub mod Inside

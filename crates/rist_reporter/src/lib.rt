@@ -4,6 +4,7 @@
 #![tactic(auto)]
 
 mod answer;
+mod asking;
 mod links;
 mod opening;
 mod out;

@@ -1,6 +1,7 @@
 ghost use Rattle.std.specs.Prelude.{◌≡◌, if◌then◌else◌};
 ghost use Rattle.link_channels.specs.declared.bounds.TheConstants.{MAX_LINKS};
 
+use crate::asking::number_count;
 use crate::links::Links;
 use crate::out::Outs;
 use crate::ticking::{Due, how_many, is_short, make_answer, make_tick};
@@ -72,6 +73,7 @@ impl Reporter {
     ghost use Rattle.rist_reporter.specs.OneMore.{AnswersTick, StandsAfterTick, AnswersControl, StandsAfterControl};
     ghost use Rattle.rist_reporter.specs.OneMore.{StandsAfterMedia, IsMade, TakesPairs, answer_count, made_count};
     ghost use Rattle.rist_reporter.specs.OneMore.{is_short};
+    ghost use Rattle.rist_reporter.specs.Asking.{number_count};
     ghost use Rattle.rist_reporter.specs.Inside.Due.{IsNoLowerNumber, LacksAt, HasCompoundAt, due_of};
     ghost use Rattle.rist_reporter.specs.Inside.Changes.{IsSetAs, links_sampled};
     ghost use Rattle.receiver_rules.specs.declared.bounds.TheConstants.{MAX_SPAN};
@@ -212,6 +214,13 @@ impl Reporter {
         }
         self.take_sample(link, us, compound);
         Ok(make_answer(&mut self.shutter, self.own, request))
+    }
+
+    /// How many numbers the requests in what it made ask for.
+    pub fn asked_in(&self, outs: &Outs) -> u64
+        ensures value { result ≡ number_count self.now.timer.policy.kind outs.now.asked }
+    {
+        number_count(self.kind, outs.asked.words())
     }
 
     /// What is due at a tick of a link, beside the words by which it asks.

@@ -1,5 +1,5 @@
 -- What came of a course, in numbers.
-use Rattle.std.proofs.Common.{◌≡◌, ◌∙◌, ℕ, ◌<◌, Bool, true, false, length, get_or, sym, ap, arith}
+use Rattle.std.proofs.Common.{◌≡◌, ◌≢◌, ◌∙◌, ℕ, ◌<◌, Bool, true, false, length, get_or, sym, ap, arith}
 use Rattle.std.specs.Prelude.{if◌then◌else◌, cond, is_some, unwrap_or, not, ◌&&◌}
 use Rattle.std.specs.List.{sum_by, count_by, range_with_len}
 use Rattle.std.proofs.lemmas.Bool.{lt-ltb}
@@ -8,6 +8,7 @@ use Rattle.receiver_rules.specs.declared.verdict.Verdict.TheVariants.{Kept}
 use Rattle.receiver_rules.specs.Steps.{has_ended}
 use Rattle.request_rules.specs.Steps.{buffer_history}
 use Rattle.rist_reporter.specs.Control.{ControlSettings}
+use Rattle.rist_reporter.specs.Asking.{asked_count}
 use Rattle.rist_ends.specs.Counts.{capped, verdict_count}
 use Rattle.world_rules.specs.Counts.{media_if, place_count, is_lost, is_resent}
 use Rattle.world_rules.specs.World.{Setup, Course, forward_on, forward_at}
@@ -54,18 +55,19 @@ not_failed : (ended : Bool) → phase_of ended ≡ Failed → ⊥
 not_failed true is = cc
 not_failed false is = cc
 
-pub counted : (setup : Setup) (w : WorldState) (course : Course) (c : Counts) → IsWorldAfter setup w course → c.sent ≡ w.tally.sent → c.carried ≡ w.tally.carried → c.asked ≡ w.tally.asked
+pub counted : (setup : Setup) (w : WorldState) (course : Course) (c : Counts) → IsWorldAfter setup w course → c.sent ≡ w.tally.sent → c.carried ≡ w.tally.carried → c.asked ≡ w.receiver.asked
     → c.lost ≡ capped (sum_by (count_on w (lost_at w)) (range_with_len 0 (length w.forward))) → c.resent ≡ capped (sum_by (count_on w (resent_at w)) (range_with_len 0 (length w.forward))) → c.released ≡ w.receiver.counts.kept
     → Counted setup course c
 counted setup w course c is sent carried asked lost resent released =
+    let live : w.receiver.buffer.phase ≢ Failed = λ failed. not_failed (has_ended (buffer_history course.steps)) (sym is.phase ∙ failed) in
     let kept : c.released ≡ capped (verdict_count Kept setup.control.limits course.steps)
-    = released ∙ (is.receiver.counts (λ failed. not_failed (has_ended (buffer_history course.steps)) (sym is.phase ∙ failed))).each Kept
+    = released ∙ (is.receiver.counts live).each Kept
     ∙ ap (λ (s : ControlSettings). capped (verdict_count Kept s.limits course.steps)) is.control in
     record {
       sent = sent ∙ is.tally.sent;
       carried = carried ∙ is.tally.carried;
       lost = lost ∙ ap capped (places_are setup w course (lost_at w) (is_lost setup course) is (λ link place among. lost_is setup w course link place among is));
-      asked = asked ∙ is.tally.asked;
+      asked = asked ∙ is.receiver.asked live ∙ ap (λ (s : ControlSettings). capped (asked_count s course.steps)) is.control;
       resent = resent ∙ ap capped (places_are setup w course (resent_at w) (is_resent setup course) is (λ link place among. resent_is setup w course link place among is));
       released = kept;
       out = λ ended. kept ∙ ap capped (sym (released_all setup.control.limits course.steps ended));

@@ -39,10 +39,8 @@ use Rattle.rist_sender.specs.declared.settings.Settings.{Settings as SenderSetti
 use Rattle.rist_sender.specs.Sender.{SenderState, IsSenderAfter, has_keepalives}
 use Rattle.rist_sender.specs.Calls.{Work, IfElse}
 use Rattle.world_rules.specs.World.{Setup, Course, Carried, beginning, links_of, forward_on, forward_at, datagram_made, datagrams_made, Receives, ReceivesIf, step_carried, with_carried, CarriesIf}
-use Rattle.world_rules.specs.Counts.{sent_count, number_count, asked_count, carried_count, was_carried, media_of, media_read}
-use Rattle.world_rules.proofs.CountLemmas.{words_in, asked_then}
+use Rattle.world_rules.specs.Counts.{sent_count, carried_count, was_carried, media_of, media_read}
 use Rattle.rist_ends.specs.Counts.{capped}
-use Rattle.request_rules.specs.declared.word.AskWord.{AskWord}
 use Rattle.world_rules.proofs.CourseLemmas.{none_short}
 use Rattle.rist_world.specs.Tally.{TallyState, IsTallyOf, raised_if, came_at}
 use Rattle.rist_world.specs.World.{WireState, WrittenState, WorldState, IsWorldAfter, GoesTo, GoesOn, phase_of, datagrams_on, none, setup_of}
@@ -137,25 +135,21 @@ limits_then r setup from step was now is w =
 
 -- ---- a step
 
--- the numbers of a step's words were counted
-tally_asked : (setup : Setup) (old new : TallyState) (from to : Course) (more : ℕ) → new ≡ record old { asked = capped (old.asked + more) } → to.work ≡ from.work → to.carried ≡ from.carried
-    → asked_count setup.control to.steps ≡ asked_count setup.control from.steps + more → IsTallyOf setup old from → IsTallyOf setup new to
-tally_asked setup old new from to more is work carried count t = subst (λ (x : TallyState). IsTallyOf setup x to) (sym is)
-    (record {
-      kind = t.kind;
-      sent = t.sent ∙ ap (λ (x : Work). capped (sent_count x.history)) (sym work);
-      carried = t.carried ∙ ap (λ cs. capped (carried_count setup cs)) (sym carried);
-      asked = omega (arith, count, t.asked);
-      links = t.links;
-      came = λ link place among. t.came link place among ∙ ap (λ cs. was_carried cs link place) (sym carried);
-    })
+-- a step of the receiver leaves the tally as it was
+tally_stays : (setup : Setup) (t : TallyState) (from to : Course) → to.work ≡ from.work → to.carried ≡ from.carried → IsTallyOf setup t from → IsTallyOf setup t to
+tally_stays setup t from to work carried is =
+    record {
+      sent = is.sent ∙ ap (λ (x : Work). capped (sent_count x.history)) (sym work);
+      carried = is.carried ∙ ap (λ cs. capped (carried_count setup cs)) (sym carried);
+      links = is.links;
+      came = λ link place among. is.came link place among ∙ ap (λ cs. was_carried cs link place) (sym carried);
+    }
 
-pub step_goes : (setup : Setup) (old : WorldState) (r : ReceiverState) (w : WrittenState) (b : List WireState) (t : TallyState) (from : Course) (told : Told) (outcome : Outcome) → is_stepped outcome ≡ true
-    → t ≡ record old.tally { asked = capped (old.tally.asked + number_count old.tally.kind (words_in (result_of outcome))) } → IsWorldAfter setup old from
+pub step_goes : (setup : Setup) (old : WorldState) (r : ReceiverState) (w : WrittenState) (b : List WireState) (from : Course) (told : Told) (outcome : Outcome) → is_stepped outcome ≡ true → IsWorldAfter setup old from
     → Steps old.receiver r told outcome (Some old.written.octets) (Some w.octets)
     → datagrams_on b ≡ set (datagrams_on old.backward) told.link (get_or (datagrams_on old.backward) told.link [] ++ datagrams_made (result_of outcome))
-    → GoesTo setup (record { sender = old.sender; near = old.near; receiver = r; far = old.far; written = w; forward = old.forward; backward = b; media = old.media; flows = old.flows; tally = t }) (ReceivesIf setup (step_of told) from)
-step_goes setup old r w b t from told outcome stepped counted is s back =
+    → GoesTo setup (record { sender = old.sender; near = old.near; receiver = r; far = old.far; written = w; forward = old.forward; backward = b; media = old.media; flows = old.flows; tally = old.tally }) (ReceivesIf setup (step_of told) from)
+step_goes setup old r w b from told outcome stepped is s back =
     let running : has_ended (buffer_history from.steps) ≡ false
     = open_then (has_ended (buffer_history from.steps)) old.receiver.buffer.phase is.phase (λ closed. not_stopped outcome stepped (s.ended closed)) in
     let answers : AnswersAfter setup.control (record { session = setup.session; sealer = from.sealer }) from.steps (step_of told) (result_of outcome)
@@ -190,38 +184,28 @@ step_goes setup old r w b t from told outcome stepped counted is s back =
         backward = back ∙ ap (λ ds. set ds told.link (get_or ds told.link [] ++ datagrams_made (result_of outcome))) is.backward;
         media = record { links = is.media.links; marks = is.media.marks };
         flows = is.flows;
-        tally = tally_asked setup old.tally t from to (number_count setup.control.policy.kind (words_in (result_of outcome)))
-            (counted ∙ ap (λ kind. record old.tally { asked = capped (old.tally.asked + number_count kind (words_in (result_of outcome))) }) is.tally.kind) refl refl
-            (asked_then setup.control (record { session = setup.session; sealer = from.sealer }) from.steps (step_of told) (result_of outcome) answers) is.tally;
+        tally = tally_stays setup old.tally from to refl refl is.tally;
       };
     }
 
--- nothing more was counted
-none_more : (asked x more : ℕ) → asked ≡ capped x → more ≡ 0 → asked ≡ capped (asked + more)
-none_more asked x more is none = omega (arith, is, none)
-
-none_asked : (setup : Setup) (t : TallyState) (from : Course) (words : List AskWord) → words ≡ [] → IsTallyOf setup t from → t ≡ record t { asked = capped (t.asked + number_count t.kind words) }
-none_asked setup t from words none is =
-    ap (λ asked. record t { asked = asked }) (none_more t.asked (asked_count setup.control from.steps) (number_count t.kind words) is.asked (ap (number_count t.kind) none))
-
 -- a step that makes nothing
-pub quiet_goes : (setup : Setup) (old : WorldState) (r : ReceiverState) (w : WrittenState) (from : Course) (told : Told) (outcome : Outcome) → is_stepped outcome ≡ true → datagrams_made (result_of outcome) ≡ [] → words_in (result_of outcome) ≡ []
+pub quiet_goes : (setup : Setup) (old : WorldState) (r : ReceiverState) (w : WrittenState) (from : Course) (told : Told) (outcome : Outcome) → is_stepped outcome ≡ true → datagrams_made (result_of outcome) ≡ []
     → IsWorldAfter setup old from → Steps old.receiver r told outcome (Some old.written.octets) (Some w.octets)
     → GoesTo setup (record { sender = old.sender; near = old.near; receiver = r; far = old.far; written = w; forward = old.forward; backward = old.backward; media = old.media; flows = old.flows; tally = old.tally }) (ReceivesIf setup (step_of told) from)
-quiet_goes setup old r w from told outcome stepped nothing silent is s =
-    step_goes setup old r w old.backward old.tally from told outcome stepped (none_asked setup old.tally from (words_in (result_of outcome)) silent is.tally) is s
+quiet_goes setup old r w from told outcome stepped nothing is s =
+    step_goes setup old r w old.backward from told outcome stepped is s
     (sym (ap (λ ds. set (datagrams_on old.backward) told.link (get_or (datagrams_on old.backward) told.link [] ++ ds)) nothing
     ∙ ap (set (datagrams_on old.backward) told.link) (append-nil (get_or (datagrams_on old.backward) told.link []))
     ∙ set-get_or (datagrams_on old.backward) told.link []))
 
 -- a step that makes datagrams, whose links were lent as a slice, and came back
-pub made_goes : {A E : Type 0} → (old : WorldState) (r : ReceiverState) (w : WrittenState) (lent b back : List WireState) (t : TallyState) (told : Told) (outs : Outs) (words : List AskWord) (result : Result A E) {whole : WorldState} → t ≡ record old.tally { asked = capped (old.tally.asked + number_count old.tally.kind words) } → words ≡ outs.asked → lent ≡ old.backward → back ≡ b
+pub made_goes : {A E : Type 0} → (old : WorldState) (r : ReceiverState) (w : WrittenState) (lent b back : List WireState) (told : Told) (outs : Outs) (result : Result A E) {whole : WorldState} → lent ≡ old.backward → back ≡ b
     → Steps old.receiver r told (outcomes.Made outs) (Some old.written.octets) (Some w.octets)
     → IfOk result (λ done. datagrams_on b ≡ set (datagrams_on lent) told.link (get_or (datagrams_on lent) told.link [] ++ map datagram_made (outs_of outs))) → old ≡ whole
-    → IfOk result (λ done. GoesOn whole (record { sender = old.sender; near = old.near; receiver = r; far = old.far; written = w; forward = old.forward; backward = back; media = old.media; flows = old.flows; tally = t }) (λ setup from. ReceivesIf setup (step_of told) from))
-made_goes old r w lent b back t told outs words (Err e) counted asked was now s is whole = tt
-made_goes old r w lent b back t told outs words (Ok x) counted asked was now s is whole = λ setup from stands.
-    step_goes setup old r w back t from told (outcomes.Made outs) refl (counted ∙ ap (λ ws. record old.tally { asked = capped (old.tally.asked + number_count old.tally.kind ws) }) asked) (subst (λ w. IsWorldAfter setup w from) (sym whole) stands) s
+    → IfOk result (λ done. GoesOn whole (record { sender = old.sender; near = old.near; receiver = r; far = old.far; written = w; forward = old.forward; backward = back; media = old.media; flows = old.flows; tally = old.tally }) (λ setup from. ReceivesIf setup (step_of told) from))
+made_goes old r w lent b back told outs (Err e) was now s is whole = tt
+made_goes old r w lent b back told outs (Ok x) was now s is whole = λ setup from stands.
+    step_goes setup old r w back from told (outcomes.Made outs) refl (subst (λ w. IsWorldAfter setup w from) (sym whole) stands) s
     (ap datagrams_on now ∙ is ∙ ap (λ ws. set (datagrams_on ws) told.link (get_or (datagrams_on ws) told.link [] ++ map datagram_made (outs_of outs))) was)
 
 -- nothing is done after an end
@@ -281,10 +265,8 @@ carried_then setup old t from link place d media says counts came size is = reco
   media = record { links = is.media.links; marks = is.media.marks };
   flows = is.flows;
   tally = record {
-    kind = ap (λ (x : TallyState). x.kind) counts ∙ is.tally.kind;
     sent = ap (λ (x : TallyState). x.sent) counts ∙ is.tally.sent;
     carried = ap (λ (x : TallyState). x.carried) counts ∙ counted_more setup.session link place d from.carried old.tally.carried media says is.tally.carried;
-    asked = ap (λ (x : TallyState). x.asked) counts ∙ is.tally.asked;
     links = size ∙ is.tally.links;
     came = λ k at among. came k at (omega (arith, among, is.tally.links)) ∙ ap (λ b. (link == k && place == at) || b) (is.tally.came k at among);
   };
@@ -326,7 +308,7 @@ pub begins : (session : Session) (near : SenderSettings) (far : ReceiverSettings
     → s.flow ≡ near.flow → s.first ≡ near.first → s.hold ≡ 90 * near.hold → s.store.size ≡ near.store → s.bonding ≡ near.bond → s.session ≡ session
     → IsSenderAfter s (record { history = []; sealer = near_sealer; is_short = false }) → n ≡ session → f ≡ session → settings_of r ≡ control_settings far session
     → r.reporter.shutter ≡ record { session = session; sealer = far_sealer } → r.buffer.phase ≡ Open → IsReceiverAfter r [] → w ≡ record { octets = []; faults = 0 }
-    → forward ≡ replicate links none → backward ≡ replicate links none → m ≡ replicate links [] → flows ≡ near.flow ∷ [] → t ≡ record { kind = far.nack; sent = 0; carried = 0; asked = 0; came = replicate links [] }
+    → forward ≡ replicate links none → backward ≡ replicate links none → m ≡ replicate links [] → flows ≡ near.flow ∷ [] → t ≡ record { sent = 0; carried = 0; came = replicate links [] }
     → IsWorldAfter (setup_of session near far) (record { sender = s; near = n; receiver = r; far = f; written = w; forward = forward; backward = backward; media = m; flows = flows; tally = t }) (beginning near_sealer far_sealer links)
 begins session near far near_sealer far_sealer links s n f r w forward backward m flows t count flow_is first_is hold_is size_is bond_is session_is state n_is f_is control shutter phase receiver w_is forward_is backward_is media_is flows_is tally_is = record {
   sender = state;
@@ -357,5 +339,5 @@ begins session near far near_sealer far_sealer links s n f r w forward backward 
   };
   flows = flows_is;
   tally = subst (λ (x : TallyState). IsTallyOf (setup_of session near far) x (beginning near_sealer far_sealer links)) (sym tally_is)
-      (record { kind = refl; sent = refl; carried = refl; asked = refl; links = length-replicate links [] ∙ sym count; came = λ link place among. ap (λ bs. get_or bs place false) (get_or-replicate links link [] [] (omega (arith, among, count))) });
+      (record { sent = refl; carried = refl; links = length-replicate links [] ∙ sym count; came = λ link place among. ap (λ bs. get_or bs place false) (get_or-replicate links link [] [] (omega (arith, among, count))) });
 }

@@ -108,10 +108,10 @@ worked to from = record { work = to; steps = from.steps; sealer = from.sealer; b
 tally_sent : (setup : Setup) (old new : TallyState) (from : Course) (to : Work) (more : ℕ) → new ≡ record old { sent = capped (old.sent + more) } → sent_count to.history ≡ sent_count from.work.history + more
     → IsTallyOf setup old from → IsTallyOf setup new (worked to from)
 tally_sent setup old new from to more is count t = subst (λ (x : TallyState). IsTallyOf setup x (worked to from)) (sym is)
-    (record { kind = t.kind; sent = omega (arith, count, t.sent); carried = t.carried; asked = t.asked; links = t.links; came = t.came })
+    (record { sent = omega (arith, count, t.sent); carried = t.carried; links = t.links; came = t.came })
 
 tally_same : (setup : Setup) (old : TallyState) (from : Course) (to : Work) → sent_count to.history ≡ sent_count from.work.history → IsTallyOf setup old from → IsTallyOf setup old (worked to from)
-tally_same setup old from to count t = record { kind = t.kind; sent = t.sent ∙ ap capped (sym count); carried = t.carried; asked = t.asked; links = t.links; came = t.came }
+tally_same setup old from to count t = record { sent = t.sent ∙ ap capped (sym count); carried = t.carried; links = t.links; came = t.came }
 
 -- after a call the world goes on
 pub sender_goes : (setup : Setup) (old : WorldState) (far : Session) (s : SenderState) (f : List WireState) (m : List (List (Option Bool))) (t : TallyState) (from : Course) (Q : Work → Type 0) (R : Work → Work → Type 0) → ((to : Work) → Q to → Adds from.work to)
@@ -241,7 +241,7 @@ renew_goes setup old s flow first flows from is more new value state = record {
     backward = is.backward;
     media = record { links = is.media.links; marks = is.media.marks };
     flows = more ∙ ap (λ fs. flow ∷ fs) is.flows;
-    tally = record { kind = is.tally.kind; sent = is.tally.sent; carried = is.tally.carried; asked = is.tally.asked; links = is.tally.links; came = is.tally.came };
+    tally = record { sent = is.tally.sent; carried = is.tally.carried; links = is.tally.links; came = is.tally.came };
   };
 }
 

@@ -1,23 +1,11 @@
 -- What is counted while a network runs.
-use Rattle.std.proofs.Common.{◌≡◌, ◌∙◌, ℕ, zero, suc, ◌+◌, ◌/◌, ◌%◌, ◌^◌, ◌<◌, ◌≤◌, Bool, true, false, List, [], ◌∷◌, ◌++◌, length, take, get_or, Result, Ok, Err, IfOk, refl, sym, ap, arith, length-append, append-nil}
-use Rattle.std.specs.Prelude.{◌==◌, ◌||◌, if◌then◌else◌}
+use Rattle.std.proofs.Common.{◌≡◌, ◌∙◌, ℕ, zero, suc, ◌+◌, ◌<◌, ◌≤◌, Bool, true, false, List, [], ◌∷◌, ◌++◌, length, get_or, Result, Ok, Err, IfOk, refl, sym, ap, arith}
+use Rattle.std.specs.Prelude.{◌==◌, ◌||◌}
 use Rattle.std.specs.List.{range_with_len}
-use Rattle.std.specs.Int.Count.{ones, ones_in}
-use Rattle.std.proofs.Math.Nat.{pow-succ'}
 use Rattle.std.proofs.Math.Dec.{eqb-zero-suc, eqb-suc-zero, eqb-suc-suc}
-use Rattle.std.proofs.lemmas.Bool.{eqb-true, eqb-false}
-use Rattle.std.proofs.lemmas.List.{take_more, length-map}
-use Rattle.std.proofs.lemmas.List.FromFn.{length-range_with_len}
-use Rattle.std.proofs.lemmas.Grind.{flat_map-append}
-use Rattle.rist_nack.specs.Requests.{set_places}
-use Rattle.request_rules.specs.declared.policy.NackKind.{NackKind}
-use Rattle.request_rules.specs.declared.policy.NackKind.TheVariants.{Range, Mask}
-use Rattle.request_rules.specs.declared.word.AskWord.{AskWord}
-use Rattle.request_rules.specs.Words.{masked_numbers, numbers_in, asked_numbers}
 use Rattle.std.specs.List.{sum_by, count_by}
 use Rattle.std.specs.Prelude.{cond}
 use Rattle.std.proofs.lemmas.List.Sums.{sum_by-cons, sum_by_push}
-use Rattle.world_rules.specs.Counts.{number_count}
 use Rattle.rist_ends.specs.Counts.{capped}
 use Rattle.rist_world.specs.Tally.{raised_if}
 
@@ -35,50 +23,6 @@ pub pushed : {A E : Type 0} → (old filled new : List Bool) (place : ℕ) (r : 
 pushed old filled new place (Err e) same long more = tt
 pushed old filled new place (Ok x) same long more = λ k.
     ap (λ xs. get_or xs k false) more ∙ snoc_at filled k ∙ ap (λ n. n == k || get_or filled k false) long ∙ ap (λ b. place == k || b) (same k)
-
--- ---- the numbers of a word
-
-pub range_numbers : (word : AskWord) → 1 + word.second ≡ length (numbers_in Range word)
-range_numbers word = omega (arith, length-range_with_len word.first (word.second + 1))
-
--- the set bits of a mask are as many as the places of them
-no_ones : (d : ℕ) → ones_in d 0 ≡ 0
-unfolding ones_in
-no_ones zero = refl
-no_ones (suc d) = omega (arith, no_ones d)
-
-no_places : (left place : ℕ) → length (set_places left 0 place) ≡ 0
-no_places zero place = refl
-no_places (suc left) place = no_places left (place + 1)
-
-bit_counts : (left d n place : ℕ) → n < 2 ^ left → n ≤ d → ones_in d n ≡ length (set_places left n place)
-unfolding ones_in
-bit_counts zero d n place small deep = ap (ones_in d) (omega (arith, small)) ∙ no_ones d
-bit_counts (suc left) zero n place small deep =
-    let none : n ≡ 0 = omega (arith, deep) in
-    sym (ap (λ m. length (set_places (suc left) m place)) none ∙ no_places (suc left) place)
-bit_counts (suc left) (suc d) n place small deep =
-    one_more (n % 2 == 1) refl (bit_counts left d (n / 2) (place + 1) (omega (arith, small, pow-succ' 2 left)) (omega (arith, deep)))
-  where
-    one_more : (c : Bool) → (n % 2 == 1) ≡ c → ones_in d (n / 2) ≡ length (set_places left (n / 2) (place + 1))
-        → n % 2 + ones_in d (n / 2) ≡ length (if c then place ∷ set_places left (n / 2) (place + 1) else set_places left (n / 2) (place + 1))
-    one_more true odd rest = omega (arith, rest, eqb-true _ _ odd)
-    one_more false even rest = omega (arith, rest, eqb-false _ _ even)
-
-pub mask_numbers : (word : AskWord) → word.second < 2 ^ 16 → 1 + ones word.second ≡ length (numbers_in Mask word)
-unfolding ones masked_numbers
-mask_numbers word small =
-    omega (arith, bit_counts 16 word.second word.second 1 small (omega arith), length-map (set_places 16 word.second 1) (λ i. word.first + i))
-
--- ---- the numbers of words
-
-pub number_count_more : (kind : NackKind) (words : List AskWord) (i : ℕ) (d : AskWord) → i < length words
-    → number_count kind (take (i + 1) words) ≡ number_count kind (take i words) + length (numbers_in kind (get_or words i d))
-number_count_more kind words i d within =
-    ap (number_count kind) (take_more words i d within)
-    ∙ ap length (flat_map-append (numbers_in kind) (take i words) (get_or words i d ∷ []))
-    ∙ length-append (asked_numbers kind (take i words)) (numbers_in kind (get_or words i d) ++ [])
-    ∙ ap (λ xs. length (asked_numbers kind (take i words)) + length xs) (append-nil (numbers_in kind (get_or words i d)))
 
 -- ---- counts over places and links
 

@@ -6,8 +6,9 @@ use Rattle.receiver_rules.specs.declared.verdict.Verdict.TheVariants.{Kept}
 use Rattle.receiver_rules.specs.Steps.{has_ended}
 use Rattle.receiver_rules.specs.History.{released_payloads}
 use Rattle.request_rules.specs.Steps.{buffer_history}
+use Rattle.rist_reporter.specs.Asking.{asked_count}
 use Rattle.rist_ends.specs.Counts.{capped, verdict_count}
-use Rattle.world_rules.specs.Counts.{sent_count, carried_count, lost_count, asked_count, resent_count}
+use Rattle.world_rules.specs.Counts.{sent_count, carried_count, lost_count, resent_count}
 use Rattle.world_rules.specs.World.{Setup, Course}
 use Rattle.rist_world.specs.declared.counts.Counts.{Counts}
 use Rattle.rist_world.specs.Tally.{came_at}

@@ -1,17 +1,14 @@
 -- What a simulated network counts while it runs.
 use Rattle.std.specs.Prelude.{◌≡◌, ◌<◌, ℕ, ◌+◌, List, [], length, get_or, Bool, true, false}
-use Rattle.request_rules.specs.declared.policy.NackKind.{NackKind}
 use Rattle.rist_ends.specs.Counts.{capped}
-use Rattle.world_rules.specs.Counts.{sent_count, carried_count, asked_count, was_carried}
+use Rattle.world_rules.specs.Counts.{sent_count, carried_count, was_carried}
 use Rattle.world_rules.specs.World.{Setup, Course, links_of}
 
--- by words of which kind numbers are asked for; how many payloads were sent, how often media came to the receiver and
--- how many numbers were asked for; and of each link which datagrams came to the receiver, by their places
+-- how many payloads were sent, how often media came to the receiver, and of each link which datagrams came to the
+-- receiver, by their places
 pub record TallyState : Type 0 where
-  pub kind : NackKind
   pub sent : ℕ
   pub carried : ℕ
-  pub asked : ℕ
   pub came : List (List Bool)
 
 -- one more, where that is counted
@@ -25,10 +22,8 @@ came_at came link place = get_or (get_or came link []) place false
 
 -- a tally is what became of a course
 pub record IsTallyOf (setup : Setup) (t : TallyState) (course : Course) : Type 0 where
-  pub kind : t.kind ≡ setup.control.policy.kind
   pub sent : t.sent ≡ capped (sent_count course.work.history)
   pub carried : t.carried ≡ capped (carried_count setup course.carried)
-  pub asked : t.asked ≡ capped (asked_count setup.control course.steps)
   pub links : length t.came ≡ links_of setup
   pub came : (link place : ℕ) → link < links_of setup
       → came_at t.came link place ≡ was_carried course.carried link place

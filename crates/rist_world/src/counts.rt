@@ -76,7 +76,7 @@ pub(crate) fn counts_of(world: &World) -> Counts
         sent: world.tally().sent(),
         carried: world.tally().carried(),
         lost,
-        asked: world.tally().asked(),
+        asked: world.asked(),
         resent,
         released: world.kept(),
     }

@@ -1,12 +1,10 @@
 //! What is counted while a simulated network runs.
-ghost use Rattle.std.specs.Prelude.{◌≡◌, ◌+◌, length};
-ghost use Rattle.request_rules.specs.Words.{numbers_in};
+ghost use Rattle.std.specs.Prelude.{◌≡◌, ◌+◌};
 ghost use Rattle.rist_ends.specs.Counts.{capped};
 ghost use Rattle.world_rules.specs.Counts.{sent_by};
 ghost use Rattle.rist_world.specs.Tally.{raised_if};
 
 use outside_io::NoMemory;
-use request_rules::{AskWord, NackKind};
 use sender_rules::SendBad;
 use std::alloc::Global;
 use std::marker::Model;
@@ -61,10 +59,8 @@ impl Came {
 /// Counts of a run so far. Each stays at its greatest value.
 #[derive(Drop)]
 pub(crate) struct Tally {
-    kind: NackKind,
     sent: u64,
     carried: u64,
-    asked: u64,
     came: Vec<Came>,
 }
 
@@ -74,10 +70,8 @@ impl Model for Tally {
     ghost Value = { TallyState };
 
     ghost view = { λ t. record {
-      kind = t.kind;
       sent = t.sent;
       carried = t.carried;
-      asked = t.asked;
       came = t.came.items;
     } };
 }
@@ -102,29 +96,15 @@ fn sent_by(answer: Result<(), SendBad>) -> u64
     }
 }
 
-/// How many numbers a request word asks for.
-fn numbers_of(kind: NackKind, word: &AskWord) -> u64
-    ensures value { result ≡ length (numbers_in kind word.now) }
-{
-    let second = word.second;
-    match kind {
-        NackKind::Range => 1 + u64::from(second),
-        NackKind::Mask => 1 + u64::from(second.count_ones()),
-    }
-}
-
 impl Tally {
     ghost use Rattle.std.specs.Prelude.{◌≡◌, ◌<◌, ℕ, [], replicate, length, ◌==◌, ◌||◌, ◌&&◌, IfOk};
-    ghost use Rattle.world_rules.specs.Counts.{number_count};
     ghost use Rattle.rist_world.specs.Tally.{came_at};
 
-    /// Nothing was counted yet, where requests are of this kind, and nothing has come on so many links.
-    pub(crate) fn with(alloc: Global, kind: NackKind, links: usize) -> Result<Tally, NoMemory>
+    /// Nothing was counted yet, and nothing has come on so many links.
+    pub(crate) fn with(alloc: Global, links: usize) -> Result<Tally, NoMemory>
         ensures value { IfOk result (λ t. t ≡ record {
-          kind = kind;
           sent = 0;
           carried = 0;
-          asked = 0;
           came = replicate links [];
         }) }
     {
@@ -136,10 +116,8 @@ impl Tally {
             }
         }
         Ok(Tally {
-            kind,
             sent: 0,
             carried: 0,
-            asked: 0,
             came,
         })
     }
@@ -182,19 +160,6 @@ impl Tally {
         }
     }
 
-    /// Numbers were asked for.
-    pub(crate) fn ask(&mut self, words: &[AskWord])
-        ensures value { self.new ≡ record self.old {
-          asked = capped (self.old.asked + number_count self.old.kind words.now);
-        } }
-    {
-        let mut asked = self.asked;
-        for word in words.iter() {
-            asked = asked.saturating_add(numbers_of(self.kind, word));
-        }
-        self.asked = asked;
-    }
-
     /// How many payloads were sent.
     pub(crate) fn sent(&self) -> u64
         ensures value { result ≡ self.now.sent }
@@ -207,12 +172,5 @@ impl Tally {
         ensures value { result ≡ self.now.carried }
     {
         self.carried
-    }
-
-    /// How many numbers were asked for.
-    pub(crate) fn asked(&self) -> u64
-        ensures value { result ≡ self.now.asked }
-    {
-        self.asked
     }
 }

@@ -142,7 +142,7 @@ impl World {
             backward: wires(alloc, usize::from(links))?,
             media: no_marks(alloc, usize::from(links))?,
             flows,
-            tally: Tally::with(alloc, far.nack, usize::from(links))?,
+            tally: Tally::with(alloc, usize::from(links))?,
         })
     }
 
@@ -228,6 +228,13 @@ impl World {
         ensures value { result ≡ self.now.receiver.counts.kept }
     {
         self.receiver.counts().kept
+    }
+
+    /// How many numbers the receiver asked for.
+    pub(crate) fn asked(&self) -> u64
+        ensures value { result ≡ self.now.receiver.asked }
+    {
+        self.receiver.figures().asked
     }
 
     /// A payload of at most 1,500 octets is sent at a moment.
@@ -340,10 +347,7 @@ impl World {
     {
         match self.receiver.step(told, &mut self.written) {
             Outcome::WriteFault => Err(NoMemory),
-            Outcome::Made(outs) => {
-                self.tally.ask(outs.asked.words());
-                put_back(&mut self.backward, told.link, &outs)
-            }
+            Outcome::Made(outs) => put_back(&mut self.backward, told.link, &outs),
             Outcome::Stopped => Ok(()),
             Outcome::Verdict(_) => Ok(()),
             Outcome::Spent => Ok(()),

@@ -25,14 +25,14 @@ use Rattle.rist_ends.specs.declared.told.What.TheVariants as told
 use Rattle.session_figures.specs.declared.amounts.Amounts.{Amounts}
 use Rattle.session_figures.specs.declared.amounts.Passed.{Passed}
 use Rattle.session_figures.specs.declared.jitter.Jitter.{Jitter}
-use Rattle.session_figures.specs.declared.numbers.Numbers.{Numbers}
+use Rattle.rist_ends.specs.declared.numbers.Numbers.{Numbers}
 use Rattle.session_figures.specs.declared.playout.Playout.{Playout}
 use Rattle.session_figures.specs.declared.table.Table.{Table}
-use Rattle.session_figures.specs.Numbers.{missing_count, sent_count}
+use Rattle.rist_ends.specs.Numbers.{AreNumbersOf, missing_count, sent_count}
 use Rattle.session_figures.specs.Amounts.{amounts_by, amounts_of, first_on, missing_by, nothing_passed, octets_on, passed_by, playout_by, records_in, recovered_on, restarts_by, used_before}
 use Rattle.session_figures.specs.Spreads.{jitters_by, jitters_of, last_transit, timestamp_in, transit_before, transit_word, trips_of}
 use Rattle.session_figures.specs.Figures.{Entry, entries_of, figures_of, links_by, marks_by, start_of, sums_by, ticks_of}
-use Rattle.session_figures.specs.Counting.{AreJittersOf, AreLinksOf, AreNumbersOf, AreSeriesOf, CounterState, IsCountedAfter, end_told, figures_in}
+use Rattle.session_figures.specs.Counting.{AreJittersOf, AreLinksOf, AreSeriesOf, CounterState, IsCountedAfter, end_told, figures_in}
 use Rattle.session_figures.specs.Inside.Taking.{with_passed}
 
 -- ---- a step at the effective time

@@ -12,7 +12,7 @@ use Rattle.receiver_rules.specs.Epochs.{Epoch, base_of, new_epoch, opens_next, e
 use Rattle.receiver_rules.specs.History.{current_moment, verdict}
 use Rattle.receiver_rules.proofs.PacketLemmas.{is_buffered-floor}
 use Rattle.receiver_rules.proofs.HistoryLemmas.{AreDistinct, accepted_parts, epochs_distinct}
-use Rattle.session_figures.specs.Numbers.{above, lowest_of, sent_in, sent_over, missing_in, missing_over, missing_at, sent_count, missing_count}
+use Rattle.rist_ends.specs.Numbers.{above, lowest_of, sent_in, sent_over, missing_in, missing_over, missing_at, sent_count, missing_count}
 use Rattle.receiver_rules.specs.ReceiverSteps.{buffer_event}
 use Rattle.request_rules.specs.Steps as inputs
 use Rattle.request_rules.specs.Steps.{Step as ReceiverStep, buffer_history}

@@ -1,5 +1,4 @@
 pub mod JitterLemmas
-pub mod NumberLemmas
 pub mod PlayoutLemmas
 pub mod FigureLemmas
 pub mod LawLemmas

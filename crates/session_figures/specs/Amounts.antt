@@ -11,7 +11,7 @@ use Rattle.request_rules.specs.Steps.{effective_time}
 use Rattle.session_figures.specs.declared.amounts.Amounts.{Amounts}
 use Rattle.session_figures.specs.declared.amounts.Passed.{Passed}
 use Rattle.session_figures.specs.declared.playout.Playout.{Playout}
-use Rattle.session_figures.specs.Numbers.{missing_count}
+use Rattle.rist_ends.specs.Numbers.{missing_count}
 use Rattle.session_figures.specs.Playout.{playout_between, standing_of, unless_restarted}
 
 -- a packet came after its deadline, or after one of the same or a higher number was played out

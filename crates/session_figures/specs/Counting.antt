@@ -3,34 +3,22 @@ use Rattle.std.specs.Prelude.{◌≡◌, ℕ, ◌<◌, ◌^◌, List, [], ◌∷
 use Rattle.link_channels.specs.declared.bounds.TheConstants.{MAX_LINKS}
 use Rattle.time_series.specs.Points.{SeriesState, IsSeriesOf, capped, shown_points}
 use Rattle.time_series.specs.Peaks.{IsPeaksOf}
-use Rattle.receiver_rules.specs.Epochs.{Epoch, epochs_of, newest_accepted}
+use Rattle.receiver_rules.specs.Epochs.{epochs_of}
 use Rattle.reorder_buffer.specs.State.{State}
 use Rattle.reorder_buffer.specs.StateAfter.{IsStateAfter}
 use Rattle.reorder_buffer.specs.declared.phase.Phase.TheVariants.{Open}
 use Rattle.request_rules.specs.Steps.{Step, End, buffer_history, effective_time}
 use Rattle.value_histogram.specs.declared.spread.Spread.{Spread}
 use Rattle.value_histogram.specs.Ranks.{HistogramState, IsHistogramOf}
+use Rattle.rist_ends.specs.declared.numbers.Numbers.{Numbers}
+use Rattle.rist_ends.specs.Numbers.{AreNumbersOf, missing_count}
 use Rattle.session_figures.specs.declared.figures.Figures.{Figures as Shown}
 use Rattle.session_figures.specs.declared.jitter.Jitter.{Jitter}
-use Rattle.session_figures.specs.declared.numbers.Numbers.{Numbers}
 use Rattle.session_figures.specs.declared.table.Table.{Table}
-use Rattle.session_figures.specs.Numbers.{lowest_of, sent_over, missing_over, missing_count}
 use Rattle.session_figures.specs.Amounts.{first_on, octets_on, recovered_on, used_before}
 use Rattle.session_figures.specs.Spreads.{jitters_of, last_transit, trips_of}
 use Rattle.session_figures.specs.declared.amounts.Amounts.{Amounts}
 use Rattle.session_figures.specs.Figures.{Entry, Figures, marks_by, entries_of, start_of}
-
--- the epochs that are over
-abbrev pub epochs_over : List Epoch → List Epoch
-epochs_over [] = []
-epochs_over (current ∷ earlier) = earlier
-
--- what is kept of the numbers of some epochs, the newest first
-pub record AreNumbersOf (n : Numbers) (epochs : List Epoch) : Type 0 where
-  pub lowest : n.low ≡ lowest_of (newest_accepted epochs)
-  pub count : n.kept ≡ capped (length (newest_accepted epochs))
-  pub before : n.sent ≡ capped (sent_over (epochs_over epochs))
-  pub lost : n.missing ≡ capped (missing_over (epochs_over epochs))
 
 -- there is a series for each link, each of one amount
 pub record AreLinksOf (links : List SeriesState) (amount : ℕ → Amounts → ℕ) (entries : List Entry) : Type 0 where

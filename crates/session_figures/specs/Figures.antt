@@ -10,7 +10,7 @@ use Rattle.value_histogram.specs.Ranks.{spread_of}
 use Rattle.receiver_rules.specs.declared.limits.Limits.{Limits}
 use Rattle.request_rules.specs.Steps.{Step, buffer_history, effective_time}
 use Rattle.session_figures.specs.declared.amounts.Amounts.{Amounts}
-use Rattle.session_figures.specs.Numbers.{sent_count}
+use Rattle.rist_ends.specs.Numbers.{sent_count}
 use Rattle.session_figures.specs.Amounts.{amounts_of, first_on, octets_on, recovered_on, used_before}
 use Rattle.session_figures.specs.Spreads.{jitters_of, trips_of}
 

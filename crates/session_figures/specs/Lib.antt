@@ -1,4 +1,3 @@
-pub mod Numbers
 pub mod Playout
 pub mod Amounts
 pub mod Spreads

@@ -5,15 +5,14 @@ ghost use Rattle.std.specs.Option.{unwrap_or};
 use crate::amounts::{Amounts, Passed};
 use crate::figures::Figures;
 use crate::jitter::Jitter;
-use crate::numbers::Numbers;
 use crate::playout::{Playout, Standing};
-use crate::stepping::{flush, missing_now, sent_now, stamp_of, step_buffer};
+use crate::stepping::{flush, stamp_of, step_buffer};
 use crate::table::Table;
 use crate::trips::take_trip;
 use outside_io::NoMemory;
 use receiver_rules::tick_of;
 use reorder_buffer::Buffer;
-use rist_ends::{Settings, Told};
+use rist_ends::{Numbers, Settings, Told, missing_now, sent_now};
 use std::alloc::Global;
 use std::marker::Model;
 use value_histogram::Histogram;
@@ -67,9 +66,9 @@ impl Counter {
     ghost use Rattle.rist_ends.specs.Settings.{IsInRange, limits_of};
     ghost use Rattle.rist_ends.specs.Told.{IsFit, IsNoEnd, step_of};
     ghost use Rattle.time_series.specs.Points.{capped};
-    ghost use Rattle.session_figures.specs.Numbers.{missing_count};
+    ghost use Rattle.rist_ends.specs.Numbers.{AreNumbersOf, missing_count};
     ghost use Rattle.session_figures.specs.Figures.{Entry, figures_of};
-    ghost use Rattle.session_figures.specs.Counting.{AreNumbersOf, AreSeriesOf, IsCountedAfter, end_told, figures_seen};
+    ghost use Rattle.session_figures.specs.Counting.{AreSeriesOf, IsCountedAfter, end_told, figures_seen};
     ghost use Rattle.session_figures.specs.Inside.Taking.{with_passed};
 
     /// One that was told nothing, with the limits of these settings. All memory of a counting is taken here.

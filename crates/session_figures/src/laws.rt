@@ -3,7 +3,7 @@ ghost use Rattle.std.specs.Prelude.{◌≡◌, ◌+◌, List, true};
 ghost use Rattle.receiver_rules.specs.declared.limits.Limits.{Limits};
 ghost use Rattle.receiver_rules.specs.Steps.{has_ended};
 ghost use Rattle.request_rules.specs.Steps.{Step, buffer_history};
-ghost use Rattle.session_figures.specs.Numbers.{missing_count, sent_count};
+ghost use Rattle.rist_ends.specs.Numbers.{missing_count, sent_count};
 ghost use Rattle.session_figures.specs.Figures.{first_count, recovered_count};
 
 /// Once the end has come each packet that was sent, by its number, came first time, was recovered, or is missing.

@@ -1,28 +1,25 @@
 //! A step of the buffer, and what it adds.
-ghost use Rattle.std.specs.Prelude.{◌≡◌, ◌≢◌, ◌<◌, ◌≤◌, ◌^◌, ℕ, max, length, List, ◌∷◌};
+ghost use Rattle.std.specs.Prelude.{◌≡◌, ◌<◌, ◌≤◌, ◌^◌, ℕ, max, length, List, ◌∷◌};
 ghost use Rattle.seq_unwrap.specs.Nearest.{cycle_of};
 ghost use Rattle.link_channels.specs.declared.bounds.TheConstants.{MAX_PAYLOAD};
-ghost use Rattle.time_series.specs.Points.{capped};
 ghost use Rattle.receiver_rules.specs.Steps.{Step, media_step, time_step, end_step, tick_of};
 ghost use Rattle.receiver_rules.specs.Epochs.{epochs_of};
 ghost use Rattle.receiver_rules.specs.Seen.{seen};
 ghost use Rattle.reorder_buffer.specs.StateAfter.{IsStateAfter};
 ghost use Rattle.reorder_buffer.specs.OneMore.{StandsAfter, Judges};
-ghost use Rattle.reorder_buffer.specs.declared.phase.Phase.TheVariants.{Open, Ended, Failed};
+ghost use Rattle.reorder_buffer.specs.declared.phase.Phase.TheVariants.{Open, Ended};
 ghost use Rattle.request_rules.specs.Steps.{Step as ReceiverStep, buffer_history};
 ghost use Rattle.rist_ends.specs.Told.{IsFit, IsFitArrival, IsNoEnd, step_of, buffer_step, input_of};
-ghost use Rattle.session_figures.specs.Numbers.{missing_count, sent_count};
 ghost use Rattle.session_figures.specs.Amounts.{amounts_by, media_amounts, nothing_passed};
 ghost use Rattle.session_figures.specs.Spreads.{timestamp_in};
 ghost use Rattle.receiver_rules.specs.History.{verdict};
-ghost use Rattle.session_figures.specs.Counting.{AreNumbersOf};
+ghost use Rattle.rist_ends.specs.Numbers.{AreNumbersOf};
 
 use crate::amounts::Amounts;
-use crate::numbers::Numbers;
 use outside_io::Nowhere;
 use receiver_rules::{Arrival, Verdict, tick_of};
 use reorder_buffer::Buffer;
-use rist_ends::{Told, What};
+use rist_ends::{Numbers, Told, What};
 
 /// Makes the step of what is told, which isn't the end, and says what it adds beside the numbers that the playout
 /// passes.
@@ -141,26 +138,4 @@ pub fn flush(buffer: &mut Buffer)
         Ok(_) => {}
         Err(_) => unreachable!(),
     }
-}
-
-/// How many numbers the playout has passed without a packet.
-pub fn missing_now(buffer: &Buffer, numbers: &Numbers) -> u64
-    ensures value { (history : List Step) → IsStateAfter buffer.now history → buffer.now.phase ≢ Failed
-        → AreNumbersOf numbers.now (epochs_of buffer.now.limits history)
-        → result ≡ capped (missing_count buffer.now.limits history) }
-{
-    let floor = match buffer.floor() {
-        Some(number) => number + 1,
-        None => 0,
-    };
-    numbers.missing(floor, buffer.held() as u64)
-}
-
-/// How many packets were sent.
-pub fn sent_now(buffer: &Buffer, numbers: &Numbers) -> u64
-    ensures value { (history : List Step) → IsStateAfter buffer.now history → buffer.now.phase ≢ Failed
-        → AreNumbersOf numbers.now (epochs_of buffer.now.limits history)
-        → result ≡ capped (sent_count buffer.now.limits history) }
-{
-    numbers.sent(buffer.high())
 }

@@ -1,27 +1,18 @@
 -- What a call of the sender or a step of the receiver counts.
-use Rattle.std.proofs.Common.{◌≡◌, ◌∙◌, ℕ, ◌+◌, Bool, true, false, List, [], ◌∷◌, ◌++◌, length, Option, None, Some, Result, Ok, Err, refl, sym, ap, subst, arith}
-use Rattle.std.specs.Prelude.{◌||◌, if◌then◌else◌}
+use Rattle.std.proofs.Common.{◌≡◌, ◌∙◌, ℕ, ◌+◌, Bool, true, false, List, [], ◌∷◌, Option, Result, Ok, Err, refl, sym, ap, arith}
+use Rattle.std.specs.Prelude.{if◌then◌else◌}
 use Rattle.std.proofs.lemmas.Bool.{true≢false}
 use Rattle.sender_rules.specs.Sendings.{Packet}
 use Rattle.rtcp_compound.specs.Compound.{Content}
-use Rattle.seq_unwrap.specs.declared.width.Width.{Width}
 use Rattle.psk_seal.specs.declared.sealer.Pair.{Pair}
-use Rattle.psk_seal.specs.declared.sealer.Spent as seal
-use Rattle.rist_wire.specs.Writing.{ShutterState, is_spent}
-use Rattle.request_rules.specs.declared.policy.NackKind.{NackKind}
-use Rattle.request_rules.specs.declared.word.AskWord.{AskWord}
-use Rattle.request_rules.specs.Steps.{Step, Input, Media, Control, Keepalive, Refused, Tick, End, effective_time}
-use Rattle.request_rules.specs.Requests.{asked_words}
-use Rattle.rist_reporter.specs.Control.{ControlSettings, Datagram, datagrams_of, input_datagrams, tick_compound, tick_keepalive, is_any, words_made, input_words, tick_packets}
-use Rattle.rist_reporter.specs.declared.out.Outs.{Outs}
-use Rattle.rist_reporter.specs.OneMore.{AnswersAfter, IsMade, step_answered}
+use Rattle.rist_wire.specs.Writing.{is_spent}
 use Rattle.rist_sender.specs.declared.answer.Answer.{Answer}
 use Rattle.sender_rules.specs.declared.send_bad.SendBad.{SendBad}
 use Rattle.sender_rules.specs.declared.send_bad.SendBad.TheVariants.{Spent, LinksDown}
 use Rattle.rist_sender.specs.Messages.{Message}
-use Rattle.rist_sender.specs.History.{Event, Called, Sent, Wrote, Renewed, effective_time as sender_time, packet_count, is_down}
-use Rattle.rist_sender.specs.Calls.{Work, Due, Rules, IfElse, IsAnswer, WritesInTurn, Spreads, SendsPacket, SendsNext, TicksInTurn, Sends, FeedsBack, Ticks, after_due, after_write, without_pair, called_at, written_as, with_event, after_copy, after_sent, is_settled, is_ended, packet_for, is_sharing, links_tried}
-use Rattle.world_rules.specs.Counts.{sent_count, sent_by, number_count, asked_count}
+use Rattle.rist_sender.specs.History.{Wrote, effective_time as sender_time, packet_count, is_down}
+use Rattle.rist_sender.specs.Calls.{Work, Due, Rules, IfElse, IsAnswer, WritesInTurn, Spreads, SendsPacket, SendsNext, TicksInTurn, Sends, FeedsBack, Ticks, after_due, after_write, without_pair, called_at, written_as, with_event, after_copy, after_sent, is_settled, is_ended, packet_for}
+use Rattle.world_rules.specs.Counts.{sent_count, sent_by}
 
 -- ---- payloads
 
@@ -114,52 +105,3 @@ ticks_in_turn_count keepalives micros (link ∷ links) from to (between, one, re
 
 pub ticks_count : (rules : Rules) (links micros : ℕ) (result : Result Unit SendBad) (from to : Work) → Ticks rules links micros result from to → sent_count to.history ≡ sent_count from.history
 ticks_count rules links micros result from to s = ticks_in_turn_count _ micros _ (called_at micros from) to s.writes
-
--- ---- numbers that were asked for
-
-no_words : (words : List AskWord) (is_report : Bool) (kind : NackKind) (own : ℕ) (flow : Option ℕ) (width : Width) (micros : ℕ) (more : List Datagram) → tick_compound kind own is_report flow width words micros ++ more ≡ [] → words ≡ []
-no_words [] is_report kind own flow width micros more is = refl
-no_words (word ∷ words) true kind own flow width micros more is = cc
-no_words (word ∷ words) false kind own flow width micros more is = cc
-
-input_none : (settings : ControlSettings) (before : List Step) (link t : ℕ) (input : Input) → input_datagrams settings before link t input ≡ [] → input_words settings before t input ≡ []
-input_none settings before link t (Media arrival) is = refl
-input_none settings before link t (Control sample request) is = refl
-input_none settings before link t Keepalive is = refl
-input_none settings before link t Refused is = refl
-input_none settings before link t (Tick micros) is = no_words (asked_words settings.limits settings.policy before t) _ _ _ _ _ _ _ is
-input_none settings before link t End is = refl
-
--- where no datagram is made nothing is asked for
-words_none : (settings : ControlSettings) (before : List Step) (step : Step) → datagrams_of settings before step ≡ [] → words_made settings before step ≡ []
-words_none settings before step is = by settings.is_muted is
-  where
-    by : (c : Bool) → (if c then [] else input_datagrams settings before step.link (effective_time (step ∷ before)) step.input) ≡ []
-        → (if c then [] else input_words settings before (effective_time (step ∷ before)) step.input) ≡ []
-    by true e = refl
-    by false e = input_none settings before step.link (effective_time (step ∷ before)) step.input e
-
--- the words of the requests in what was made
-abbrev pub words_in : Result (Option Outs) seal.Spent → List AskWord
-words_in (Ok None) = []
-words_in (Ok (Some outs)) = outs.asked
-words_in (Err spent) = []
-
-keepalive_words : (settings : ControlSettings) (before : List Step) (step : Step) (spent : seal.Spent) → words_made settings before (step_answered step (Err spent)) ≡ []
-keepalive_words settings before step spent = by settings.is_muted
-  where
-    by : (c : Bool) → (if c then [] else input_words settings before (effective_time (step_answered step (Err spent) ∷ before)) Keepalive) ≡ []
-    by true = refl
-    by false = refl
-
-words_answered : (settings : ControlSettings) (shutter : ShutterState) (before : List Step) (step : Step) (result : Result (Option Outs) seal.Spent) → AnswersAfter settings shutter before step result
-    → words_made settings before (step_answered step result) ≡ words_in result
-words_answered settings shutter before step (Ok None) a = words_none settings before step a.made
-words_answered settings shutter before step (Ok (Some outs)) a = sym a.made.1
-words_answered settings shutter before step (Err spent) a = keepalive_words settings before step spent
-
--- a step more counts the numbers of the words in what it made
-pub asked_then : (settings : ControlSettings) (shutter : ShutterState) (before : List Step) (step : Step) (result : Result (Option Outs) seal.Spent) → AnswersAfter settings shutter before step result
-    → asked_count settings (step_answered step result ∷ before) ≡ asked_count settings before + number_count settings.policy.kind (words_in result)
-asked_then settings shutter before step result a =
-    ap (λ words. asked_count settings before + number_count settings.policy.kind words) (words_answered settings shutter before step result a)

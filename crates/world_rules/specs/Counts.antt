@@ -1,18 +1,13 @@
 -- What became of what was sent, in numbers.
-use Rattle.std.specs.Prelude.{ℕ, ◌+◌, List, [], ◌∷◌, length, Bool, true, false, not, ◌&&◌, ◌==◌, Option, None, Some}
+use Rattle.std.specs.Prelude.{ℕ, ◌+◌, List, [], ◌∷◌, length, Bool, false, not, ◌&&◌, ◌==◌, Option, None, Some}
 use Rattle.std.specs.Prelude.{is_some, unwrap_or, Result, Ok, Err}
 use Rattle.std.specs.List.{list_any, sum_by, count_by, range_with_len}
 use Rattle.outside_net.specs.Links.{Datagram}
-use Rattle.request_rules.specs.declared.policy.NackKind.{NackKind}
-use Rattle.request_rules.specs.declared.word.AskWord.{AskWord}
-use Rattle.request_rules.specs.Words.{asked_numbers}
-use Rattle.request_rules.specs.Steps.{Step}
 use Rattle.rist_wire.specs.declared.session.Session.{Session}
 use Rattle.rist_wire.specs.declared.bad.WireBad.{WireBad}
 use Rattle.rist_wire.specs.declared.item.Item.{Item}
 use Rattle.rist_wire.specs.declared.item.Item.TheVariants as items
 use Rattle.rist_wire.specs.Item.{item_of}
-use Rattle.rist_reporter.specs.Control.{ControlSettings, words_made}
 use Rattle.sender_rules.specs.declared.send_bad.SendBad.{SendBad}
 use Rattle.sender_rules.specs.declared.send_bad.SendBad.TheVariants.{Spent, LinksDown}
 use Rattle.rist_sender.specs.History.{Event, Called, Sent, Wrote, Renewed}
@@ -84,15 +79,3 @@ is_lost setup course link place =
 -- how much media never came to the receiver
 abbrev pub lost_count : Setup → Course → ℕ
 lost_count setup course = place_count setup course (is_lost setup course)
-
--- ---- what the receiver asked for
-
--- how many numbers words ask for
-abbrev pub number_count : NackKind → List AskWord → ℕ
-number_count kind words = length (asked_numbers kind words)
-
--- how many numbers the steps of a receiver asked for, each time counted
-abbrev pub asked_count : ControlSettings → List Step → ℕ
-asked_count settings [] = 0
-asked_count settings (step ∷ before) =
-    asked_count settings before + number_count settings.policy.kind (words_made settings before step)

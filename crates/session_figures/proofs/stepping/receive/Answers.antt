@@ -9,7 +9,7 @@ use Rattle.receiver_rules.specs.Seen.{seen}
 use Rattle.reorder_buffer.specs.State.{State}
 use Rattle.reorder_buffer.specs.StateAfter.{Shows}
 use Rattle.reorder_buffer.proofs.PhaseLemmas.{not_failed}
-use Rattle.session_figures.proofs.NumberLemmas.{number_in, opened_is, received_numbers}
+use Rattle.rist_ends.proofs.NumberLemmas.{number_in, opened_is, received_numbers}
 use Rattle.session_figures.proofs.stepping.receive.Goals as goal
 
 pub returns-clause-numbers : goal.returns-clause-numbers

@@ -11,12 +11,12 @@ use Rattle.rist_ends.specs.Told.{step_of}
 use Rattle.time_series.specs.Points.{capped}
 use Rattle.value_histogram.specs.Ranks.{HistogramState, IsHistogramOf}
 use Rattle.session_figures.specs.declared.jitter.Jitter.{Jitter}
-use Rattle.session_figures.specs.declared.numbers.Numbers.{Numbers}
-use Rattle.session_figures.specs.Numbers.{missing_count}
+use Rattle.rist_ends.specs.declared.numbers.Numbers.{Numbers}
+use Rattle.rist_ends.specs.Numbers.{AreNumbersOf, missing_count}
 use Rattle.session_figures.specs.Amounts.{playout_by, restarts_by}
 use Rattle.session_figures.specs.Playout.{standing_of}
 use Rattle.session_figures.specs.Spreads.{jitters_of, last_transit, trips_of}
-use Rattle.session_figures.specs.Counting.{AreJittersOf, AreNumbersOf, AreSeriesOf, CounterState, IsCountedAfter}
+use Rattle.session_figures.specs.Counting.{AreJittersOf, AreSeriesOf, CounterState, IsCountedAfter}
 use Rattle.session_figures.specs.Inside.Taking.{with_passed}
 use Rattle.session_figures.proofs.FigureLemmas.{counted_on, first_is, jitters_more, record_is}
 use Rattle.session_figures.proofs.PlayoutLemmas.{playout_is}

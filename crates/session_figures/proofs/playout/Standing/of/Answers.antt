@@ -2,7 +2,7 @@
 use Rattle.std.proofs.Common.{◌∙◌}
 use Rattle.reorder_buffer.specs.State.{State}
 use Rattle.reorder_buffer.specs.StateAfter.{Shows}
-use Rattle.session_figures.proofs.PlayoutLemmas.{base_shown, fill_shown}
+use Rattle.rist_ends.proofs.FillLemmas.{base_shown, fill_shown}
 use Rattle.session_figures.proofs.playout.Standing.of.Goals as goal
 
 pub returns : goal.returns

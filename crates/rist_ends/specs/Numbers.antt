@@ -1,13 +1,14 @@
 -- What the sequence numbers of a history tell of packets: how many were sent, and how many of them were not written. A
 -- number counts as sent from the lowest to the highest that was kept in its epoch.
-use Rattle.std.specs.Prelude.{ℕ, ◌+◌, ◌-◌, ◌^◌, min, List, [], ◌∷◌, length, Option, None, Some}
-use Rattle.time_series.specs.Points.{capped}
+use Rattle.std.specs.Prelude.{◌≡◌, ℕ, ◌+◌, ◌-◌, ◌^◌, min, List, [], ◌∷◌, length, Option, None, Some}
 use Rattle.receiver_rules.specs.declared.limits.Limits.{Limits}
 use Rattle.receiver_rules.specs.declared.anchor.Highest.{Highest}
 use Rattle.receiver_rules.specs.Steps.{Step}
 use Rattle.receiver_rules.specs.Packets.{Packet, highest_of, playout_floor}
-use Rattle.receiver_rules.specs.Epochs.{Epoch, epochs_of}
+use Rattle.receiver_rules.specs.Epochs.{Epoch, epochs_of, newest_accepted}
 use Rattle.receiver_rules.specs.History.{accepted_packets, buffered_packets, current_moment}
+use Rattle.rist_ends.specs.declared.numbers.Numbers.{Numbers}
+use Rattle.rist_ends.specs.Counts.{capped}
 
 -- the lowest number of some packets, and one above all numbers where there are none
 abbrev pub lowest_of : List Packet → ℕ
@@ -61,3 +62,17 @@ abbrev pub missing_count : Limits → List Step → ℕ
 missing_count limits history =
     missing_at (epochs_of limits history) (playout_floor (accepted_packets limits history) (current_moment history))
     (length (buffered_packets limits history))
+
+-- ---- what is kept of them
+
+-- the epochs that are over
+abbrev pub epochs_over : List Epoch → List Epoch
+epochs_over [] = []
+epochs_over (current ∷ earlier) = earlier
+
+-- what is kept of the numbers of some epochs, the newest first
+pub record AreNumbersOf (n : Numbers) (epochs : List Epoch) : Type 0 where
+  pub lowest : n.low ≡ lowest_of (newest_accepted epochs)
+  pub count : n.kept ≡ capped (length (newest_accepted epochs))
+  pub before : n.sent ≡ capped (sent_over (epochs_over epochs))
+  pub lost : n.missing ≡ capped (missing_over (epochs_over epochs))

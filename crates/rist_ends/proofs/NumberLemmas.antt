@@ -1,18 +1,27 @@
 -- Numbers after an arrival.
-use Rattle.std.proofs.Common.{◌≡◌, ℕ, suc, ◌-◌, ◌^◌, ◌<◌, List, [], ◌∷◌, length, refl, sym, ap, ◌∙◌, subst, arith, Bool, true, false, not}
+use Rattle.std.proofs.Common.{◌≡◌, ℕ, suc, ◌-◌, ◌^◌, ◌<◌, max, List, [], ◌∷◌, length, refl, sym, ap, ◌∙◌, subst, arith, Bool, true, false, not}
 use Rattle.std.specs.Prelude.{nat_eq, if◌then◌else◌, Option, None, Some}
 use Rattle.std.proofs.lemmas.Bool.Decides.{nat_tests}
 use Rattle.std.specs.Option.{option_map}
-use Rattle.time_series.specs.Points.{capped}
 use Rattle.receiver_rules.specs.declared.limits.Limits.{Limits}
 use Rattle.receiver_rules.specs.declared.anchor.Highest.{Highest}
 use Rattle.receiver_rules.specs.Steps.{Arrival, Media}
-use Rattle.receiver_rules.specs.Packets.{Packet, highest_of, number_of, is_kept}
-use Rattle.receiver_rules.specs.Epochs.{Epoch, new_epoch, opens_next, epoch_at, epoch_with, verdict_in, packet_in, epochs_after, newest_accepted}
-use Rattle.session_figures.specs.declared.numbers.Numbers.{Numbers}
-use Rattle.session_figures.specs.Numbers.{lowest_of, above, sent_over, missing_over, missing_at}
-use Rattle.session_figures.specs.Counting.{AreNumbersOf}
-use Rattle.session_figures.specs.Inside.Taking.{above_number, number_by, closed, with_kept, taken, sent_of, missing_of}
+use Rattle.receiver_rules.specs.Packets.{Packet, Moment, highest_of, number_of, is_kept, playout_floor}
+use Rattle.receiver_rules.specs.Epochs.{Epoch, new_epoch, opens_next, epoch_at, epoch_with, epochs_of, verdict_in, packet_in, epochs_after, newest_accepted}
+use Rattle.receiver_rules.specs.declared.verdict.Verdict.{Verdict}
+use Rattle.receiver_rules.specs.declared.arrival.Arrival.{Arrival as Offered}
+use Rattle.receiver_rules.specs.Seen.{seen}
+use Rattle.receiver_rules.specs.Steps as buffer
+use Rattle.receiver_rules.specs.History.{accepted_packets, epoch_number, verdict}
+use Rattle.request_rules.specs.Steps.{Step as ReceiverStep, buffer_history}
+use Rattle.rist_ends.specs.declared.numbers.Numbers.{Numbers}
+use Rattle.rist_ends.specs.declared.told.What.{What}
+use Rattle.rist_ends.specs.declared.told.What.TheVariants as whats
+use Rattle.rist_ends.specs.Counts.{capped}
+use Rattle.rist_ends.specs.Numbers.{AreNumbersOf, lowest_of, above, sent_over, missing_over, missing_at}
+use Rattle.rist_ends.specs.Taking.{above_number, number_by, numbers_with, closed, with_kept, taken, sent_of, missing_of}
+use Rattle.rist_ends.specs.Told.{input_of}
+use Rattle.rist_ends.specs.Inside.Stepping.{SaysVerdictOn}
 
 -- the highest number
 abbrev pub number_in : Option Highest → Option ℕ
@@ -127,6 +136,15 @@ missing_is n (current ∷ earlier) floor waiting fits are =
     let lost = are.lost in
     omega (arith, low, count, lost)
 
+-- the same by the floor of the playout
+pub missing_shown : (n : Numbers) (epochs : List Epoch) (floor waiting : ℕ) (moment : Moment) → floor ≡ playout_floor (newest_accepted epochs) moment → AreNumbersOf n epochs → missing_of n floor waiting ≡ capped (missing_at epochs floor waiting)
+missing_shown n [] floor waiting moment is are = missing_is n [] floor waiting (omega (arith, is)) are
+missing_shown n (current ∷ earlier) floor waiting moment is are =
+    let low = are.lowest in
+    let count = are.count in
+    let lost = are.lost in
+    omega (arith, low, count, lost)
+
 -- ---- what a buffer tells of an arrival
 
 pub opened_is : (limits : Limits) (epochs : List Epoch) (t : ℕ) (arrival : Arrival) (was is : ℕ) → was ≡ length epochs - 1 → is ≡ length (epochs_after limits epochs t (Media arrival)) - 1
@@ -144,3 +162,39 @@ received_numbers limits epochs t arrival n new opened kept high value o h k are 
     ∙ ap (λ (x : Option ℕ). taken n (reopens limits epochs t arrival) x kept arrival) h
     ∙ ap (λ (b : Bool). taken n (reopens limits epochs t arrival) (number_in (highest_of (newest_accepted epochs))) b arrival) k))
     (taken_epochs limits epochs t arrival n are)
+
+-- ---- what came with a step
+
+-- what is told of an arrival: whether the place of its epoch is another, and the highest number before it
+pub record IsToldOf (limits : Limits) (history : List ReceiverStep) (step : ReceiverStep) (opened : Bool) (high : Option ℕ) (was now : ℕ) : Type 0 where
+  pub other : opened ≡ not (nat_eq now was)
+  pub place : was ≡ epoch_number limits (buffer_history history)
+  pub here : now ≡ epoch_number limits (buffer_history (step ∷ history))
+  pub top : high ≡ number_in (highest_of (accepted_packets limits (buffer_history history)))
+
+media_numbered : (v : Option Verdict) (n : Numbers) (limits : Limits) (h : List ReceiverStep) (link tick us : ℕ) (arrival : Offered) (opened : Bool) (high : Option ℕ) (was now : ℕ)
+    → v ≡ Some (verdict limits (buffer_history h) tick (seen arrival)) → IsToldOf limits h (record { link = link; tick = tick; input = input_of us (whats.Media arrival) }) opened high was now
+    → AreNumbersOf n (epochs_of limits (buffer_history h))
+    → AreNumbersOf (numbers_with v (whats.Media arrival) opened high n) (epochs_of limits (buffer_history (record { link = link; tick = tick; input = input_of us (whats.Media arrival) } ∷ h)))
+media_numbered v n limits h link tick us arrival opened high was now e told are =
+    let w : Verdict = verdict limits (buffer_history h) tick (seen arrival) in
+    let t : ℕ = max tick (buffer.effective_time (buffer_history h)) in
+    let epochs : List Epoch = epochs_of limits (buffer_history h) in
+    subst (λ (o : Option Verdict). AreNumbersOf (numbers_with o (whats.Media arrival) opened high n) (epochs_after limits epochs t (Media (seen arrival)))) (sym e)
+    (received_numbers limits epochs t (seen arrival) n (taken n opened high (is_kept w) (seen arrival)) opened (is_kept w) high refl
+    (told.other ∙ opened_is limits epochs t (seen arrival) was now told.place told.here) told.top refl are)
+
+silent_numbered : (v : Option Verdict) (what : What) (n : Numbers) (epochs : List Epoch) (opened : Bool) (high : Option ℕ) → v ≡ None → AreNumbersOf n epochs → AreNumbersOf (numbers_with v what opened high n) epochs
+silent_numbered v what n epochs opened high e are = subst (λ (o : Option Verdict). AreNumbersOf (numbers_with o what opened high n) epochs) (sym e) are
+
+-- the numbers of what is told, with the verdict that its step says
+pub numbered : (v : Option Verdict) (what : What) (n : Numbers) (limits : Limits) (h : List ReceiverStep) (link tick us : ℕ) (opened : Bool) (high : Option ℕ) (was now : ℕ)
+    → SaysVerdictOn v limits (buffer_history h) tick (input_of us what) → IsToldOf limits h (record { link = link; tick = tick; input = input_of us what }) opened high was now
+    → AreNumbersOf n (epochs_of limits (buffer_history h))
+    → AreNumbersOf (numbers_with v what opened high n) (epochs_of limits (buffer_history (record { link = link; tick = tick; input = input_of us what } ∷ h)))
+numbered v (whats.Media arrival) n limits h link tick us opened high was now e told are = media_numbered v n limits h link tick us arrival opened high was now e told are
+numbered v (whats.Control compound) n limits h link tick us opened high was now e told are = silent_numbered v (whats.Control compound) n (epochs_of limits (buffer_history h)) opened high e are
+numbered v whats.Keepalive n limits h link tick us opened high was now e told are = silent_numbered v whats.Keepalive n (epochs_of limits (buffer_history h)) opened high e are
+numbered v whats.Refused n limits h link tick us opened high was now e told are = silent_numbered v whats.Refused n (epochs_of limits (buffer_history h)) opened high e are
+numbered v whats.Tick n limits h link tick us opened high was now e told are = silent_numbered v whats.Tick n (epochs_of limits (buffer_history h)) opened high e are
+numbered v whats.End n limits h link tick us opened high was now e told are = silent_numbered v whats.End n (epochs_of limits (buffer_history h)) opened high e are

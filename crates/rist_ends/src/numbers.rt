@@ -1,13 +1,20 @@
 //! What is kept of the numbers of packets.
-ghost use Rattle.std.specs.Prelude.{◌≡◌, ◌+◌, ◌-◌, ◌^◌, ◌<◌, []};
+ghost use Rattle.std.specs.Prelude.{◌≡◌, ◌≢◌, ◌+◌, ◌-◌, ◌^◌, ◌<◌, List, [], length};
 ghost use Rattle.std.specs.Option.{ForSome};
-ghost use Rattle.time_series.specs.Points.{capped};
 ghost use Rattle.seq_unwrap.specs.Nearest.{cycle_of, nearest};
 ghost use Rattle.receiver_rules.specs.Seen.{seen};
-ghost use Rattle.session_figures.specs.Counting.{AreNumbersOf};
-ghost use Rattle.session_figures.specs.Inside.Taking.{above_number, closed, missing_of, number_by, sent_of, taken, with_kept};
+ghost use Rattle.receiver_rules.specs.Steps.{Step};
+ghost use Rattle.receiver_rules.specs.Epochs.{epochs_of};
+ghost use Rattle.reorder_buffer.specs.StateAfter.{IsStateAfter};
+ghost use Rattle.reorder_buffer.specs.declared.phase.Phase.TheVariants.{Failed};
+ghost use Rattle.rist_ends.specs.Counts.{capped};
+ghost use Rattle.rist_ends.specs.Numbers.{AreNumbersOf, missing_count, sent_count};
+ghost use Rattle.rist_ends.specs.Taking.{above_number, closed, missing_of, number_by, numbers_with, sent_of, taken, with_kept};
+ghost use Rattle.rist_ends.specs.Told.{IsFitWhat};
 
-use receiver_rules::Arrival;
+use crate::told::What;
+use receiver_rules::{Arrival, Verdict};
+use reorder_buffer::Buffer;
 use seq_unwrap::Width;
 
 /// The numbers of the newest epoch that were kept, and what came of the epochs before it. Each count stays at its
@@ -26,7 +33,7 @@ pub struct Numbers {
 
 impl Numbers {
     /// Of no epoch.
-    pub(crate) fn none() -> Numbers
+    pub fn none() -> Numbers
         ensures state { AreNumbersOf result [] }
     {
         Numbers {
@@ -39,13 +46,7 @@ impl Numbers {
 
     /// Takes an arrival that was judged: whether it opened the next epoch, the highest number before it, and whether it
     /// was kept.
-    pub(crate) fn take(
-        &mut self,
-        opened: bool,
-        high: Option<u64>,
-        kept: bool,
-        arrival: &Arrival<'_>,
-    )
+    pub fn take(&mut self, opened: bool, high: Option<u64>, kept: bool, arrival: &Arrival<'_>)
         requires high { ForSome high (λ n. n < 2 ^ 62) }
         requires word { arrival.now.word < cycle_of arrival.now.width }
         ensures value { self.new ≡ taken self.old opened high kept (seen arrival.now) }
@@ -55,6 +56,30 @@ impl Numbers {
             self.keep_if(kept, None, arrival);
         } else {
             self.keep_if(kept, high, arrival);
+        }
+    }
+
+    /// Takes what came with a step that has this verdict, where it has one: whether it opened the next epoch, and the
+    /// highest number before it.
+    pub(crate) fn take_step(
+        &mut self,
+        what: &What<'_>,
+        verdict: Option<Verdict>,
+        opened: bool,
+        high: Option<u64>,
+    )
+        requires high { ForSome high (λ n. n < 2 ^ 62) }
+        requires fits { IsFitWhat what.now }
+        ensures value { self.new ≡ numbers_with verdict what.now opened high self.old }
+    {
+        match (verdict, what) {
+            (Some(verdict), What::Media(arrival)) => self.take(
+                opened,
+                high,
+                verdict.is_kept(),
+                arrival,
+            ),
+            _ => {}
         }
     }
 
@@ -99,6 +124,29 @@ impl Numbers {
             self.kept = self.kept.saturating_add(1);
         }
     }
+}
+
+/// How many numbers the playout of a buffer has passed without a packet.
+pub fn missing_now(buffer: &Buffer, numbers: &Numbers) -> u64
+    ensures value { result ≡ missing_of numbers.now buffer.now.floor (length buffer.now.held) }
+    ensures history { (history : List Step) → IsStateAfter buffer.now history → buffer.now.phase ≢ Failed
+        → AreNumbersOf numbers.now (epochs_of buffer.now.limits history)
+        → result ≡ capped (missing_count buffer.now.limits history) }
+{
+    let floor = match buffer.floor() {
+        Some(number) => number + 1,
+        None => 0,
+    };
+    numbers.missing(floor, buffer.held() as u64)
+}
+
+/// How many packets were sent, by the numbers that a buffer kept.
+pub fn sent_now(buffer: &Buffer, numbers: &Numbers) -> u64
+    ensures value { (history : List Step) → IsStateAfter buffer.now history → buffer.now.phase ≢ Failed
+        → AreNumbersOf numbers.now (epochs_of buffer.now.limits history)
+        → result ≡ capped (sent_count buffer.now.limits history) }
+{
+    numbers.sent(buffer.high())
 }
 
 // One above a number, and 0 where there is none.
