@@ -28,6 +28,8 @@ use Rattle.desk_run.specs.Inside.Deciding.{last_by}
 use Rattle.desk_run.specs.Turns.{AreOwned, HasConcluded}
 use Rattle.desk_run.proofs.AgreeLemmas.{agrees}
 use Rattle.desk_run.proofs.EndLemmas.{whole_end}
+use Rattle.desk_run.proofs.SeenLemmas.{seen_with_end}
+use Rattle.rist_desk.specs.Work.{IsOlder}
 
 -- ---- places of a list
 
@@ -129,4 +131,9 @@ has_concluded desk given contents faults passes parts left answer outs cut close
             (of_links turns own passes closed.own closed.others (λ k p e. (are k p e).steps));
       };
       seen = λ k p e not. is ∙ seen_cut (setup_of given) answer outs turns (turns_seen p) legal ended.stands.legal (closed.saw k p e) not;
+      older = λ k p e. record {
+        steps = reverse (entries (turns_seen p));
+        seen_is = refl;
+        older = λ whole kept. subst (λ (l : List Step). IsOlder (reverse (entries (turns_seen p))) l) (told_once all whole kept) (seen_with_end turns (turns_seen p) answer outs (closed.saw k p e));
+      };
     }

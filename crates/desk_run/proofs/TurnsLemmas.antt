@@ -22,15 +22,17 @@ use Rattle.rist_desk.specs.Sending.{LacksRoom}
 use Rattle.outside_net.specs.Links.{LinkTells}
 use Rattle.rist_desk.specs.Serving.{MayServe, ServesOn, TraceTells}
 use Rattle.turn_lock.specs.declared.pass.Pass.{Pass}
-use Rattle.turn_lock.specs.Passes.{entries_with, turns_left}
+use Rattle.turn_lock.specs.declared.rule.Turn.{Turn}
+use Rattle.turn_lock.specs.Turns.{entries}
+use Rattle.turn_lock.specs.Passes.{entries_with, turns_left, turns_seen}
 use Rattle.turn_desk.specs.declared.desk.TurnDesk.{TurnDesk}
 use Rattle.turn_desk.specs.declared.shared.Shared.{Shared}
-use Rattle.turn_desk.specs.Own.{AreFreshFor, AreOf, HasSeenFault, IsOf, own_list}
+use Rattle.turn_desk.specs.Own.{AreFreshFor, AreOf, HasSeenFault, IsOf, all_seen, own_list}
 use Rattle.desk_run.specs.declared.ending.Ending.{Ending}
 use Rattle.desk_run.specs.declared.ending.Ending.TheVariants as endings
 use Rattle.desk_run.specs.Endings.{any_worker, is_without_room, is_write_fault}
 use Rattle.desk_run.specs.Receiving.{own_lists, HasReceived}
-use Rattle.desk_run.specs.Run.{EndsAs, IsExact, IsNewWorker, Receives, outside}
+use Rattle.desk_run.specs.Run.{EndsAs, HasSeen, IsExact, IsNewWorker, Receives, outside}
 use Rattle.desk_run.specs.Setup.{Setup, given_to, no_steps}
 use Rattle.desk_run.specs.Turns.{AreOwned, FitsAfter, HasConcluded, ending_by}
 use Rattle.desk_run.specs.Workers.{ToldTrace, told_by, link_of, clock_of, opener_of, trace_of, is_unended}
@@ -38,7 +40,7 @@ use Rattle.desk_run.proofs.RunLemmas.{all_served, clocks_told, ends_as, exactly,
 
 -- what passes tell
 abbrev pub pass_tells : {X : Type 0} → TraceTells (Pass Step X)
-pass_tells {X} = record { list = own_list {X = X}; limit = λ pass. None }
+pass_tells {X} = record { list = own_list {X = X}; seen = all_seen {X = X}; limit = λ pass. None }
 
 -- ---- places
 
@@ -104,7 +106,7 @@ pub record RunsInTurns {L C X : Type 0} (given : Given) (moments : C → Option 
   pub openers_are : map opener_of ws ≡ openers
   pub session : All (λ session. session ≡ s.session) openers
   pub passes_are : map trace_of ws ≡ passes
-  pub fresh : (k : ℕ) (p : Pass Step X) → slice_get passes k ≡ Some p → entries_with p ≡ []
+  pub fresh : (k : ℕ) (p : Pass Step X) → slice_get passes k ≡ Some p → (entries_with p ≡ []) × (turns_seen p ≡ [])
   pub unended : All is_unended ws
   pub as_many : length later ≡ length ws
   pub served : (link : ℕ) (d : Worker L C (Pass Step X)) → link < length ws → ServesOn given moments tells pass_tells limits link (slice_index_or ws link d) (slice_index_or later link d)
@@ -126,7 +128,7 @@ module _ {L C X : Type 0} (moments : C → Option (ℕ → ℕ)) (tells : LinkTe
       subst (λ (x : Session). x ≡ s.session) (get_or-map opener_of ws place d (opener_of d) less)
       (subst (λ (l : List Session). slice_index_or l place (opener_of d) ≡ s.session) (sym r.openers_are)
       (r.session place (opener_of d) (subst (λ (l : List Session). place < length l) r.openers_are (subst (λ n. place < n) (sym (length-map ws opener_of)) less)))) in
-      let nothing : entries_with w.trace ≡ [] = r.fresh place w.trace (subst (λ (l : List (Pass Step X)). slice_get l place ≡ Some w.trace) r.passes_are (pass_at ws place w (there ws place d less))) in
+      let nothing : entries_with w.trace ≡ [] = (r.fresh place w.trace (subst (λ (l : List (Pass Step X)). slice_get l place ≡ Some w.trace) r.passes_are (pass_at ws place w (there ws place d less)))).0 in
       record {
         session = session;
         list = ap (λ (l : List Step). Some (reverse l)) nothing ∙ sym (ap no_steps told);
@@ -220,6 +222,13 @@ module _ {L C X : Type 0} (moments : C → Option (ℕ → ℕ)) (tells : LinkTe
               let seen = seen_at link back.0 back.1 (subst (λ (x : Worker L C ToldTrace). (x.end ≡ Some ends.Stopped) ⊎ (x.end ≡ Some ends.WriteFault)) (sym back.2) broke) in
               let cut_is = h.seen link back.0.trace (places link back.0 back.1) seen in
               subst (λ (b : Bool). RoseWhere b faults faults_are) cut_is h.cause;
+          unseen = λ link w e.
+              let back = told_at pass_tells ws link w e in
+              let fresh = r.fresh link back.0.trace (subst (λ (l : List (Pass Step X)). slice_get l link ≡ Some back.0.trace) r.passes_are (pass_at ws link back.0 back.1)) in
+              ap (λ (x : Worker L C ToldTrace). x.trace.seen) (sym back.2) ∙ ap (λ (ts : List (Turn Step)). Some (reverse (entries ts))) fresh.1;
+          seen = λ link w e.
+              let back = told_at pass_tells later link w e in
+              subst (λ (x : Worker L C ToldTrace). HasSeen h.desk.kept x.trace.seen) back.2 (h.older link back.0.trace (places link back.0 back.1));
         };
       }
 

@@ -1,5 +1,5 @@
 -- What a run of receiving leaves, by what its objects tell.
-use Rattle.std.specs.Prelude.{◌≡◌, ◌≢◌, ◌⊎◌, ℕ, List, map, reverse, length, slice_get, true, false, Option, Some, None}
+use Rattle.std.specs.Prelude.{◌≡◌, ◌≢◌, ◌⊎◌, ℕ, List, [], map, reverse, length, slice_get, true, false, Option, Some, None}
 use Rattle.std.specs.Prelude.{is_some}
 use Rattle.std.specs.List.{All, concat}
 use Rattle.outside_io.specs.Causes.{Rose, RoseWhere}
@@ -14,6 +14,7 @@ use Rattle.rist_desk.specs.declared.worker.Worker.{Worker}
 use Rattle.rist_desk.specs.Desk.{DeskState, Given, StandsFor}
 use Rattle.outside_net.specs.Links.{LinkTells}
 use Rattle.rist_desk.specs.Serving.{ServesOn}
+use Rattle.rist_desk.specs.Work.{IsOlder}
 use Rattle.rist_desk.specs.Steps.{history_of}
 use Rattle.desk_run.specs.declared.ending.Ending.{Ending}
 use Rattle.desk_run.specs.declared.ending.Ending.TheVariants as endings
@@ -67,14 +68,23 @@ pub record IsNewWorker {L C : Type 0} (s : Setup) (w : Worker L C ToldTrace) : T
   pub limit : w.trace.limit ≡ s.limit
   pub unended : w.end ≡ None
 
+-- these steps were seen, and stand at the front of those that were kept
+pub record HasSeen (kept seen : Option (List Step)) : Type 0 where
+  pub steps : List Step
+  pub seen_is : seen ≡ Some steps
+  pub older : (whole : List Step) → kept ≡ Some whole → IsOlder steps whole
+
 -- Where the steps are told without a limit, they are one history: no list was full or torn, and a worker ended as
--- Stopped or WriteFault only where a write of the sink failed.
-pub record IsSure {L C : Type 0} (workers : List (Worker L C ToldTrace)) (faults_were faults_are : ℕ)
-    (ending : Ending) : Type 0 where
+-- Stopped or WriteFault only where a write of the sink failed. At first a worker had seen no step; and what it has seen
+-- then stands at the front of the history, its own steps, each behind those that had been made before it, with it.
+pub record IsSure {L C : Type 0} (were are : List (Worker L C ToldTrace)) (kept : Option (List Step))
+    (faults_were faults_are : ℕ) (ending : Ending) : Type 0 where
   pub room : ending ≢ endings.TraceFull
   pub whole : (tear : Tear) → ending ≢ endings.Torn tear
-  pub broken : (link : ℕ) (w : Worker L C ToldTrace) → slice_get workers link ≡ Some w
+  pub broken : (link : ℕ) (w : Worker L C ToldTrace) → slice_get are link ≡ Some w
       → (w.end ≡ Some ends.Stopped) ⊎ (w.end ≡ Some ends.WriteFault) → Rose faults_were faults_are
+  pub unseen : (link : ℕ) (w : Worker L C ToldTrace) → slice_get were link ≡ Some w → w.trace.seen ≡ Some []
+  pub seen : (link : ℕ) (w : Worker L C ToldTrace) → slice_get are link ≡ Some w → HasSeen kept w.trace.seen
 
 -- what a run is over, before it or after: its links, the clock of each, what its sink tells, and how many of the sink's
 -- writes failed
@@ -126,4 +136,4 @@ pub record Receives {L C : Type 0} (moments : C → Option (ℕ → ℕ)) (tells
   -- a write failed exactly where the sink's count rose
   pub fault : RoseWhere (is_write_fault ending) was.faults is.faults
   pub ends : EndsAs ending (given_to s was.contents was.faults) desk are counts
-  pub sure : s.limit ≡ None → s.tells ≡ true → IsSure are was.faults is.faults ending
+  pub sure : s.limit ≡ None → s.tells ≡ true → IsSure were are desk.kept was.faults is.faults ending

@@ -9,12 +9,13 @@ use Rattle.rist_desk.specs.declared.worker.Worker.{Worker}
 use Rattle.rist_desk.specs.Desk.{DeskState, Given, StandsFor}
 use Rattle.turn_lock.specs.declared.pass.Pass.{Pass}
 use Rattle.turn_lock.specs.Passes.{entries_with}
-use Rattle.turn_desk.specs.Own.{HasSeenFault}
+use Rattle.turn_desk.specs.Own.{HasSeenFault, all_seen}
 use Rattle.desk_run.specs.declared.ending.Ending.{Ending}
 use Rattle.desk_run.specs.declared.ending.Ending.TheVariants as endings
 use Rattle.desk_run.specs.Endings.{is_spent, is_without_room, is_link_failed, any_worker, all_workers, is_write_fault}
 use Rattle.desk_run.specs.Endings.{IsSound}
 use Rattle.desk_run.specs.Receiving.{HasReceived}
+use Rattle.desk_run.specs.Run.{HasSeen}
 
 -- these lists are what the first passes own, each its own, and the passes behind them own nothing
 pub record AreOwned {X : Type 0} (own : List (List Step)) (passes : List (Pass Step X)) : Type 0 where
@@ -25,7 +26,7 @@ pub record AreOwned {X : Type 0} (own : List (List Step)) (passes : List (Pass S
 -- The end was told to a desk in turns. What is left stands as a desk that kept each step: its list is a legal history,
 -- and where no write failed, the steps before the end are those of the own lists, each list's once and in its order,
 -- and the sink holds what they release. A write failed exactly where the sink's count rose, and before the end wherever
--- a pass has seen one.
+-- a pass has seen one. What a pass has seen stands at the front of the list.
 pub record HasConcluded {X : Type 0} (given : Given) (own : List (List Step)) (passes : List (Pass Step X)) (cut : Bool)
     (receiver : ReceiverState) (contents : Option (List ℕ)) (faults : ℕ) : Type 0 where
   pub desk : DeskState
@@ -38,6 +39,7 @@ pub record HasConcluded {X : Type 0} (given : Given) (own : List (List Step)) (p
   pub cause : RoseWhere cut given.faults faults
   pub received : cut ≡ false → HasReceived given desk.kept desk.contents own
   pub seen : (k : ℕ) (p : Pass Step X) → slice_get passes k ≡ Some p → HasSeenFault p → cut ≡ true
+  pub older : (k : ℕ) (p : Pass Step X) → slice_get passes k ≡ Some p → HasSeen desk.kept (all_seen p)
 
 -- an ending that fits the workers, where no write failed and nothing is torn
 pub record FitsAfter {L C U : Type 0} (workers : List (Worker L C U)) (ending : Ending) : Type 0 where

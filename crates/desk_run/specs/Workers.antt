@@ -33,11 +33,12 @@ is_unended w = w.end ≡ None
 -- what a trace tells
 pub record ToldTrace : Type 0 where
   pub list : Option (List Step)
+  pub seen : Option (List Step)
   pub limit : Option ℕ
 
 -- a trace that tells just that
 abbrev pub told_trace : TraceTells ToldTrace
-told_trace = record { list = λ t. t.list; limit = λ t. t.limit }
+told_trace = record { list = λ t. t.list; seen = λ t. t.seen; limit = λ t. t.limit }
 
 -- a worker as far as it tells: in place of its trace what this tells
 abbrev pub told_by : {L C U : Type 0} → TraceTells U → Worker L C U → Worker L C ToldTrace
@@ -45,6 +46,6 @@ told_by tells w = record {
   link = w.link;
   clock = w.clock;
   opener = w.opener;
-  trace = record { list = tells.list w.trace; limit = tells.limit w.trace };
+  trace = record { list = tells.list w.trace; seen = tells.seen w.trace; limit = tells.limit w.trace };
   end = w.end;
 }

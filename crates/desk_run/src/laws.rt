@@ -1,9 +1,11 @@
 //! Laws of a run of receiving.
-ghost use Rattle.std.specs.Prelude.{◌≡◌, ◌≤◌, ℕ, false, List, [], length, reverse, slice_get, Option, Some};
+ghost use Rattle.std.specs.Prelude.{◌≡◌, ◌<◌, ◌≤◌, ◌++◌, ◌∷◌, ℕ, false, List, [], length, reverse, slice_get, Option, Some};
 ghost use Rattle.std.specs.List.{concat};
 ghost use Rattle.receiver_rules.specs.Sent.{SentStream, Delivery, HasSteadyTimestamps, AreDeliveriesOf};
 ghost use Rattle.rist_desk.specs.declared.step.Step.{Step};
 ghost use Rattle.rist_desk.specs.Desk.{Given};
+ghost use Rattle.rist_desk.specs.Sending.{Made, one};
+ghost use Rattle.rist_desk.specs.Work.{Gains, Holds, IsOlder};
 ghost use Rattle.rist_compare.specs.Tears.{Agree};
 ghost use Rattle.turn_lock.specs.declared.rule.Turn.{Turn};
 ghost use Rattle.turn_lock.specs.Turns.{entries, of};
@@ -44,4 +46,16 @@ pub fn what_passes_own_is_what_links_made()
         → ((k : ℕ) (steps : List Step) → slice_get own k ≡ Some steps → steps ≡ reverse (of k turns))
         → ((k : ℕ) → AreOf k (of k turns))
         → Agree (reverse (entries turns)) own }
+{}
+
+/// Where a worker had seen no step at first, and what it has seen at last stands at the front of a history: each step that
+/// it made stands there right behind all that had been made before it, by which its datagrams are due; and of two the
+/// second was made after the first.
+pub fn each_step_stands_behind_those_before_it()
+    ensures behind { (desk : Option Given) (was is : Holds Step) (ms : List Made) (seen whole : List Step) (i : ℕ)
+        (m : Made) → Gains (one desk) was is ms → was.own.seen ≡ Some [] → is.own.seen ≡ Some seen
+        → IsOlder seen whole → slice_get ms i ≡ Some m → IsOlder (m.before ++ m.step ∷ []) whole }
+    ensures order { (desk : Option Given) (was is : Holds Step) (ms : List Made) (seen : List Step) (i j : ℕ)
+        (m n : Made) → Gains (one desk) was is ms → was.own.seen ≡ Some [] → is.own.seen ≡ Some seen
+        → i < j → slice_get ms i ≡ Some m → slice_get ms j ≡ Some n → IsOlder (m.before ++ m.step ∷ []) n.before }
 {}

@@ -1,7 +1,7 @@
 -- What a worker's step of all places leaves of its rows and of its link, by why it ends the worker.
 use Rattle.std.proofs.Common.{◌≡◌, ◌≢◌, ◌⊎◌, inl, inr, ◌<◌, ℕ, List, [], ◌∷◌, ◌++◌, length, reverse, slice_get, Bool, true, false, if◌then◌else◌, Result, Err, Option, None, Some, option_map, refl, ap, sym, ◌∙◌, subst, arith, length-append}
 use Rattle.std.specs.List.{list_all, list_any}
-use Rattle.std.proofs.lemmas.List.{append-nil, reverse-reverse}
+use Rattle.std.proofs.lemmas.List.{append-nil, reverse-append, reverse-reverse}
 use Rattle.link_channels.specs.declared.channel.Channel.{Channel}
 use Rattle.outside_net.specs.Links.{Datagram}
 use Rattle.rist_reporter.specs.Made.{OutOf}
@@ -13,10 +13,14 @@ use Rattle.rist_desk.specs.Desk.{Given, is_cut_off}
 use Rattle.rist_desk.specs.Items.{told_plan}
 use Rattle.rist_desk.specs.Sending.{written}
 use Rattle.rist_desk.specs.Links.{SentPart, is_failure}
-use Rattle.rist_desk.specs.Work.{CutShort, Gains, Goes, holds}
+use Rattle.rist_desk.specs.Made.{steps_with}
+use Rattle.rist_desk.specs.Work.{CutShort, Gains, Goes, OwnTold, SeesWith, holds}
 use Rattle.rist_desk.proofs.ListLemmas.{reverse_more}
-use Rattle.rist_desk.proofs.WorkLemmas.{made_last, made_one, not_made}
+use Rattle.rist_desk.proofs.WorkLemmas.{made_last, made_one, none_gained, not_made, sees_nothing, sees_one}
 use Rattle.turn_lock.specs.History.{added}
+use Rattle.turn_lock.specs.declared.rule.Turn.{Turn}
+use Rattle.turn_lock.specs.Turns.{entries}
+use Rattle.turn_desk.proofs.OwnLemmas.{entries_both}
 use Rattle.rist_fan.specs.declared.flow.Came.{Came}
 use Rattle.rist_fan.specs.Fan.{AllAnswer, step_come}
 use Rattle.rist_fan.specs.Seen.{FanStep}
@@ -102,19 +106,30 @@ no_full came ends.TraceFull x is = elim x [ ]
 
 -- ---- its rows
 
-reverse_first : (row : FanStep) (rows : List FanStep) → reverse (row ∷ rows) ≡ reverse rows ++ row ∷ []
-reverse_first row rows =
-    ap (λ (l : List FanStep). reverse (row ∷ l)) (sym (reverse-reverse rows))
-    ∙ (ap (λ (l : List FanStep). reverse l) (sym (reverse_more (reverse rows) row)) ∙ reverse-reverse (reverse rows ++ row ∷ []))
+-- what turns of several flows added, and what a pass told of it
+pub rows_more : (e : Option FanStep) (old new : List FanStep) → new ≡ added e old → Some (reverse new) ≡ option_map (steps_with e) (Some (reverse old))
+rows_more None old new is = ap (λ (l : List FanStep). Some (reverse l)) is
+rows_more (Some row) old new is = ap (λ (l : List FanStep). Some (reverse l)) is ∙ ap Some (reverse_first row old)
+  where
+    reverse_first : (row : FanStep) (rows : List FanStep) → reverse (row ∷ rows) ≡ reverse rows ++ row ∷ []
+    reverse_first row rows =
+        ap (λ (l : List FanStep). reverse (row ∷ l)) (sym (reverse-reverse rows))
+        ∙ (ap (λ (l : List FanStep). reverse l) (sym (reverse_more (reverse rows) row)) ∙ reverse-reverse (reverse rows ++ row ∷ []))
 
-rows_more : (row : FanStep) (old new : List FanStep) → new ≡ row ∷ old → Some (reverse new) ≡ option_map (λ (l : List FanStep). l ++ row ∷ []) (Some (reverse old))
-rows_more row old new is = ap (λ (l : List FanStep). Some (reverse l)) is ∙ ap Some (reverse_first row old)
+-- what a pass saw before a turn, and with it
+pub rows_seen : (e : Option FanStep) (since earlier now : List (Turn FanStep)) (turn : Turn FanStep) → turn.entry ≡ e → now ≡ turn ∷ since ++ earlier
+    → SeesWith (Some (reverse (entries earlier))) (Some (reverse (entries now))) (Some (reverse (entries (since ++ earlier)))) e
+rows_seen e since earlier now turn entry is = (
+  record {
+    later = reverse (entries since);
+    is = ap (λ (l : List FanStep). reverse l) (entries_both since earlier) ∙ reverse-append (entries since) (entries earlier);
+  },
+  rows_more e (entries (since ++ earlier)) (entries now) (ap entries is ∙ ap (λ (x : Option FanStep). added x (entries (since ++ earlier))) entry),
+)
 
-row_in : (ask : FanTold) (came : List Came) (old new : List FanStep) → list_all (λ (c : Came). is_stopped c.answer) came ≡ false → new ≡ added (row_added ask came tt) old → new ≡ step_come ask.place ask.told came ∷ old
-row_in ask came old new going is = is ∙ ap (λ (b : Bool). added (row_unless b (step_come ask.place ask.told came)) old) going
-
-no_row_in : (ask : FanTold) (came : List Came) (old new : List FanStep) → list_all (λ (c : Came). is_stopped c.answer) came ≡ true → new ≡ added (row_added ask came tt) old → new ≡ old
-no_row_in ask came old new all is = is ∙ ap (λ (b : Bool). added (row_unless b (step_come ask.place ask.told came)) old) all
+list_still : (l k : Option (List FanStep)) → k ≡ option_map (steps_with None) l → k ≡ option_map (λ x. x ++ []) l
+list_still None k e = e
+list_still (Some l) k e = e ∙ ap Some (sym (append-nil l))
 
 nothing_before : (front rest : List OutOf) (x : OutOf) → [] ≡ front ++ x ∷ rest → ⊥
 nothing_before front rest x e =
@@ -126,35 +141,45 @@ nothing_before front rest x e =
 
 module _ (ports : List ℕ) (given : ℕ → Given) (places : ℕ) (ask : FanTold) (knows : Channel → Bool) (was came : List Came) (before : List FanStep)
     (answered : AllAnswer given before ask.place ask.told was came) (many : length came ≡ places) (had_many : length was ≡ places)
-    (old new : List FanStep) (added_is : new ≡ added (row_added ask came tt) old) (t u : Option (List Datagram)) where
+    (had has : OwnTold FanStep) (added_is : has.list ≡ option_map (steps_with (row_added ask came tt)) had.list) (saw : SeesWith had.seen has.seen (Some (reverse before)) (row_added ask came tt)) (t u : Option (List Datagram)) where
   abbrev plan_made : RowPlan
   plan_made = record { place = ask.place; planned = told_plan knows ask.told }
 
+  entry_is : (stopped : Bool) → list_all (λ (c : Came). is_stopped c.answer) came ≡ stopped → row_added ask came tt ≡ row_unless stopped (step_come ask.place ask.told came)
+  entry_is stopped is = ap (λ (b : Bool). row_unless b (step_come ask.place ask.told came)) is
+
   gained : (went : List Datagram) → list_all (λ (c : Came). is_stopped c.answer) came ≡ false → u ≡ option_map (λ x. x ++ went) t
-      → Gains (several ports given places) (holds (Some (reverse old)) t) (holds (Some (reverse new)) u) (row_made ask.place ask.told came knows went ∷ [])
-  gained went going taken = (
-    rows_more (step_come ask.place ask.told came) old new (row_in ask came old new going added_is),
-    taken ∙ ap (λ (l : List Datagram). option_map (λ x. x ++ l) t) (sym (append-nil went)),
-  )
+      → Gains (several ports given places) (holds had t) (holds has u) (row_made ask.place ask.told came before knows went ∷ [])
+  gained went going taken =
+      let m : MadeRow = row_made ask.place ask.told came before knows went in
+      record {
+        list = added_is ∙ ap (λ (e : Option FanStep). option_map (steps_with e) had.list) (entry_is false going);
+        taken = taken ∙ ap (λ (l : List Datagram). option_map (λ x. x ++ l) t) (sym (append-nil went));
+        seen = sees_one (several ports given places) m had.seen has.seen (Some (reverse before)) refl (subst (λ (e : Option FanStep). SeesWith had.seen has.seen (Some (reverse before)) e) (entry_is false going) saw);
+      }
+
+  -- no place made a step
+  gained_nothing : list_all (λ (c : Came). is_stopped c.answer) came ≡ true → u ≡ t → Gains (several ports given places) (holds had t) (holds has u) []
+  gained_nothing all taken = record {
+    list = list_still had.list has.list (added_is ∙ ap (λ (e : Option FanStep). option_map (steps_with e) had.list) (entry_is true all));
+    taken = taken ∙ none_gained t;
+    seen = sees_nothing (several ports given places) had.seen has.seen (Some (reverse before)) (subst (λ (e : Option FanStep). SeesWith had.seen has.seen (Some (reverse before)) e) (entry_is true all) saw);
+  }
 
   -- all that was made was sent, and the worker ends
   pub cut_sent : (e : Ended) → EndsAs came e → u ≡ option_map (λ x. x ++ written knows (all_outs came)) t
-      → CutShort (several ports given places) e (holds (Some (reverse old)) t) (holds (Some (reverse new)) u) (plan_made ∷ [])
+      → CutShort (several ports given places) e (holds had t) (holds has u) (plan_made ∷ [])
   cut_sent ends.Stopped (AllStopped all) taken =
-      let work = several ports given places in
-      let rows : Some (reverse new) ≡ Some (reverse old) = ap (λ (l : List FanStep). Some (reverse l)) (no_row_in ask came old new all added_is) in
       let none : u ≡ t = taken ∙ (ap (λ (l : List OutOf). option_map (λ x. x ++ written knows l) t) (no_outs came all) ∙ sym (taken_none t t refl)) in
-      subst (λ (r : Option (List FanStep)). CutShort work ends.Stopped (holds (Some (reverse old)) t) (holds r u) (plan_made ∷ [])) (sym rows)
-      (subst (λ (v : Option (List Datagram)). CutShort work ends.Stopped (holds (Some (reverse old)) t) (holds (Some (reverse old)) v) (plan_made ∷ [])) (sym none)
-      (not_made work ends.Stopped (holds (Some (reverse old)) t) plan_made (λ missing some. (refl, some))))
+      not_made (several ports given places) ends.Stopped (holds had t) (holds has u) plan_made (gained_nothing all none) (λ missing some. (refl, some))
   cut_sent ends.WriteFault (AllOver going over) taken =
       let went = written knows (all_outs came) in
-      made_last (several ports given places) ends.WriteFault (holds (Some (reverse old)) t) (holds (Some (reverse new)) u) (row_made ask.place ask.told came knows went) (gained went going taken)
-      (record { made = made_row ask.place ask.told came given places knows went before was answered many had_many; cause = all_over ask.place ask.told came over; went = ap (written knows) (sym (outs_are ask.place ask.told came knows went)) })
+      made_last (several ports given places) ends.WriteFault (holds had t) (holds has u) (row_made ask.place ask.told came before knows went) (gained went going taken)
+      (record { made = made_row ask.place ask.told came given places knows went before was answered many had_many; cause = all_over ask.place ask.told came over; went = ap (written knows) (sym (outs_are ask.place ask.told came before knows went)) })
   cut_sent ends.Spent (SomeSpent going wanting) taken =
       let went = written knows (all_outs came) in
-      made_last (several ports given places) ends.Spent (holds (Some (reverse old)) t) (holds (Some (reverse new)) u) (row_made ask.place ask.told came knows went) (gained went going taken)
-      (record { made = made_row ask.place ask.told came given places knows went before was answered many had_many; cause = some_spent ask.place ask.told came wanting; went = ap (written knows) (sym (outs_are ask.place ask.told came knows went)) })
+      made_last (several ports given places) ends.Spent (holds had t) (holds has u) (row_made ask.place ask.told came before knows went) (gained went going taken)
+      (record { made = made_row ask.place ask.told came given places knows went before was answered many had_many; cause = some_spent ask.place ask.told came wanting; went = ap (written knows) (sym (outs_are ask.place ask.told came before knows went)) })
   cut_sent ends.End x taken = elim x [ ]
   cut_sent ends.Turns x taken = elim x [ ]
   cut_sent ends.Idle x taken = elim x [ ]
@@ -163,40 +188,40 @@ module _ (ports : List ℕ) (given : ℕ → Given) (places : ℕ) (ask : FanTol
 
   -- all that was made was sent, and the worker goes on
   pub goes_sent : EndsNot came → u ≡ option_map (λ x. x ++ written knows (all_outs came)) t
-      → Goes (several ports given places) (holds (Some (reverse old)) t) (holds (Some (reverse new)) u) (plan_made ∷ [])
+      → Goes (several ports given places) (holds had t) (holds has u) (plan_made ∷ [])
   goes_sent not taken =
       let went = written knows (all_outs came) in
-      made_one (several ports given places) (holds (Some (reverse old)) t) (holds (Some (reverse new)) u) (row_made ask.place ask.told came knows went) (gained went not.going taken)
+      made_one (several ports given places) (holds had t) (holds has u) (row_made ask.place ask.told came before knows went) (gained went not.going taken)
       (record {
         made = made_row ask.place ask.told came given places knows went before was answered many had_many;
         goes = goes_on ask.place ask.told came not.sound;
         pairs = has_pairs ask.place ask.told came not.pairs;
-        went = ap (written knows) (sym (outs_are ask.place ask.told came knows went));
+        went = ap (written knows) (sym (outs_are ask.place ask.told came before knows went));
       })
 
   -- a write of what was made failed
-  pub cut_half : SentPart knows (all_outs came) t u → CutShort (several ports given places) ends.Failed (holds (Some (reverse old)) t) (holds (Some (reverse new)) u) (plan_made ∷ [])
+  pub cut_half : SentPart knows (all_outs came) t u → CutShort (several ports given places) ends.Failed (holds had t) (holds has u) (plan_made ∷ [])
   cut_half part = by_all (list_all (λ (c : Came). is_stopped c.answer) came) refl
     where
       by_all : (b : Bool) → list_all (λ (c : Came). is_stopped c.answer) came ≡ b
-          → CutShort (several ports given places) ends.Failed (holds (Some (reverse old)) t) (holds (Some (reverse new)) u) (plan_made ∷ [])
+          → CutShort (several ports given places) ends.Failed (holds had t) (holds has u) (plan_made ∷ [])
       by_all true all = absurd (nothing_before part.front part.rest part.failed (sym (no_outs came all) ∙ part.outs_are))
       by_all false going =
           let went = written knows part.front in
-          made_last (several ports given places) ends.Failed (holds (Some (reverse old)) t) (holds (Some (reverse new)) u) (row_made ask.place ask.told came knows went) (gained went going part.taken)
+          made_last (several ports given places) ends.Failed (holds had t) (holds has u) (row_made ask.place ask.told came before knows went) (gained went going part.taken)
           (record {
             made = made_row ask.place ask.told came given places knows went before was answered many had_many;
             front = part.front;
             failed = part.failed;
             rest = part.rest;
-            outs = outs_are ask.place ask.told came knows went ∙ part.outs_are;
+            outs = outs_are ask.place ask.told came before knows went ∙ part.outs_are;
             went = refl;
           })
 
   -- pairs were wanting at a place with a sealer
   pub keyed : EndsAs came ends.Spent → IsSomeKeyed given
   keyed (SomeSpent going wanting) =
-      let m : MadeRow = row_made ask.place ask.told came knows [] in
+      let m : MadeRow = row_made ask.place ask.told came before knows [] in
       keyed_somewhere given places m (made_row ask.place ask.told came given places knows [] before was answered many had_many).each
       (λ v s seen. subst (λ (n : ℕ). v < n) many (inside_row ask.place ask.told came v s seen)) (some_spent ask.place ask.told came wanting)
 

@@ -1,7 +1,7 @@
 -- What a step of all places made, place by place, and whether a worker goes on after it.
-use Rattle.std.proofs.Common.{◌≡◌, ◌≢◌, ◌<◌, ℕ, zero, suc, ◌+◌, List, [], ◌∷◌, ◌++◌, length, map, slice_get, unwrap_or, Bool, true, false, ◌&&◌, ◌||◌, Option, None, Some, option_map, refl, ap, sym, ◌∙◌, subst, arith}
+use Rattle.std.proofs.Common.{◌≡◌, ◌≢◌, ◌<◌, ℕ, zero, suc, ◌+◌, List, [], ◌∷◌, ◌++◌, length, map, reverse, slice_get, unwrap_or, Bool, true, false, ◌&&◌, ◌||◌, Option, None, Some, option_map, refl, ap, sym, ◌∙◌, subst, arith}
 use Rattle.std.specs.List.{flat_map, list_all, list_any}
-use Rattle.std.proofs.lemmas.List.{length-map}
+use Rattle.std.proofs.lemmas.List.{length-map, reverse-reverse}
 use Rattle.std.proofs.lemmas.Option.{slice_get_within, slice_get-map}
 use Rattle.link_channels.specs.declared.channel.Channel.{Channel}
 use Rattle.outside_net.specs.Links.{Datagram}
@@ -34,10 +34,10 @@ use Rattle.turn_lock.specs.History.{added}
 use Rattle.turn_desk.specs.Stands.{Answers as AnswersAlone}
 use Rattle.rist_fan.specs.declared.flow.Came.{Came}
 use Rattle.rist_fan.specs.Fan.{AllAnswer, outcome_in, step_come}
-use Rattle.rist_fan.specs.Seen.{FanStep, is_for, row_from, seen_in, told_for, what_for}
+use Rattle.rist_fan.specs.Seen.{FanStep, is_for, row_from, seen, seen_in, told_for, what_for}
 use Rattle.rist_fan.proofs.FanLemmas.{at_some, sees_own}
 use Rattle.fan_desk.specs.Rows.{is_stopped}
-use Rattle.fan_desk.specs.Made.{GoesOn, HasPairs, IsDueAt, IsLastBy, IsMadeAt, IsMadeRow, IsSomeKeyed, MadeRow, all_outs, event_for, input_for, is_wanting, outs_of_came}
+use Rattle.fan_desk.specs.Made.{GoesOn, HasPairs, IsDueAt, IsLastBy, IsMadeAt, IsMadeRow, IsSomeKeyed, MadeRow, all_outs, before_at, event_for, input_for, is_wanting, outs_of_came}
 
 -- ---- what is told at a place
 
@@ -64,13 +64,12 @@ input_is us false whats.End = refl
 -- a step that is due at a place
 due_at : (given : Given) (own : Bool) (knows : Channel → Bool) (told : Told) (before : List Step) (mark : Mark) (made : ℕ) (asked : List AskWord) (o : Outcome)
     → IsDueAfter given before (told_for own told) o → step_after (told_for own told) o ≡ Some (step_of (told_for own told) mark made asked) → length (outs_in o) ≡ made
-    → IsDueAt given own (told_plan knows told) (step_of (told_for own told) mark made asked) (outs_in o)
+    → IsDueAt given own (told_plan knows told) before (step_of (told_for own told) mark made asked) (outs_in o)
 due_at given own knows told before mark made asked o due is count =
     let s : Step = step_of (told_for own told) mark made asked in
     let d = due s is in
     record {
       plan = ap (λ (e : Event). record { link = told.link; at = tick_of told.us; what = e; mark = marks.Plain; made = 0; asked = [] }) (event_is told.us own told.what);
-      before = before;
       legal = d.0;
       count = count;
       opened = λ sound.
@@ -79,7 +78,7 @@ due_at given own knows told before mark made asked o due is count =
     }
 
 made_at : (given : Given) (own : Bool) (knows : Channel → Bool) (told : Told) (before : List Step) (was outs : Outs) (a : Answer) → AnswersAlone given before (told_for own told) was outs a
-    → IsMadeAt given own (told_plan knows told) (step_after (told_for own told) (outcome_with a outs)) (outs_in (outcome_with a outs))
+    → IsMadeAt given own (told_plan knows told) before (step_after (told_for own told) (outcome_with a outs)) (outs_in (outcome_with a outs))
 made_at given own knows told before was outs answers.Stopped a = refl
 made_at given own knows told before was outs answers.WriteFault a = due_at given own knows told before marks.WriteFault 0 [] (outcome_with answers.WriteFault outs) a.due refl refl
 made_at given own knows told before was outs (answers.Verdict v) a = due_at given own knows told before (marks.Verdict v) 0 [] (outcome_with (answers.Verdict v) outs) a.due refl refl
@@ -261,37 +260,39 @@ module _ (place : Option ℕ) (told : Told) (came : List Came) where
       no_spent f.told f.c.answer f.c.outs s (none_at (λ (c : Came). is_wanting c.answer) came v f.c none f.at) f.step
 
   -- what it came to, as a row that was made
-  abbrev pub row_made : (Channel → Bool) → List Datagram → MadeRow
-  row_made knows went = record { place = place; planned = told_plan knows told; row = step_come place told came; outs = map outs_of_came came; went = went }
+  abbrev pub row_made : List FanStep → (Channel → Bool) → List Datagram → MadeRow
+  row_made before knows went = record { place = place; planned = told_plan knows told; row = step_come place told came; before = reverse before; outs = map outs_of_came came; went = went }
 
-  pub outs_are : (knows : Channel → Bool) (went : List Datagram) → flat_map (λ (l : List OutOf). l) (row_made knows went).outs ≡ all_outs came
-  outs_are knows went = flat_mapped outs_of_came came
+  pub outs_are : (before : List FanStep) (knows : Channel → Bool) (went : List Datagram) → flat_map (λ (l : List OutOf). l) (row_made before knows went).outs ≡ all_outs came
+  outs_are before knows went = flat_mapped outs_of_came came
 
   -- each place made what is due there
   each_made : (given : ℕ → Given) (places : ℕ) (knows : Channel → Bool) (before : List FanStep) (was : List Came) → AllAnswer given before place told was came
       → length came ≡ places → length was ≡ places
-      → (v : ℕ) → v < places → IsMadeAt (given v) (is_for place v) (told_plan knows told) (seen_in v (step_come place told came)) (unwrap_or (slice_get (map outs_of_came came) v) [])
+      → (v : ℕ) → v < places → IsMadeAt (given v) (is_for place v) (told_plan knows told) (seen v (reverse (reverse before))) (seen_in v (step_come place told came)) (unwrap_or (slice_get (map outs_of_came came) v) [])
   each_made given places knows before was answered many had_many v low =
       let now = at_some came v (subst (λ (n : ℕ). v < n) (sym many) low) in
       let had = at_some was v (subst (λ (n : ℕ). v < n) (sym had_many) low) in
       let own = is_for place v in
       let plan = told_plan knows told in
-      subst (λ (o : Option Step). IsMadeAt (given v) own plan o (unwrap_or (slice_get (map outs_of_came came) v) [])) (sym (seen_at place told came v now.0 now.1))
-      (subst (λ (o : Option (List OutOf)). IsMadeAt (given v) own plan (step_after (told_for own told) (outcome_in now.0)) (unwrap_or o [])) (sym (slice_get-map outs_of_came came v ∙ ap (option_map outs_of_came) now.1))
-      (made_at (given v) own knows told _ had.0.outs now.0.outs now.0.answer (answered v had.0 now.0 had.1 now.1)))
+      let rows = seen v (reverse (reverse before)) in
+      subst (λ (o : Option Step). IsMadeAt (given v) own plan rows o (unwrap_or (slice_get (map outs_of_came came) v) [])) (sym (seen_at place told came v now.0 now.1))
+      (subst (λ (o : Option (List OutOf)). IsMadeAt (given v) own plan rows (step_after (told_for own told) (outcome_in now.0)) (unwrap_or o [])) (sym (slice_get-map outs_of_came came v ∙ ap (option_map outs_of_came) now.1))
+      (subst (λ (l : List FanStep). IsMadeAt (given v) own plan (seen v l) (step_after (told_for own told) (outcome_in now.0)) (outs_of_came now.0)) (sym (reverse-reverse before))
+      (made_at (given v) own knows told (seen v before) had.0.outs now.0.outs now.0.answer (answered v had.0 now.0 had.1 now.1))))
 
   pub made_row : (given : ℕ → Given) (places : ℕ) (knows : Channel → Bool) (went : List Datagram) (before : List FanStep) (was : List Came) → AllAnswer given before place told was came
-      → length came ≡ places → length was ≡ places → IsMadeRow given places (row_made knows went)
+      → length came ≡ places → length was ≡ places → IsMadeRow given places (row_made before knows went)
   made_row given places knows went before was answered many had_many =
       record { long = row_length place told 0 (map outcome_in came) ∙ (length-map came outcome_in ∙ many); each = each_made given places knows before was answered many had_many }
 
 -- pairs are wanting only where there is a sealer
-pub keyed_somewhere : (given : ℕ → Given) (places : ℕ) (m : MadeRow) → ((v : ℕ) → v < places → IsMadeAt (given v) (is_for m.place v) m.planned (seen_in v m.row) (unwrap_or (slice_get m.outs v) []))
+pub keyed_somewhere : (given : ℕ → Given) (places : ℕ) (m : MadeRow) → ((v : ℕ) → v < places → IsMadeAt (given v) (is_for m.place v) m.planned (before_at v m) (seen_in v m.row) (unwrap_or (slice_get m.outs v) []))
     → ((v : ℕ) (s : Step) → seen_in v m.row ≡ Some s → v < places) → IsLastBy marks.Spent m.row → IsSomeKeyed given
 keyed_somewhere given places m made inside last =
-    let due : IsDueAt (given last.0) (is_for m.place last.0) m.planned last.1 (unwrap_or (slice_get m.outs last.0) []) =
-    subst (λ (o : Option Step). IsMadeAt (given last.0) (is_for m.place last.0) m.planned o (unwrap_or (slice_get m.outs last.0) [])) last.2 (made last.0 (inside last.0 last.1 last.2)) in
-    (last.0, spent_keyed (given last.0) due.before last.1 due.legal last.3)
+    let due : IsDueAt (given last.0) (is_for m.place last.0) m.planned (before_at last.0 m) last.1 (unwrap_or (slice_get m.outs last.0) []) =
+    subst (λ (o : Option Step). IsMadeAt (given last.0) (is_for m.place last.0) m.planned (before_at last.0 m) o (unwrap_or (slice_get m.outs last.0) [])) last.2 (made last.0 (inside last.0 last.1 last.2)) in
+    (last.0, spent_keyed (given last.0) (before_at last.0 m) last.1 due.legal last.3)
 
 -- a place that sees a step is one of them
 pub inside_row : (place : Option ℕ) (told : Told) (came : List Came) (v : ℕ) (s : Step) → seen_in v (step_come place told came) ≡ Some s → v < length came

@@ -1,6 +1,7 @@
 -- What a worker made on the receivers of several flows: a row of steps, one at each place, and what of their datagrams
 -- went to its link.
-use Rattle.std.specs.Prelude.{◌≡◌, ◌≢◌, ◌<◌, ℕ, List, [], ◌∷◌, ◌++◌, length, slice_get, unwrap_or, Bool, true, false}
+use Rattle.std.specs.Prelude.{◌≡◌, ◌≢◌, ◌<◌, ℕ, List, [], ◌∷◌, ◌++◌, length, reverse, slice_get, unwrap_or}
+use Rattle.std.specs.Prelude.{Bool, true, false}
 use Rattle.std.specs.Prelude.{if◌then◌else◌, is_some, Option, None, Some, Result, Ok, Err}
 use Rattle.std.specs.List.{flat_map, list_all, list_any}
 use Rattle.outside_net.specs.Links.{Datagram}
@@ -29,7 +30,7 @@ use Rattle.rist_desk.specs.Items.{Planned, erased}
 use Rattle.rist_desk.specs.Sending.{written}
 use Rattle.rist_desk.specs.Work.{Reading, Work}
 use Rattle.rist_fan.specs.declared.flow.Came.{Came}
-use Rattle.rist_fan.specs.Seen.{FanStep, is_for, seen_in}
+use Rattle.rist_fan.specs.Seen.{FanStep, is_for, seen, seen_in}
 use Rattle.rist_fan.specs.Fan.{outcome_in}
 use Rattle.fan_desk.specs.Rows.{is_stopped}
 
@@ -86,11 +87,13 @@ several_flows ports =
 
 -- ---- what was made
 
--- a row that was made as it was planned; the datagrams of the step at each place; and those of them that the link took
+-- a row that was made as it was planned, and the rows that had been made before it, the oldest first; the datagrams of the
+-- step at each place; and those of them that the link took
 pub record MadeRow : Type 0 where
   pub place : Option ℕ
   pub planned : Planned
   pub row : FanStep
+  pub before : List FanStep
   pub outs : List (List OutOf)
   pub went : List Datagram
 
@@ -102,12 +105,12 @@ outs_in_row m = flat_map (λ outs. outs) m.outs
 abbrev pub outs_at : ℕ → MadeRow → List OutOf
 outs_at v m = unwrap_or (slice_get m.outs v) []
 
--- A step that was made at a place is the planned one, as what came is to that place. It may come after some legal steps
--- of the place; and where what was due was made, the datagrams, opened in its session, are those that the rules make of
--- it there, and no others.
-pub record IsDueAt (given : Given) (own : Bool) (planned : Planned) (s : Step) (outs : List OutOf) : Type 0 where
+-- A step that was made at a place is the planned one, as what came is to that place. After the steps that had been made
+-- there before it, the newest first, it is legal; and where what was due was made, the datagrams, opened in its session,
+-- are those that the rules make of it there, and no others.
+pub record IsDueAt (given : Given) (own : Bool) (planned : Planned) (before : List Step) (s : Step)
+    (outs : List OutOf) : Type 0 where
   pub plan : erased s ≡ record planned.step { what = event_for own planned.step.what }
-  pub before : List Step
   pub legal : IsLegal (setup_of given) (s ∷ before)
   pub count : length outs ≡ s.made
   pub opened : is_made s.mark ≡ true
@@ -115,15 +118,19 @@ pub record IsDueAt (given : Given) (own : Bool) (planned : Planned) (s : Step) (
       (record { link = s.link; tick = s.at; input = input_for own planned.input }))
 
 -- so at a place that made a step; one that had ended makes none, and no datagrams
-abbrev pub IsMadeAt : Given → Bool → Planned → Option Step → List OutOf → Type 0
-IsMadeAt given own planned None outs = outs ≡ []
-IsMadeAt given own planned (Some s) outs = IsDueAt given own planned s outs
+abbrev pub IsMadeAt : Given → Bool → Planned → List Step → Option Step → List OutOf → Type 0
+IsMadeAt given own planned before None outs = outs ≡ []
+IsMadeAt given own planned before (Some s) outs = IsDueAt given own planned before s outs
+
+-- the steps at a place that had been made before a row, the newest first
+abbrev pub before_at : ℕ → MadeRow → List Step
+before_at v m = seen v (reverse m.before)
 
 -- a row has so many places, and so at each
 pub record IsMadeRow (given : ℕ → Given) (places : ℕ) (m : MadeRow) : Type 0 where
   pub long : length m.row.steps ≡ places
   pub each : (v : ℕ) → v < places
-      → IsMadeAt (given v) (is_for m.place v) m.planned (seen_in v m.row) (outs_at v m)
+      → IsMadeAt (given v) (is_for m.place v) m.planned (before_at v m) (seen_in v m.row) (outs_at v m)
 
 -- some place goes on
 pub record GoesOn (row : FanStep) : Type 0 where
@@ -172,6 +179,7 @@ several ports given places =
     record {
       reading = several_flows ports;
       kept = λ m. m.row;
+      before = λ m. m.before;
       planned = λ m. record { place = m.place; planned = m.planned };
       went = λ m. m.went;
       Sent = IsRowSent given places;

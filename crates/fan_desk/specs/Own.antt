@@ -3,6 +3,7 @@ use Rattle.std.specs.Prelude.{◌≡◌, ◌≢◌, ◌<◌, ◌⊎◌, ℕ, Lis
 use Rattle.reorder_buffer.specs.declared.phase.Phase.TheVariants.{Open}
 use Rattle.rist_desk.specs.declared.step.Step.{Step}
 use Rattle.rist_desk.specs.Legal.{phase_of}
+use Rattle.rist_desk.specs.Work.{OwnTold, own_told}
 use Rattle.turn_lock.specs.declared.pass.Pass.{Pass}
 use Rattle.turn_lock.specs.Turns.{entries}
 use Rattle.turn_lock.specs.Passes.{AreAll, AreFresh, IsPassOf, entries_with, number_of, passes_of, turns_seen}
@@ -18,6 +19,14 @@ AreRowsOf link rows = (v : ℕ) → AreOf link (seen v rows)
 -- the rows that were made with a pass, the oldest first
 abbrev pub own_rows : {X : Type 0} → Pass FanStep X → Option (List FanStep)
 own_rows pass = Some (reverse (entries_with pass))
+
+-- all rows of the turns that a pass has seen, its own and those of others, the oldest first
+abbrev pub all_rows : {X : Type 0} → Pass FanStep X → Option (List FanStep)
+all_rows pass = Some (reverse (entries (turns_seen pass)))
+
+-- what a pass tells: its own rows, and all that it has seen
+abbrev pub rows_told : {X : Type 0} → Pass FanStep X → OwnTold FanStep
+rows_told pass = own_told (own_rows pass) (all_rows pass)
 
 -- the steps that were made with a pass at a place, the oldest first
 abbrev pub own_list : {X : Type 0} → ℕ → Pass FanStep X → Option (List Step)

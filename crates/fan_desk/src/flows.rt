@@ -6,7 +6,7 @@ ghost use Rattle.rist_desk.specs.Items.{told_plan};
 ghost use Rattle.rist_desk.specs.Work.{CutShort, Goes, holds};
 ghost use Rattle.rist_desk.specs.Links.{IsInside, IsKept, has_link_failed};
 ghost use Rattle.turn_lock.specs.Passes.{turns_left};
-ghost use Rattle.fan_desk.specs.Own.{HasSeenFault, IsOf, KnowsEnds, own_rows};
+ghost use Rattle.fan_desk.specs.Own.{HasSeenFault, IsOf, KnowsEnds, rows_told};
 ghost use Rattle.fan_desk.specs.Made.{IsSomeKeyed, several};
 
 use crate::fan_step::FanStep;
@@ -40,11 +40,11 @@ fn step_and_send<N: FanOrigin, K: Sink + Drop, L: Link, R: Wait>(
     ensures own { IsOf tunnel.now told.now.link own.new.pass × (length own.new.came.items ≡ N.places)
         × KnowsEnds N.places own.new.pass }
     ensures left { turns_left own.old.pass ≤ turns_left own.new.pass + 1 }
-    ensures ok { OnOk result (Goes (several N.ports N.given N.places) (holds (own_rows own.old.pass) (L.taken link.old))
-        (holds (own_rows own.new.pass) (L.taken link.new))
+    ensures ok { OnOk result (Goes (several N.ports N.given N.places) (holds (rows_told own.old.pass) (L.taken link.old))
+        (holds (rows_told own.new.pass) (L.taken link.new))
         (record { place = place; planned = told_plan (L.knows link.old) told.now } ∷ [])) }
     ensures err { IfErr result (λ end. CutShort (several N.ports N.given N.places) end
-        (holds (own_rows own.old.pass) (L.taken link.old)) (holds (own_rows own.new.pass) (L.taken link.new))
+        (holds (rows_told own.old.pass) (L.taken link.old)) (holds (rows_told own.new.pass) (L.taken link.new))
         (record { place = place; planned = told_plan (L.knows link.old) told.now } ∷ [])) }
     ensures inside { IfErr result IsInside }
     ensures full { result ≡ Err Ended.TraceFull → ⊥ }
@@ -72,7 +72,7 @@ impl<N: FanOrigin, K: Sink + Drop> Flows<RowPass<N, K>, ()> for TunnelDesk<N, K>
     ghost use Rattle.std.specs.Prelude.{◌≡◌, ◌<◌, ℕ, length};
     ghost use Rattle.turn_lock.specs.Passes.{turns_left};
     ghost use Rattle.rist_fan.specs.Seen.{FanStep};
-    ghost use Rattle.fan_desk.specs.Own.{HasSeenFault, IsOf, KnowsEnds, own_rows};
+    ghost use Rattle.fan_desk.specs.Own.{HasSeenFault, IsOf, KnowsEnds, rows_told};
     ghost use Rattle.fan_desk.specs.Made.{IsSomeKeyed, MadeRow, RowPlan, several};
 
     ghost Kept = { FanStep };
@@ -83,7 +83,7 @@ impl<N: FanOrigin, K: Sink + Drop> Flows<RowPass<N, K>, ()> for TunnelDesk<N, K>
 
     ghost work = { several N.ports N.given N.places };
 
-    ghost tells = { record { list = λ own. own_rows own.pass; Lacks = λ own. ⊥; Keyed = IsSomeKeyed N.given } };
+    ghost tells = { record { told = λ own. rows_told own.pass; Lacks = λ own. ⊥; Keyed = IsSomeKeyed N.given } };
 
     ghost owns = { λ tunnel link own. IsOf tunnel link own.pass × (length own.came.items ≡ N.places)
         × KnowsEnds N.places own.pass };

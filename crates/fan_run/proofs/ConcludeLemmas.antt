@@ -38,6 +38,7 @@ use Rattle.desk_run.specs.Turns.{HasConcluded}
 use Rattle.desk_run.proofs.AgreeLemmas.{agrees}
 use Rattle.desk_run.proofs.EndLemmas.{whole_end}
 use Rattle.desk_run.proofs.RunLemmas.{exactly}
+use Rattle.desk_run.proofs.SeenLemmas.{seen_first}
 use Rattle.fan_run.specs.Concluded.{AreOwnedRows, HaveConcluded, no_passes, own_at, seen_by}
 
 -- ---- places of a list
@@ -129,6 +130,7 @@ concluded_at given r s c d f n h answer outs own old ended settings cause agree 
         agree = agree;
       };
       seen = λ k p e. absurd (cc (e));
+      older = λ k p e. absurd (cc (e));
     }
 
 -- the end was not made after a failed write
@@ -173,6 +175,7 @@ have_concluded {N} {K} desk given contents faults passes fan left came closed en
             kept = refl;
             exact = λ sound delay. exactly (given v) con.desk (own_at v own) flow.receiver.counts delay (ap settings_of con.receiver_is ∙ con.settings) (ap (λ (x : ReceiverState). x.counts) (sym con.receiver_is)) con.stands (con.received sound);
           };
+      older = λ k p at. seen_first turns (turns_seen p) (closed.saw k p at);
       cut = λ v c k p at_came at_pass failed.
           let flow = at_some left v (subst (λ (n : ℕ). v < n) came_many (slice_get_within came v c at_came)) in
           let e : HasEnded (given v) contents faults flow.0 c.answer (with_end (seen v h) c.answer c.outs) =

@@ -22,7 +22,9 @@ use Rattle.rist_desk.specs.Turns.{Feed}
 use Rattle.rist_desk.specs.Work.{AreSent, EndsBy, IsLast, last_in}
 use Rattle.rist_desk.proofs.ListLemmas.{reverse_more}
 use Rattle.turn_lock.specs.declared.pass.Pass.{Pass}
-use Rattle.turn_lock.specs.Passes.{entries_with, turns_left}
+use Rattle.turn_lock.specs.declared.rule.Turn.{Turn}
+use Rattle.turn_lock.specs.Turns.{entries}
+use Rattle.turn_lock.specs.Passes.{entries_with, turns_left, turns_seen}
 use Rattle.rist_fan.specs.declared.fan.Fan.{Fan}
 use Rattle.rist_fan.specs.declared.flow.Came.{Came}
 use Rattle.rist_fan.specs.declared.flow.Flow.{Flow}
@@ -32,8 +34,8 @@ use Rattle.turn_lock.specs.History.{added}
 use Rattle.turn_desk.specs.Own.{AreOf}
 use Rattle.fan_desk.specs.declared.desk.FanDesk.{FanDesk}
 use Rattle.fan_desk.specs.declared.tunnel_desk.RowPass.{RowPass}
-use Rattle.fan_desk.specs.Own.{AreFreshFor, HasSeenFault, IsOf, KnowsEnds, MadeNone, own_rows}
-use Rattle.fan_desk.specs.Made.{IsDueAt, IsMadeAt, IsMadeRow, IsRowHalfSent, IsRowLast, IsSomeKeyed, MadeRow, RowPlan, outs_at, several}
+use Rattle.fan_desk.specs.Own.{AreFreshFor, HasSeenFault, IsOf, KnowsEnds, MadeNone, rows_told}
+use Rattle.fan_desk.specs.Made.{IsDueAt, IsMadeAt, IsMadeRow, IsRowHalfSent, IsRowLast, IsSomeKeyed, MadeRow, RowPlan, before_at, outs_at, several}
 use Rattle.fan_desk.proofs.OwnLemmas.{seen_before}
 use Rattle.desk_run.specs.declared.ending.Ending.{Ending}
 use Rattle.desk_run.specs.Endings.{all_workers, any_worker, is_link_failed, is_spent, is_without_room}
@@ -173,8 +175,8 @@ plans_seen given places v [] all low steady = refl
 plans_seen given places v (m ∷ ms) all low steady =
     let rows = map (λ (x : MadeRow). x.row) ms in
     let there = step_in v places m.row all.0.long low (λ none. steady (inl none)) in
-    let due : IsDueAt (given v) (is_for m.place v) m.planned there.0 (outs_at v m) =
-    subst (λ (o : Option Step). IsMadeAt (given v) (is_for m.place v) m.planned o (outs_at v m)) there.1 (all.0.each v low) in
+    let due : IsDueAt (given v) (is_for m.place v) m.planned (before_at v m) there.0 (outs_at v m) =
+    subst (λ (o : Option Step). IsMadeAt (given v) (is_for m.place v) m.planned (before_at v m) o (outs_at v m)) there.1 (all.0.each v low) in
     ap (λ (l : List Step). plan_at v (plan_of m) ∷ l) (plans_seen given places v ms all.1 low (λ none. steady (inr none)))
     ∙ (ap (λ (s : Step). s ∷ map erased (seen_by v rows)) (sym due.plan)
     ∙ (ap (λ (o : Option Step). map erased (added o [] ++ seen_by v rows)) (sym there.1)
@@ -192,7 +194,7 @@ brought_at : {L C : Type 0} (moments : C → Option (ℕ → ℕ)) (tells : Link
 brought_at moments tells flows session limits link was is f v low begun feed served steady =
     let did = served.made.served f (subst (λ (x : Session). IsFeed f x link limits (moments was.clock) (tells.reads was.link) (tells.knows was.link)) (sym begun.session_is) feed) in
     let ms = did.own.done ++ last_in did.own.last in
-    let rows_are : unwrap_or is.trace.rows [] ≡ map (λ (m : MadeRow). m.row) ms = gained was.trace.rows is.trace.rows (map (λ (m : MadeRow). m.row) ms) begun.rows did.own.gains.0 in
+    let rows_are : unwrap_or is.trace.rows [] ≡ map (λ (m : MadeRow). m.row) ms = gained was.trace.rows is.trace.rows (map (λ (m : MadeRow). m.row) ms) begun.rows did.own.gains.list in
     let all = all_made_both flows.given flows.places did.own.done (last_in did.own.last) (all_sent_made flows.ports flows.given flows.places did.own.done did.own.sent)
     (last_made flows.ports flows.given flows.places _ _ did.own.last did.own.missing did.own.cause) in
     let seen = plans_seen flows.given flows.places v ms all low (λ none. steady (subst (MadeNone v) (sym rows_are) none)) in
@@ -224,7 +226,7 @@ good_for own = turns_left own.pass
 
 -- what is told of what is its own
 abbrev pub own_tells : {N K : Type 0} → (ℕ → Given) → OwnTells FanStep (RowPass N K)
-own_tells given = record { list = λ own. own_rows own.pass; Lacks = λ own. ⊥; Keyed = IsSomeKeyed given }
+own_tells given = record { told = λ own. rows_told own.pass; Lacks = λ own. ⊥; Keyed = IsSomeKeyed given }
 
 -- a worker was served
 abbrev Serves : {L C U : Type 0} → (C → Option (ℕ → ℕ)) → LinkTells L → FlowsGiven → ServingLimits → OwnTells FanStep U → ℕ → Worker L C U → Worker L C U → Type 0
@@ -355,7 +357,7 @@ module _ {N K L C : Type 0} where
     pub openers_are : map opener_of ws ≡ openers
     pub session_is : All (λ opener. opener ≡ session) openers
     pub passes_are : passes_in ws ≡ passes
-    pub fresh : (k : ℕ) (p : Pass FanStep (Fan K)) → slice_get passes k ≡ Some p → entries_with p ≡ []
+    pub fresh : (k : ℕ) (p : Pass FanStep (Fan K)) → slice_get passes k ≡ Some p → (entries_with p ≡ []) × (turns_seen p ≡ [])
     pub unended : All is_unended ws
     pub as_many : length later ≡ length ws
     pub served : (link : ℕ) (d : RowWorker N K L C) → link < length ws → ServesWith (several flows.ports flows.given flows.places) moments tells (own_tells flows.given) limits link (slice_index_or ws link d) (slice_index_or later link d)
@@ -375,9 +377,14 @@ module _ {N K L C : Type 0} where
         subst (λ (x : Session). x ≡ session) (get_or-map opener_of ws place d (opener_of d) less)
         (subst (λ (l : List Session). slice_index_or l place (opener_of d) ≡ session) (sym r.openers_are)
         (r.session_is place (opener_of d) (subst (λ (l : List Session). place < length l) r.openers_are (subst (λ n. place < n) (sym (length-map ws opener_of)) less)))) in
-        let nothing : entries_with w.trace.pass ≡ [] =
+        let nothing : (entries_with w.trace.pass ≡ []) × (turns_seen w.trace.pass ≡ []) =
         r.fresh place w.trace.pass (subst (λ (l : List (Pass FanStep (Fan K))). slice_get l place ≡ Some w.trace.pass) r.passes_are (pass_at ws place w (there ws place d less))) in
-        record { session_is = opener; rows = ap (λ (l : List FanStep). Some (reverse l)) nothing; unended = r.unended place d less })
+        record {
+          session_is = opener;
+          rows = ap (λ (l : List FanStep). Some (reverse l)) nothing.0;
+          unseen = ap (λ (ts : List (Turn FanStep)). Some (reverse (entries ts))) nothing.1;
+          unended = r.unended place d less;
+        })
 
     begun_at : (w : Worker L C ToldRows) (link : ℕ) → slice_get (map told_by ws) link ≡ Some w → IsNewWorker session w
     begun_at w link at = subst (IsNewWorker session) (get_or_from_slice_get (map told_by ws) link w w at) (begun link w (slice_get_within (map told_by ws) link w at))
@@ -399,7 +406,11 @@ module _ {N K L C : Type 0} where
           as_many = length-map later told_by ∙ (r.as_many ∙ sym (length-map ws told_by));
           served = all_served moments tells flows limits ws later r.served;
           places = (left_many, came_many);
-          concluded = record { turns = h.turns; owned = h.owned; behind = h.behind; each = h.each; cut = λ v c k p at_came at_pass. absurd (cc (at_pass)) };
+          concluded = record { turns = h.turns; owned = h.owned; behind = h.behind; each = h.each; cut = λ v c k p at_came at_pass. absurd (cc (at_pass)); older = λ k p at_pass. absurd (cc (at_pass)) };
+          seen = λ link t e.
+              let back = told_at later link t e in
+              let pass = back.0.trace.pass in
+              (reverse (entries (turns_seen pass)), ap (λ (x : Worker L C ToldRows). x.trace.seen) (sym back.2), h.older link pass (pass_at later link back.0 back.1));
           broken = λ link t e broke v c at.
               let back = told_at later link t e in
               let w = back.0 in

@@ -3,10 +3,11 @@
 use Rattle.std.specs.Prelude.{◌≡◌, ◌≤◌, ℕ, List, [], map, length, reverse, slice_get, true, false, Option, Some}
 use Rattle.rist_desk.specs.declared.step.Step.{Step}
 use Rattle.rist_desk.specs.Desk.{Given, is_cut_off}
+use Rattle.rist_desk.specs.Work.{IsOlder}
 use Rattle.turn_lock.specs.declared.pass.Pass.{Pass}
 use Rattle.turn_lock.specs.declared.rule.Turn.{Turn}
 use Rattle.turn_lock.specs.Turns.{entries, of}
-use Rattle.turn_lock.specs.Passes.{entries_with}
+use Rattle.turn_lock.specs.Passes.{entries_with, turns_seen}
 use Rattle.turn_desk.specs.Stands.{with_end}
 use Rattle.rist_fan.specs.declared.flow.Came.{Came}
 use Rattle.rist_fan.specs.declared.flow.Flow.{Flow}
@@ -47,7 +48,8 @@ pub record IsConcluded {K : Type 0} (given : Given) (contents : K → Option (Li
       → IsExact given concluded.desk own flow.receiver.counts
 
 -- There is one history of rows: each link's own rows, each once and in their order. Each place was told the end after
--- what it saw of it, and before the end a write failed there wherever a pass has seen one.
+-- what it saw of it, and before the end a write failed there wherever a pass has seen one. What a pass has seen stands at
+-- the front of the history.
 pub record HaveConcluded {K X : Type 0} (given : ℕ → Given) (contents : K → Option (List ℕ)) (faults : K → ℕ)
     (own : List (List FanStep)) (passes : List (Pass FanStep X)) (flows : List (Flow K)) (came : List Came)
     : Type 0 where
@@ -58,3 +60,5 @@ pub record HaveConcluded {K X : Type 0} (given : ℕ → Given) (contents : K �
       → IsConcluded (given v) contents faults (own_at v own) (seen v (entries turns)) flow c
   pub cut : (v : ℕ) (c : Came) (k : ℕ) (p : Pass FanStep X) → slice_get came v ≡ Some c → slice_get passes k ≡ Some p
       → HasSeenFault v p → is_cut_off c.answer ≡ true
+  pub older : (k : ℕ) (p : Pass FanStep X) → slice_get passes k ≡ Some p
+      → IsOlder (reverse (entries (turns_seen p))) (reverse (entries turns))

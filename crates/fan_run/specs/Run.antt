@@ -1,6 +1,6 @@
 -- What a run over several flows leaves, by what its objects tell.
-use Rattle.std.specs.Prelude.{◌≡◌, ◌⊎◌, ℕ, List, [], map, length, slice_get, unwrap_or, Bool, true, false, Option}
-use Rattle.std.specs.Prelude.{Some, None}
+use Rattle.std.specs.Prelude.{◌≡◌, ◌⊎◌, ℕ, List, [], map, length, reverse, slice_get, unwrap_or, Bool, true, false}
+use Rattle.std.specs.Prelude.{Option, Some, None}
 use Rattle.std.specs.List.{All, list_any}
 use Rattle.outside_net.specs.Links.{LinkTells}
 use Rattle.rist_wire.specs.declared.session.Session.{Session}
@@ -10,11 +10,13 @@ use Rattle.rist_desk.specs.declared.worker.Worker.{Worker}
 use Rattle.rist_desk.specs.Desk.{Given, is_cut_off}
 use Rattle.rist_desk.specs.Serving.{IsFeed, OwnTells, ServesWith}
 use Rattle.rist_desk.specs.Turns.{Feed}
+use Rattle.rist_desk.specs.Work.{IsOlder, own_told}
+use Rattle.turn_lock.specs.Turns.{entries}
 use Rattle.rist_fan.specs.declared.flow.Came.{Came}
 use Rattle.rist_fan.specs.declared.flow.Flow.{Flow}
 use Rattle.rist_fan.specs.Seen.{FanStep}
 use Rattle.fan_desk.specs.declared.tunnel_desk.RowPass.{RowPass}
-use Rattle.fan_desk.specs.Own.{own_rows}
+use Rattle.fan_desk.specs.Own.{all_rows, own_rows}
 use Rattle.fan_desk.specs.Origin.{given_at}
 use Rattle.fan_desk.specs.Made.{IsSomeKeyed, several}
 use Rattle.desk_run.specs.declared.ending.Ending.{Ending}
@@ -35,13 +37,15 @@ abbrev pub flows_of : {K : Type 0} → (K → Option (List ℕ)) → (K → ℕ)
 flows_of contents faults flows ports =
     record { given = given_at contents faults flows; places = length flows; ports = ports }
 
--- what is told of a worker's own: its rows, the oldest first
+-- what is told of a worker's own: its rows, and all that it has seen, the oldest first
 pub record ToldRows : Type 0 where
   pub rows : Option (List FanStep)
+  pub seen : Option (List FanStep)
 
 -- and no more: there is always room for one more; and pairs may be wanting where some place has a sealer
 abbrev pub told_rows : (ℕ → Given) → OwnTells FanStep ToldRows
-told_rows given = record { list = λ own. own.rows; Lacks = λ own. ⊥; Keyed = IsSomeKeyed given }
+told_rows given =
+    record { told = λ own. own_told own.rows own.seen; Lacks = λ own. ⊥; Keyed = IsSomeKeyed given }
 
 -- a worker as far as it tells
 abbrev pub told_by : {N K L C : Type 0} → Worker L C (RowPass N K) → Worker L C ToldRows
@@ -50,7 +54,7 @@ told_by w =
       link = w.link;
       clock = w.clock;
       opener = w.opener;
-      trace = record { rows = own_rows w.trace.pass };
+      trace = record { rows = own_rows w.trace.pass; seen = all_rows w.trace.pass };
       end = w.end;
     }
 
@@ -62,6 +66,7 @@ rows_of {L} {C} workers = map (λ (w : Worker L C ToldRows). unwrap_or w.trace.r
 pub record IsNewWorker {L C : Type 0} (session : Session) (w : Worker L C ToldRows) : Type 0 where
   pub session_is : w.opener ≡ session
   pub rows : w.trace.rows ≡ Some []
+  pub unseen : w.trace.seen ≡ Some []
   pub unended : w.end ≡ None
 
 -- a write of some place's sink failed
@@ -88,6 +93,10 @@ pub record ReceivesFlows {K L C : Type 0} (moments : C → Option (ℕ → ℕ))
       before after
   pub places : (length left ≡ flows.places) × (length came ≡ flows.places)
   pub concluded : HaveConcluded {X = Unit {0}} flows.given contents faults (rows_of are) [] left came
+  -- what a worker has seen stands at the front of the history, its own rows, each behind those that had been made before
+  -- it, with it
+  pub seen : (link : ℕ) (w : Worker L C ToldRows) → slice_get are link ≡ Some w
+      → (rows : List FanStep) × (w.trace.seen ≡ Some rows) × IsOlder rows (reverse (entries concluded.turns))
   -- a worker ended as Stopped or WriteFault only where a write of each place's sink failed
   pub broken : (link : ℕ) (w : Worker L C ToldRows) → slice_get are link ≡ Some w
       → (w.end ≡ Some ends.Stopped) ⊎ (w.end ≡ Some ends.WriteFault)

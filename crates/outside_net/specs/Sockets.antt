@@ -3,7 +3,7 @@
 use Rattle.std.specs.Prelude.{◌≡◌, ◌/◌, ◌-◌, ◌^◌, ℕ, List, [], ◌∷◌, min, if◌then◌else◌, not, Bool, true, false}
 use Rattle.std.specs.Prelude.{Option, None, Some, slice_index_or, set, nat_lt}
 use Rattle.outside_net.specs.declared.port.TheConstants.{MAX_FLOWS}
-use Rattle.std.specs.Prelude.{Result, Ok, Err}
+use Rattle.std.specs.Prelude.{Result, Ok, Err, ℤ, pos, negsuc, zero, suc}
 use Rattle.std.specs.Duration.{as_nanos}
 use Rattle.std.specs.declared.time.Duration.{Duration}
 use Rattle.std.specs.declared.net.ip_addr.IpAddr.{IpAddr}
@@ -23,6 +23,7 @@ use Rattle.outside_net.specs.declared.link_spec.Role.{Role}
 use Rattle.outside_net.specs.declared.link_spec.Role.TheVariants as roles
 use Rattle.outside_net.specs.declared.port.Peer.{Peer}
 use Rattle.outside_net.specs.declared.port.Peer.TheVariants.{Unknown, Last, Stated}
+use Rattle.outside_net.specs.declared.ready.Ready.{Ready}
 
 -- a link of which nothing is stated but its address and its port
 abbrev pub plain_link : IpAddr → ℕ → LinkSpec
@@ -115,6 +116,23 @@ is_fault (Err error) = not (is_no_fault (error_kind error))
 -- what a read that gave nothing answers, by the kind of its error
 abbrev pub answer_by : ErrorKind → Option Got
 answer_by kind = if is_no_fault kind then None else Some got.Failed
+
+-- the system told something of a socket: that it has a datagram, or a fault
+abbrev pub is_told : ℤ → Bool
+is_told (pos zero) = false
+is_told (pos (suc n)) = true
+is_told (negsuc n) = true
+
+-- a socket is to be looked at where the system told something of it, and also where the look at all of them failed
+abbrev pub is_ready : ℤ → ℤ → Bool
+is_ready (pos count) told = is_told told
+is_ready (negsuc n) told = true
+
+-- a channel's socket is to be looked at; that of a tunnel is in any case
+abbrev pub has_ready : Ready → Channel → Bool
+has_ready ready channels.Media = ready.media
+has_ready ready channels.Control = ready.control
+has_ready ready channels.Tunnel = true
 
 -- the channel that takes turns with this one
 abbrev pub other_channel : Channel → Channel

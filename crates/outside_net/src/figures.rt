@@ -1,5 +1,5 @@
-/// The figures of a receiver up to a moment: what became of the media packets that came, and how many wait. No count passes
-/// 2^64 - 1.
+/// The figures of a receiver up to a moment: what became of the media packets that came, how many wait, how many were
+/// asked for and how many were lost. No count passes 2^64 - 1.
 #[derive(Clone, Copy, Debug, Default, PartialEq, Eq)]
 pub struct ReceiverFigures {
     /// Packets that were accepted.
@@ -24,4 +24,10 @@ pub struct ReceiverFigures {
     pub refused: u64,
     /// Packets that wait in the buffer now.
     pub held: u64,
+    /// Sequence numbers that were asked for: one that is asked for again counts again.
+    pub asked: u64,
+    /// Sequence numbers that the playout has passed without a packet, from the lowest that was kept of each flow on.
+    pub lost: u64,
+    /// How far ahead the packet with the highest number is due now, in milliseconds, and 0 where nothing waits.
+    pub fill: u64,
 }

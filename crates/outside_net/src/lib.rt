@@ -13,6 +13,7 @@ mod octets;
 mod peers;
 mod port;
 mod process_clock;
+mod ready;
 mod script_clock;
 mod script_link;
 mod telling;

@@ -29,6 +29,9 @@ pub enum Peer {
     Stated(SocketAddr),
 }
 
+/// How many octets a read asks the system for: one more than the longest datagram has, so that a longer one is seen.
+const READ_BLOCK: usize = MAX_DATAGRAM + 1;
+
 /// How many flows a tunnel has at most (this profile).
 pub const MAX_FLOWS: usize = 8;
 
@@ -41,8 +44,8 @@ pub struct Port {
     before: Peer,
     senders: [Option<SocketAddr>; MAX_FLOWS],
     facing: Option<SocketAddr>,
-    /// What the system hands over: an octet more than the longest datagram, so that a longer one is seen.
-    block: [u8; MAX_DATAGRAM + 1],
+    /// What the system hands over.
+    block: [u8; READ_BLOCK],
 }
 
 impl Port {
@@ -65,7 +68,7 @@ impl Port {
                 before: peer,
                 senders: [None; MAX_FLOWS],
                 facing: None,
-                block: [0; MAX_DATAGRAM + 1],
+                block: [0; READ_BLOCK],
             }),
             Err(_) => Err(Failed),
         }
@@ -280,7 +283,7 @@ fn option_value(value: &[u8; 16]) -> u32 {
 }
 
 /// Copies a datagram of so many octets to the front of the caller's block.
-fn give(block: &[u8; MAX_DATAGRAM + 1], count: usize, buf: &mut [u8; MAX_DATAGRAM])
+fn give(block: &[u8; READ_BLOCK], count: usize, buf: &mut [u8; MAX_DATAGRAM])
     requires fits { count ≤ max_datagram }
     ensures octets { take count buf.new ≡ take count block.now }
 {

@@ -5,11 +5,13 @@ ghost use Rattle.outside_net.specs.Real.{knows_at, knew_at, LooksOn};
 ghost use Rattle.outside_net.specs.Sockets.{IsOn, other_channel};
 
 use crate::port::Port;
+use crate::ready::Ready;
 use crate::{Got, Link, LinkSpec, Role};
 use libc::net::{POLLIN, poll};
 use libc::types::pollfd;
 use link_channels::{Channel, MAX_DATAGRAM, Profile};
 use outside_io::Failed;
+use std::cell::Cell;
 use std::net::Net;
 
 /// A link over UDP: in the Simple Profile a socket for media and one for control, in the Main Profile one for the
@@ -24,6 +26,8 @@ pub struct UdpLink {
     control: Option<Port>,
     tunnel: Option<Port>,
     next: Channel,
+    /// Which sockets had something when it last waited, until the next read.
+    ready: Cell<Option<Ready>>,
     faults: u64,
     ends: u64,
 }
@@ -60,6 +64,7 @@ impl UdpLink {
                     control: Some(control),
                     tunnel: None,
                     next: Channel::Media,
+                    ready: Cell::new(None),
                     faults: 0,
                     ends: 0,
                 })
@@ -71,6 +76,7 @@ impl UdpLink {
                     control: None,
                     tunnel: Some(tunnel),
                     next: Channel::Tunnel,
+                    ready: Cell::new(None),
                     faults: 0,
                     ends: 0,
                 })
@@ -117,7 +123,7 @@ impl UdpLink {
         }
     }
 
-    /// Looks at the sockets, the one first that gave least recently.
+    /// Looks at the sockets that have something, the one first that gave least recently.
     fn look_at_all(&mut self, buf: &mut [u8; MAX_DATAGRAM]) -> Option<Got>
         ensures within { IfSome result IsWithin }
         ensures turns { IfSome result (TakesTurns self.new.next) }
@@ -127,22 +133,42 @@ impl UdpLink {
         ensures faults { self.new.faults ≡ self.old.faults }
         ensures ends { self.new.ends ≡ self.old.ends }
     {
+        if matches!(self.next, Channel::Tunnel) {
+            // A tunnel has one socket, which a read looks at by itself.
+            return self.look_at(Channel::Tunnel, buf);
+        }
+        let ready = self.ready_now();
         let first = self.next;
         let second = other_channel(first);
-        if let Some(got) = self.look_at(first, buf) {
-            self.next = second;
-            return Some(got);
+        if ready.has(first) {
+            if let Some(got) = self.look_at(first, buf) {
+                self.next = second;
+                return Some(got);
+            }
         }
-        self.look_at(second, buf)
+        if ready.has(second) {
+            return self.look_at(second, buf);
+        }
+        None
     }
 
-    /// Waits until a socket has a datagram, or so many milliseconds have passed.
-    fn wait(&self, limit: u8) {
+    /// Which sockets have something: those that had it when the link last waited, if any had, and else those that have
+    /// it now.
+    fn ready_now(&self) -> Ready {
+        match self.ready.replace(None) {
+            Some(ready) if ready.any() => ready,
+            Some(_) | None => self.ready_within(0),
+        }
+    }
+
+    /// Which sockets have something, in one call for both, as soon as one has or so many milliseconds have passed.
+    fn ready_within(&self, limit: u8) -> Ready {
         let mut ends = [end_of(&self.media), end_of(&self.control)];
         if self.tunnel.is_some() {
             ends[0] = end_of(&self.tunnel);
         }
-        poll_within(&mut ends, i32::from(limit));
+        let count = poll_within(&mut ends, i32::from(limit));
+        Ready::of(count, ends[0].revents, ends[1].revents)
     }
 }
 
@@ -157,11 +183,12 @@ fn other_channel(channel: Channel) -> Channel
     }
 }
 
-/// Waits until a socket has a datagram, or so many milliseconds have passed. `poll` takes a negative number for no limit.
-fn poll_within(ends: &mut [pollfd], limit: i32)
+/// Waits until a socket has a datagram, or so many milliseconds have passed, and gives the answer of `poll`, which takes a
+/// negative number for no limit.
+fn poll_within(ends: &mut [pollfd; 2], limit: i32) -> i32
     requires limited { pos 0 ≤ℤ limit }
 {
-    let _ = poll(ends, limit);
+    poll(ends, limit)
 }
 
 /// A socket for `poll`; -1, which it passes over, where there is none.
@@ -300,6 +327,6 @@ impl Link for UdpLink {
     }
 
     fn rest(&self, limit: u8) {
-        self.wait(limit);
+        self.ready.set(Some(self.ready_within(limit)));
     }
 }

@@ -1,6 +1,5 @@
 -- The figures of a desk's receiver are those of its steps.
-use Rattle.std.proofs.Common.{◌≡◌, ℕ, Bool, List, reverse, Option, option_map, ap, sym, ◌∙◌, subst}
-use Rattle.receiver_rules.specs.declared.limits.Limits.{Limits}
+use Rattle.std.proofs.Common.{◌≡◌, ℕ, Bool, List, reverse, Option, option_map, sym, ◌∙◌, subst}
 use Rattle.outside_net.specs.declared.figures.ReceiverFigures.{ReceiverFigures}
 use Rattle.link_channels.specs.declared.channel.Channel.{Channel}
 use Rattle.outside_net.specs.Links.{Answer}
@@ -18,8 +17,8 @@ use Rattle.rist_desk.specs.Desk.{DeskState, Given, IsDesk, StandsFor, AreFigures
 pub figures_after : (given : Given) (d : DeskState) (steps : List Step) (f : ReceiverFigures) → IsDesk given d → StandsFor given d steps → f ≡ figures_of d.receiver → AreFiguresAfter given steps f
 figures_after given d steps f desk s is = record {
   legal = s.legal;
-  are = λ live. subst (λ (x : ReceiverFigures). AreFiguresOf x given.settings.limits (history_of steps)) (sym is)
-      (subst (λ (l : Limits). AreFiguresOf (figures_of d.receiver) l (history_of steps)) (ap (λ (c : ControlSettings). c.limits) desk.settings)
+  are = λ live. subst (λ (x : ReceiverFigures). AreFiguresOf x given.settings (history_of steps)) (sym is)
+      (subst (λ (c : ControlSettings). AreFiguresOf (figures_of d.receiver) c (history_of steps)) desk.settings
       (figures_are d.receiver (history_of steps) s.receiver (λ failed. live (sym s.phase ∙ failed))));
 }
 

@@ -4,7 +4,8 @@ use Rattle.std.proofs.lemmas.List.{map-append, append-nil}
 use Rattle.outside_net.specs.Links.{Datagram}
 use Rattle.rist_desk.specs.declared.ended.Ended.{Ended}
 use Rattle.rist_desk.specs.declared.ended.Ended.TheVariants as ends
-use Rattle.rist_desk.specs.Work.{AreSent, Breaks, CutShort, CutsAt, EndsBy, Gains, Goes, Holds, TurnEnds, Work, last_in, went_of}
+use Rattle.rist_desk.specs.Work.{AreSent, Breaks, CameAfter, CutShort, CutsAt, EndsBy, Gains, Goes, Holds, IsOlder, SeesAll, SeesWith, TurnEnds, Work, last_in, went_of}
+use Rattle.rist_desk.specs.Made.{steps_with}
 
 -- ---- what is told gains nothing, or two parts
 
@@ -20,14 +21,64 @@ went_both : {K P M : Type 0} (work : Work K P M) (a b : List M) → went_of work
 went_both work [] b = refl
 went_both work (m ∷ a) b = ap (λ (x : List Datagram). work.went m ++ x) (went_both work a b) ∙ sym (append_assoc (work.went m) (went_of work a) (went_of work b))
 
-gains_none : {K P M : Type 0} (work : Work K P M) (h : Holds K) → Gains work h h []
-gains_none work h = (none_gained h.list, none_gained h.taken)
+-- ---- what was seen
 
-gains_both : {K P M : Type 0} (work : Work K P M) (a b c : Holds K) (xs ys : List M) → Gains work a b xs → Gains work b c ys → Gains work a c (xs ++ ys)
-gains_both work a b c xs ys g h = (
-  both_gained a.list b.list c.list (map work.kept xs) (map work.kept ys) (map work.kept (xs ++ ys)) (map-append work.kept xs ys) g.0 h.0,
-  both_gained a.taken b.taken c.taken (went_of work xs) (went_of work ys) (went_of work (xs ++ ys)) (went_both work xs ys) g.1 h.1,
-)
+pub older_same : {K : Type 0} (l : List K) → IsOlder l l
+older_same l = record { later = []; is = sym (append-nil l) }
+
+pub older_both : {K : Type 0} (a b c : List K) → IsOlder a b → IsOlder b c → IsOlder a c
+older_both {K} a b c x y = record { later = x.later ++ y.later; is = y.is ∙ (ap (λ (l : List K). l ++ y.later) x.is ∙ append_assoc a x.later y.later) }
+
+came_later : {K P M : Type 0} (work : Work K P M) (a b c : List K) (ms : List M) → IsOlder a b → CameAfter work b ms c → CameAfter work a ms c
+came_later work a b c [] x y = older_both a b c x y
+came_later work a b c (m ∷ ms) x y = (older_both a b (work.before m) x y.0, y.1)
+
+came_both : {K P M : Type 0} (work : Work K P M) (a b c : List K) (xs ys : List M) → CameAfter work a xs b → CameAfter work b ys c → CameAfter work a (xs ++ ys) c
+came_both work a b c [] ys x y = came_later work a b c ys x y
+came_both work a b c (m ∷ xs) ys x y = (x.0, came_both work (work.before m ++ work.kept m ∷ []) b c xs ys x.1 y)
+
+pub sees_none : {K P M : Type 0} (work : Work K P M) (o : Option (List K)) → SeesAll work o [] o
+sees_none work None = refl
+sees_none work (Some l) = older_same l
+
+sees_both : {K P M : Type 0} (work : Work K P M) (a b c : Option (List K)) (xs ys : List M) → SeesAll work a xs b → SeesAll work b ys c → SeesAll work a (xs ++ ys) c
+sees_both work None None c xs ys x y = y
+sees_both work None (Some b) c xs ys x y = absurd (cc (x))
+sees_both work (Some a) None c xs ys x y = absurd x
+sees_both work (Some a) (Some b) None xs ys x y = absurd y
+sees_both work (Some a) (Some b) (Some c) xs ys x y = came_both work a b c xs ys x y
+
+-- one was made, or none
+pub sees_one : {K P M : Type 0} (work : Work K P M) (m : M) (was is before : Option (List K)) → before ≡ Some (work.before m) → SeesWith was is before (Some (work.kept m)) → SeesAll work was (m ∷ []) is
+sees_one work m None is before e s = s
+sees_one work m (Some was) is None e s = absurd s
+sees_one {K} work m (Some was) is (Some before) e s =
+    let same : before ≡ work.before m = cc (e) in
+    let older : IsOlder was (work.before m) = subst (λ (l : List K). IsOlder was l) same s.0 in
+    let now : is ≡ Some (work.before m ++ work.kept m ∷ []) = s.1 ∙ ap (λ (l : List K). Some (l ++ work.kept m ∷ [])) same in
+    subst (λ (o : Option (List K)). SeesAll work (Some was) (m ∷ []) o) (sym now) (older, older_same (work.before m ++ work.kept m ∷ []))
+
+pub sees_nothing : {K P M : Type 0} (work : Work K P M) (was is before : Option (List K)) → SeesWith was is before None → SeesAll work was [] is
+sees_nothing work None is before s = s
+sees_nothing work (Some was) is None s = absurd s
+sees_nothing {K} work (Some was) is (Some before) s = subst (λ (o : Option (List K)). SeesAll work (Some was) [] o) (sym s.1) s.0
+
+-- nothing is told of what was seen
+sees_untold : {K P M : Type 0} (work : Work K P M) (m : M) (was is : Option (List K)) → SeesWith was is None (Some (work.kept m)) → SeesAll work was (m ∷ []) is
+sees_untold work m None is s = s
+sees_untold work m (Some was) is s = absurd s
+
+-- ---- gains
+
+pub gains_none : {K P M : Type 0} (work : Work K P M) (h : Holds K) → Gains work h h []
+gains_none work h = record { list = none_gained h.own.list; taken = none_gained h.taken; seen = sees_none work h.own.seen }
+
+pub gains_both : {K P M : Type 0} (work : Work K P M) (a b c : Holds K) (xs ys : List M) → Gains work a b xs → Gains work b c ys → Gains work a c (xs ++ ys)
+gains_both work a b c xs ys g h = record {
+  list = both_gained a.own.list b.own.list c.own.list (map work.kept xs) (map work.kept ys) (map work.kept (xs ++ ys)) (map-append work.kept xs ys) g.list h.list;
+  taken = both_gained a.taken b.taken c.taken (went_of work xs) (went_of work ys) (went_of work (xs ++ ys)) (went_both work xs ys) g.taken h.taken;
+  seen = sees_both work a.own.seen b.own.seen c.own.seen xs ys g.seen h.seen;
+}
 
 sent_both : {K P M : Type 0} (work : Work K P M) (a b : List M) → AreSent work a → AreSent work b → AreSent work (a ++ b)
 sent_both work [] b s t = t
@@ -113,8 +164,8 @@ whole_ends {M = M} work end planned a b xs g e =
 -- ---- one step
 
 -- it was not made
-pub not_made : {K P M : Type 0} (work : Work K P M) (end : Ended) (a : Holds K) (x : P) → ((missing : List P) → 0 < length missing → CutsAt work end None missing) → CutShort work end a a (x ∷ [])
-not_made work end a x cause = record { done = []; last = None; missing = x ∷ []; gains = gains_none work a; plan_is = refl; sent = tt; cause = cause (x ∷ []) (omega arith) }
+pub not_made : {K P M : Type 0} (work : Work K P M) (end : Ended) (a b : Holds K) (x : P) → Gains work a b [] → ((missing : List P) → 0 < length missing → CutsAt work end None missing) → CutShort work end a b (x ∷ [])
+not_made work end a b x gains cause = record { done = []; last = None; missing = x ∷ []; gains = gains; plan_is = refl; sent = tt; cause = cause (x ∷ []) (omega arith) }
 
 -- it was made, and it ended the worker
 pub made_last : {K P M : Type 0} (work : Work K P M) (end : Ended) (a b : Holds K) (m : M) → Gains work a b (m ∷ []) → CutsAt work end (Some m) [] → CutShort work end a b (work.planned m ∷ [])

@@ -11,7 +11,7 @@ use Rattle.rist_desk.specs.declared.worker.ServingLimits.{ServingLimits}
 use Rattle.rist_desk.specs.declared.worker.Worker.{Worker}
 use Rattle.rist_desk.specs.Desk.{Given}
 use Rattle.rist_desk.specs.Sending.{LacksRoom, one}
-use Rattle.rist_desk.specs.Work.{Work, holds}
+use Rattle.rist_desk.specs.Work.{OwnTold, Work, holds, own_told}
 use Rattle.rist_desk.specs.Turns.{Feed, IsServed}
 use Rattle.rist_desk.specs.Inside.Going.{IsTask, is_link_end, is_link_failure}
 
@@ -25,22 +25,22 @@ pub record IsFeed (f : Feed) (session : Session) (place : ℕ) (limits : Serving
 
 -- The worker at this place ended: its own list has gained the steps of its turns, and its link what they made.
 pub record ServesBy {K P M L C U : Type 0} (work : Work K P M) (moments : C → Option (ℕ → ℕ)) (tells : LinkTells L)
-    (list : U → Option (List K)) (limits : ServingLimits) (place : ℕ) (old new : Worker L C U) : Type 0 where
+    (told : U → OwnTold K) (limits : ServingLimits) (place : ℕ) (old new : Worker L C U) : Type 0 where
   pub end : Ended
   pub ended : new.end ≡ Some end
   pub served : (f : Feed)
       → IsFeed f old.opener place limits (moments old.clock) (tells.reads old.link) (tells.knows old.link)
       → IsServed work f (tells.knows new.link) end (moments new.clock) (tells.reads new.link)
-      (holds (list old.trace) (tells.taken old.link)) (holds (list new.trace) (tells.taken new.link))
+      (holds (told old.trace) (tells.taken old.link)) (holds (told new.trace) (tells.taken new.link))
   pub session : new.opener ≡ old.opener
   -- End and Failed come exactly where the link's count rose
   pub end_cause : RoseWhere (is_link_end (Some end)) (tells.ends old.link) (tells.ends new.link)
   pub failed_cause : RoseWhere (is_link_failure (Some end)) (tells.faults old.link) (tells.faults new.link)
 
--- what a kind of work tells of what is a worker's own: what its list keeps; that it wants room for the next step; and
--- where pairs may be wanting
+-- what a kind of work tells of what is a worker's own: its list, and what it has seen; that it wants room for the next
+-- step; and where pairs may be wanting
 pub record OwnTells (K U : Type 0) : Type 1 where
-  pub list : U → Option (List K)
+  pub told : U → OwnTold K
   pub Lacks : U → Type 0
   pub Keyed : Type 0
 
@@ -48,20 +48,21 @@ pub record OwnTells (K U : Type 0) : Type 1 where
 -- pairs were wanting, they may be.
 pub record ServesWith {K P M L C U : Type 0} (work : Work K P M) (moments : C → Option (ℕ → ℕ)) (tells : LinkTells L)
     (own : OwnTells K U) (limits : ServingLimits) (place : ℕ) (old new : Worker L C U) : Type 0 where
-  pub made : ServesBy work moments tells own.list limits place old new
+  pub made : ServesBy work moments tells own.told limits place old new
   pub full : new.end ≡ Some ends.TraceFull → own.Lacks new.trace
   pub spent : new.end ≡ Some ends.Spent → own.Keyed
 
 -- ---- on the receiver of one flow
 
 -- so, whatever the desk
-abbrev pub Serves : {L C U : Type 0} → (C → Option (ℕ → ℕ)) → LinkTells L → (U → Option (List Step)) → ServingLimits → ℕ
+abbrev pub Serves : {L C U : Type 0} → (C → Option (ℕ → ℕ)) → LinkTells L → (U → OwnTold Step) → ServingLimits → ℕ
     → Worker L C U → Worker L C U → Type 0
-Serves moments tells list limits place old new = ServesBy (one None) moments tells list limits place old new
+Serves moments tells told limits place old new = ServesBy (one None) moments tells told limits place old new
 
--- what a kind of traces tells, and how many steps one takes
+-- what a kind of traces tells, what it has seen of the desk's steps, and how many steps one takes
 pub record TraceTells (U : Type 0) : Type 0 where
   pub list : U → Option (List Step)
+  pub seen : U → Option (List Step)
   pub limit : U → Option ℕ
 
 -- a desk that tells its steps was made with a sealer
@@ -73,7 +74,7 @@ IsKeyed given = given.tells_steps ≡ true → is_some given.shutter.sealer ≡ 
 abbrev pub own_on : {U : Type 0} → Given → TraceTells U → OwnTells Step U
 own_on given trace =
     record {
-      list = trace.list;
+      told = λ own. own_told (trace.list own) (trace.seen own);
       Lacks = λ own. LacksRoom given (trace.limit own) (trace.list own);
       Keyed = IsKeyed given;
     }

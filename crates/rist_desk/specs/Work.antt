@@ -12,6 +12,7 @@ use Rattle.rist_desk.specs.declared.ended.Ended.TheVariants as ends
 use Rattle.rist_desk.specs.declared.step.Mark.{Mark}
 use Rattle.rist_desk.specs.declared.step.Mark.TheVariants as marks
 use Rattle.rist_desk.specs.Items.{Planned}
+use Rattle.rist_desk.specs.Made.{steps_with}
 
 -- How a worker reads: what a datagram brings in a session, and the place of the flow that it is for, where there are
 -- several; and the plan (P) of a step that is for the receiver at a place, or for none.
@@ -19,12 +20,14 @@ pub record Reading (P : Type 0) : Type 0 where
   pub takes : Session → Channel → List ℕ → Option ℕ × Result Item WireBad
   pub plan : Option ℕ → Planned → P
 
--- A kind of work. Of something that was made (M): what a list keeps of it (K), how it was planned (P), and which
--- datagrams the link took. What it is to be made and sent; that a write of what was made failed; and that it is the
--- last, since a write of a sink failed or since pairs were wanting, as a mark says.
+-- A kind of work. Of something that was made (M): what a list keeps of it (K), all that had been made before it, by all
+-- workers, the oldest first, how it was planned (P), and which datagrams the link took. What it is to be made and sent;
+-- that a write of what was made failed; and that it is the last, since a write of a sink failed or since pairs were
+-- wanting, as a mark says.
 pub record Work (K P M : Type 0) : Type 1 where
   pub reading : Reading P
   pub kept : M → K
+  pub before : M → List K
   pub planned : M → P
   pub went : M → List Datagram
   pub Sent : M → Type 0
@@ -48,22 +51,57 @@ abbrev pub last_in : {M : Type 0} → Option M → List M
 last_in None = []
 last_in (Some m) = m ∷ []
 
+-- ---- what a worker has seen
+
+-- the whole begins with these, the oldest first
+pub record IsOlder {K : Type 0} (older whole : List K) : Type 0 where
+  pub later : List K
+  pub is : whole ≡ older ++ later
+
+-- These were made, one after another, by who had seen a list and has seen another now: the second begins with the
+-- first; and before each stood all that had been seen till then.
+abbrev pub CameAfter : {K P M : Type 0} → Work K P M → List K → List M → List K → Type 0
+CameAfter work was [] is = IsOlder was is
+CameAfter work was (m ∷ ms) is = IsOlder was (work.before m) × CameAfter work (work.before m ++ work.kept m ∷ []) ms is
+
+-- so where it is told what was seen
+abbrev pub SeesAll : {K P M : Type 0} → Work K P M → Option (List K) → List M → Option (List K) → Type 0
+SeesAll work None ms is = is ≡ None
+SeesAll work (Some was) ms None = ⊥
+SeesAll work (Some was) ms (Some is) = CameAfter work was ms is
+
+-- One may have been made after these, where they are told; who made it had seen a list and has seen another now: all
+-- that stood before, and what was made.
+abbrev pub SeesWith : {K : Type 0} → Option (List K) → Option (List K) → Option (List K) → Option K → Type 0
+SeesWith None is before entry = is ≡ None
+SeesWith (Some was) is None entry = ⊥
+SeesWith (Some was) is (Some before) entry = IsOlder was before × (is ≡ Some (steps_with entry before))
+
 -- ---- what a worker holds
 
--- a worker's own list, and what its link took, where they are told
-pub record Holds (K : Type 0) : Type 0 where
+-- what is told of what is a worker's own: its list, and all that it has seen, its own and that of others
+pub record OwnTold (K : Type 0) : Type 0 where
   pub list : Option (List K)
+  pub seen : Option (List K)
+
+-- these two
+abbrev pub own_told : {K : Type 0} → Option (List K) → Option (List K) → OwnTold K
+own_told list seen = record { list = list; seen = seen }
+
+-- a worker's own, and what its link took, where it is told
+pub record Holds (K : Type 0) : Type 0 where
+  pub own : OwnTold K
   pub taken : Option (List Datagram)
 
 -- these two
-abbrev pub holds : {K : Type 0} → Option (List K) → Option (List Datagram) → Holds K
-holds list taken = record { list = list; taken = taken }
+abbrev pub holds : {K : Type 0} → OwnTold K → Option (List Datagram) → Holds K
+holds own taken = record { own = own; taken = taken }
 
--- the list has gained what is kept of these, and the link what they made
-abbrev pub Gains : {K P M : Type 0} → Work K P M → Holds K → Holds K → List M → Type 0
-Gains work old new ms =
-    (new.list ≡ option_map (λ l. l ++ map work.kept ms) old.list)
-    × (new.taken ≡ option_map (λ t. t ++ went_of work ms) old.taken)
+-- the list has gained what is kept of these, and the link what they made; and each came after all that was seen before
+pub record Gains {K P M : Type 0} (work : Work K P M) (old new : Holds K) (ms : List M) : Type 0 where
+  pub list : new.own.list ≡ option_map (λ l. l ++ map work.kept ms) old.own.list
+  pub taken : new.taken ≡ option_map (λ t. t ++ went_of work ms) old.taken
+  pub seen : SeesAll work old.own.seen ms new.own.seen
 
 -- what was planned was made, and what it made was sent
 pub record Goes {K P M : Type 0} (work : Work K P M) (old new : Holds K) (plan : List P) : Type 0 where

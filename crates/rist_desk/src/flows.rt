@@ -9,7 +9,7 @@ ghost use Rattle.rist_desk.specs.Desk.{AreFiguresFor, AreFiguresThere, is_cut_of
 ghost use Rattle.rist_desk.specs.Sending.{IsDueThere, LacksRoom, one};
 ghost use Rattle.rist_desk.specs.Serving.{IsKeyed};
 ghost use Rattle.rist_desk.specs.Items.{told_plan};
-ghost use Rattle.rist_desk.specs.Work.{CutShort, Goes, holds};
+ghost use Rattle.rist_desk.specs.Work.{CutShort, Goes, holds, own_told};
 ghost use Rattle.rist_desk.specs.Links.{IsInside, IsKept, has_link_failed};
 
 use crate::ended::Ended;
@@ -81,11 +81,11 @@ pub trait Flows<U, M> {
         requires left { 1 ≤ good_for own.old }
         ensures own { owns self.now told.now.link own.new }
         ensures left { good_for own.old ≤ good_for own.new + 1 }
-        ensures ok { OnOk result (Goes work (holds (tells.list own.old) (L.taken link.old))
-            (holds (tells.list own.new) (L.taken link.new))
+        ensures ok { OnOk result (Goes work (holds (tells.told own.old) (L.taken link.old))
+            (holds (tells.told own.new) (L.taken link.new))
             (work.reading.plan place (told_plan (L.knows link.old) told.now) ∷ [])) }
-        ensures err { IfErr result (λ end. CutShort work end (holds (tells.list own.old) (L.taken link.old))
-            (holds (tells.list own.new) (L.taken link.new))
+        ensures err { IfErr result (λ end. CutShort work end (holds (tells.told own.old) (L.taken link.old))
+            (holds (tells.told own.new) (L.taken link.new))
             (work.reading.plan place (told_plan (L.knows link.old) told.now) ∷ [])) }
         ensures inside { IfErr result IsInside }
         ensures full { result ≡ Err Ended.TraceFull → tells.Lacks own.new }
@@ -117,7 +117,9 @@ fn step_seen<S: Shares<U>, U, R: Wait>(
     ensures list { IfOk result (λ answer. S.list own.new
         ≡ option_map (steps_with (step_after told.now (outcome_with answer outs.new))) (S.list own.old)) }
     ensures same { OnErr result (S.list own.new ≡ S.list own.old) }
-    ensures due { IfOk result (λ answer. IsDueThere S.given told.now (outcome_with answer outs.new)) }
+    ensures unseen { OnErr result (S.seen own.new ≡ S.seen own.old) }
+    ensures due { IfOk result (λ answer. IsDueThere S.given (S.seen own.old) (S.seen own.new) told.now
+        (outcome_with answer outs.new)) }
     ensures full { OnErr result (LacksRoom S.given (S.limit own.new) (S.list own.new)) }
     ensures broken { IfOk result (λ answer. is_cut_off answer ≡ true → S.broken own.new) }
     // They are those after this very step.
@@ -151,10 +153,10 @@ fn step_and_send<S: Shares<U>, U, L: Link, R: Wait>(
     requires none { figures.old ≡ None }
     ensures own { S.is_of shares.now told.now.link own.new }
     ensures left { S.left own.old ≤ S.left own.new + 1 }
-    ensures ok { OnOk result (Goes (one (Some S.given)) (holds (S.list own.old) (L.taken link.old))
-        (holds (S.list own.new) (L.taken link.new)) (told_plan (L.knows link.old) told.now ∷ [])) }
-    ensures err { IfErr result (λ end. CutShort (one (Some S.given)) end (holds (S.list own.old) (L.taken link.old))
-        (holds (S.list own.new) (L.taken link.new)) (told_plan (L.knows link.old) told.now ∷ [])) }
+    ensures ok { OnOk result (Goes (one (Some S.given)) (holds (own_told (S.list own.old) (S.seen own.old)) (L.taken link.old))
+        (holds (own_told (S.list own.new) (S.seen own.new)) (L.taken link.new)) (told_plan (L.knows link.old) told.now ∷ [])) }
+    ensures err { IfErr result (λ end. CutShort (one (Some S.given)) end (holds (own_told (S.list own.old) (S.seen own.old)) (L.taken link.old))
+        (holds (own_told (S.list own.new) (S.seen own.new)) (L.taken link.new)) (told_plan (L.knows link.old) told.now ∷ [])) }
     ensures inside { IfErr result IsInside }
     ensures full { result ≡ Err Ended.TraceFull → LacksRoom S.given (S.limit own.new) (S.list own.new) }
     ensures spent { result ≡ Err Ended.Spent → IsKeyed S.given }
@@ -208,7 +210,7 @@ impl<S: Shares<U>, U> Flows<U, Outs> for S {
 
     ghost work = { one (Some S.given) };
 
-    ghost tells = { own_on S.given (record { list = S.list; limit = S.limit }) };
+    ghost tells = { own_on S.given (record { list = S.list; seen = S.seen; limit = S.limit }) };
 
     ghost owns = { S.is_of };
 

@@ -2,7 +2,7 @@
 ghost use Rattle.std.specs.Prelude.{◌≡◌, ◌<◌};
 ghost use Rattle.outside_net.specs.Links.{answer_of};
 ghost use Rattle.rist_desk.specs.Turns.{is_tick_due, quiet_since, is_idle, rest_after, rest_in_quiet};
-ghost use Rattle.rist_desk.specs.Turns.{since_tick, tick_interval};
+ghost use Rattle.rist_desk.specs.Turns.{since_tick, tick_interval, rest_after_datagram};
 
 use outside_net::Got;
 
@@ -60,13 +60,15 @@ pub fn since_then(since: Option<u64>, us: u64, got: &Got) -> u64
     }
 }
 
-/// How long a worker rests before its next turn, in milliseconds. After a datagram it doesn't, as more may be there; else
-/// it rests until the next tick is due, and longer on a link on which nothing came for a second.
+/// How long a worker rests before its next turn, in milliseconds, unless a datagram is there or comes. After a datagram it
+/// rests as long as no tick is due; after a read that gave nothing until the next tick is due, and longer on a link on which
+/// nothing came for a second.
 pub fn rest_after(ticked: Option<u64>, since: u64, us: u64, got: &Got) -> u8
     ensures value { (buf : _) → result ≡ rest_after ticked since us (answer_of got.now buf) }
 {
     match got {
-        Got::Datagram(..) | Got::End | Got::Failed => 0,
+        Got::Datagram(..) => rest_after_datagram(ticked, us),
+        Got::End | Got::Failed => 0,
         Got::Quiet => rest_in_quiet(ticked, since, us),
     }
 }
@@ -83,6 +85,13 @@ fn since_tick(ticked: Option<u64>, us: u64) -> u64
             if passed < TICK_INTERVAL { passed } else { 0 }
         }
     }
+}
+
+/// The same after a datagram, in whole milliseconds: none of them ends after the next tick is due.
+fn rest_after_datagram(ticked: Option<u64>, us: u64) -> u8
+    ensures value { result ≡ rest_after_datagram ticked us }
+{
+    ((TICK_INTERVAL - since_tick(ticked, us)) / 1_000) as u8
 }
 
 /// The same where nothing was there.

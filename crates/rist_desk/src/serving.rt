@@ -3,7 +3,7 @@ ghost use Rattle.std.specs.Prelude.{◌≡◌, ◌<◌, ◌≤◌, ◌*◌, ◌^
 ghost use Rattle.link_channels.specs.declared.bounds.TheConstants.{MAX_LINKS};
 ghost use Rattle.outside_io.specs.Causes.{RoseWhere};
 ghost use Rattle.rist_desk.specs.Turns.{Feed, IsServed};
-ghost use Rattle.rist_desk.specs.Work.{holds};
+ghost use Rattle.rist_desk.specs.Work.{holds, own_told};
 ghost use Rattle.rist_desk.specs.Serving.{IsFeed, Serves, ServesOn, ServesWith, MayServe, Leaves};
 ghost use Rattle.rist_desk.specs.Inside.Going.{is_link_end, is_link_failure};
 
@@ -14,6 +14,7 @@ use crate::pace::Pace;
 use crate::shares::Shares;
 use crate::turn::make_turn;
 use crate::worker::{ServingLimits, Worker};
+use link_channels::{MAX_DATAGRAM, MAX_PAYLOAD};
 use outside_net::{Clock, Link, TellingLink};
 use rist_ends::Outs;
 use std::sync::Wait;
@@ -37,8 +38,8 @@ fn all_turns<S: Flows<U, M>, U, M: Drop, L: Link, C: Clock, R: Wait>(
         (L.reads worker.old.link) (L.knows worker.old.link)
         → IsServed S.work f (L.knows worker.new.link) result
         (C.moments worker.new.clock) (L.reads worker.new.link)
-        (holds (S.tells.list worker.old.trace) (L.taken worker.old.link))
-        (holds (S.tells.list worker.new.trace) (L.taken worker.new.link)) }
+        (holds (S.tells.told worker.old.trace) (L.taken worker.old.link))
+        (holds (S.tells.told worker.new.trace) (L.taken worker.new.link)) }
     ensures session { worker.new.opener ≡ worker.old.opener }
     ensures full { result ≡ Ended.TraceFull → S.tells.Lacks worker.new.trace }
     ensures spent { result ≡ Ended.Spent → S.tells.Keyed }
@@ -51,7 +52,9 @@ fn all_turns<S: Flows<U, M>, U, M: Drop, L: Link, C: Clock, R: Wait>(
         rt,
         desk,
         room: S::room(),
+        payload: [0; MAX_PAYLOAD],
     };
+    let mut block = [0; MAX_DATAGRAM];
     let mut pace = Pace {
         ticked: None,
         since: None,
@@ -61,7 +64,15 @@ fn all_turns<S: Flows<U, M>, U, M: Drop, L: Link, C: Clock, R: Wait>(
     'turns: loop {
         let last = made + 1 >= limits.turns;
         worker.link.rest(pace.rest);
-        match make_turn(&mut access, worker, place, limits, last, &mut pace) {
+        match make_turn(
+            &mut access,
+            worker,
+            place,
+            limits,
+            last,
+            &mut pace,
+            &mut block,
+        ) {
             Ok(()) => made += 1,
             Err(end) => return end,
         }
@@ -135,7 +146,7 @@ pub fn serve_one<S: Shares<U>, U, L: Link, C: Clock, R: Wait>(
     ensures own { Leaves S.is_of S.broken desk.now place worker.new }
     ensures on { ServesOn S.given C.moments
         ⟦<L as TellingLink>⟧.tells
-        (record { list = S.list; limit = S.limit }) limits.now place worker.old worker.new }
+        (record { list = S.list; seen = S.seen; limit = S.limit }) limits.now place worker.old worker.new }
 {
     serve_flows_one::<S, U, Outs, L, C, R>(rt, desk, worker, place, limits);
 }
@@ -157,12 +168,12 @@ pub fn serve<
         → Leaves S.is_of S.broken desk.now i (slice_index_or workers.new i d) }
     ensures served { (i : ℕ) (d : _) → i < length workers.old → Serves C.moments
         ⟦<L as TellingLink>⟧.tells
-        S.list limits.now i (slice_index_or workers.old i d) (slice_index_or workers.new i d) }
+        (λ own. own_told (S.list own) (S.seen own)) limits.now i (slice_index_or workers.old i d) (slice_index_or workers.new i d) }
     // What it wrote is what its steps made by the rules, where the steps that they were made after are told; and why a
     // trace was full is told.
     ensures on { (i : ℕ) (d : _) → i < length workers.old → ServesOn S.given C.moments
         ⟦<L as TellingLink>⟧.tells
-        (record { list = S.list; limit = S.limit }) limits.now i
+        (record { list = S.list; seen = S.seen; limit = S.limit }) limits.now i
         (slice_index_or workers.old i d) (slice_index_or workers.new i d) }
 {
     serve_flows::<S, U, Outs, L, C, R>(rt, workers, desk, limits);

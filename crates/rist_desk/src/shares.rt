@@ -27,7 +27,10 @@ pub trait Shares<U> {
     /// A thread's own steps, the oldest first, where they are told.
     ghost list: { U → Option (List Step) };
 
-    /// How many of them there may be, where there is such a limit.
+    /// All steps that a thread has seen, its own and those of others, the oldest first, where they are told.
+    ghost seen: { U → Option (List Step) };
+
+    /// How many of its own there may be, where there is such a limit.
     ghost limit: { U → Option ℕ };
 
     /// What is a thread's own is of this one, for the steps of a link.
@@ -57,7 +60,9 @@ pub trait Shares<U> {
         ensures list { IfOk result (λ answer. list own.new
             ≡ option_map (steps_with (step_after told.now (outcome_with answer outs.new))) (list own.old)) }
         ensures same { OnErr result (list own.new ≡ list own.old) }
-        ensures due { IfOk result (λ answer. IsDueThere given told.now (outcome_with answer outs.new)) }
+        ensures unseen { OnErr result (seen own.new ≡ seen own.old) }
+        ensures due { IfOk result (λ answer. IsDueThere given (seen own.old) (seen own.new) told.now
+            (outcome_with answer outs.new)) }
         ensures full { OnErr result (LacksRoom given (limit own.new) (list own.new)) }
         // A step that found a failed write, or in which one failed, tells of it.
         ensures broken { IfOk result (λ answer. is_cut_off answer ≡ true → broken own.new) };
@@ -79,7 +84,9 @@ pub trait Shares<U> {
         ensures list { IfOk result (λ f. list own.new
             ≡ option_map (steps_with (step_after told.now (outcome_with f.answer outs.new))) (list own.old)) }
         ensures same { OnErr result (list own.new ≡ list own.old) }
-        ensures due { IfOk result (λ f. IsDueThere given told.now (outcome_with f.answer outs.new)) }
+        ensures unseen { OnErr result (seen own.new ≡ seen own.old) }
+        ensures due { IfOk result (λ f. IsDueThere given (seen own.old) (seen own.new) told.now
+            (outcome_with f.answer outs.new)) }
         ensures full { OnErr result (LacksRoom given (limit own.new) (list own.new)) }
         ensures broken { IfOk result (λ f. is_cut_off f.answer ≡ true → broken own.new) }
         ensures figures { IfOk result (λ f.
@@ -88,11 +95,14 @@ pub trait Shares<U> {
 
 impl<N: DeskOrigin, T: StepTrace + Drop, K: Sink + Drop, U: StepTrace> Shares<U>
     for Mutex<Desk<N, T, K>> {
-    ghost use Rattle.std.specs.Prelude.{◌^◌};
+    ghost use Rattle.std.specs.Prelude.{◌^◌, None};
 
     ghost given = { N.given };
 
     ghost list = { U.list };
+
+    // A trace of the thread's own knows nothing of the others' steps.
+    ghost seen = { λ own. None };
 
     ghost limit = { U.limit };
 
@@ -100,7 +110,6 @@ impl<N: DeskOrigin, T: StepTrace + Drop, K: Sink + Drop, U: StepTrace> Shares<U>
 
     ghost left = { λ own. 2 ^ 58 };
 
-    // A trace of the thread's own knows nothing of the others' steps.
     ghost broken = { λ own. Unit {0} };
 
     fn step<R: Wait>(

@@ -14,7 +14,7 @@ use crate::flows::Flows;
 use crate::items::what_of;
 use crate::pace::{Turn, is_due};
 use crate::worker::Worker;
-use link_channels::{Channel, MAX_PAYLOAD};
+use link_channels::Channel;
 use outside_net::Link;
 use rist_ends::{Told, What};
 use rist_wire::{Item, WireBad};
@@ -35,11 +35,11 @@ fn step_item<S: Flows<U, M>, U, M, L: Link, R: Wait>(
     ensures desk { access.new.desk ≡ access.old.desk }
     ensures own { S.owns access.old.desk.now turn.place own.new }
     ensures left { S.good_for own.old ≤ S.good_for own.new + 1 }
-    ensures ok { OnOk result (Goes S.work (holds (S.tells.list own.old) (L.taken link.old))
-        (holds (S.tells.list own.new) (L.taken link.new))
+    ensures ok { OnOk result (Goes S.work (holds (S.tells.told own.old) (L.taken link.old))
+        (holds (S.tells.told own.new) (L.taken link.new))
         (item_step S.work.reading (L.knows link.old) turn.place turn.us (for_place, item.now) ∷ [])) }
-    ensures err { IfErr result (λ end. CutShort S.work end (holds (S.tells.list own.old) (L.taken link.old))
-        (holds (S.tells.list own.new) (L.taken link.new))
+    ensures err { IfErr result (λ end. CutShort S.work end (holds (S.tells.told own.old) (L.taken link.old))
+        (holds (S.tells.told own.new) (L.taken link.new))
         (item_step S.work.reading (L.knows link.old) turn.place turn.us (for_place, item.now) ∷ [])) }
     ensures inside { IfErr result IsInside }
     ensures full { result ≡ Err Ended.TraceFull → S.tells.Lacks own.new }
@@ -49,11 +49,10 @@ fn step_item<S: Flows<U, M>, U, M, L: Link, R: Wait>(
     ensures same { IsKept L.reads L.ends L.knows link.old link.new }
     ensures cause { RoseWhere (has_link_failed result) (L.faults link.old) (L.faults link.new) }
 {
-    let mut block = [0; MAX_PAYLOAD];
     let told = Told {
         link: turn.place,
         us: turn.us,
-        what: what_of(item, &mut block),
+        what: what_of(item, &mut access.payload),
     };
     access
         .desk
@@ -89,14 +88,14 @@ pub fn step_datagram<S: Flows<U, M>, U, M, L: Link, C, R: Wait>(
     ensures desk { access.new.desk ≡ access.old.desk }
     ensures own { S.owns access.old.desk.now turn.place worker.new.trace }
     ensures left { S.good_for worker.old.trace ≤ S.good_for worker.new.trace + 1 }
-    ensures ok { OnOk result (Goes S.work (holds (S.tells.list worker.old.trace) (L.taken worker.old.link))
-        (holds (S.tells.list worker.new.trace) (L.taken worker.new.link))
+    ensures ok { OnOk result (Goes S.work (holds (S.tells.told worker.old.trace) (L.taken worker.old.link))
+        (holds (S.tells.told worker.new.trace) (L.taken worker.new.link))
         (datagram_step S.work.reading (peers_by (S.work.reading.takes worker.old.opener channel octets.old).1
         (L.knew worker.old.link) (L.knows worker.old.link)) worker.old.opener turn.place turn.us channel octets.old
         ∷ [])) }
     ensures err { IfErr result (λ end. CutShort S.work end
-        (holds (S.tells.list worker.old.trace) (L.taken worker.old.link))
-        (holds (S.tells.list worker.new.trace) (L.taken worker.new.link))
+        (holds (S.tells.told worker.old.trace) (L.taken worker.old.link))
+        (holds (S.tells.told worker.new.trace) (L.taken worker.new.link))
         (datagram_step S.work.reading (peers_by (S.work.reading.takes worker.old.opener channel octets.old).1
         (L.knew worker.old.link) (L.knows worker.old.link)) worker.old.opener turn.place turn.us channel octets.old
         ∷ [])) }
@@ -137,11 +136,11 @@ pub fn step_tick<S: Flows<U, M>, U, M, L: Link, R: Wait>(
     ensures desk { access.new.desk ≡ access.old.desk }
     ensures own { S.owns access.old.desk.now turn.place own.new }
     ensures left { S.good_for own.old ≤ S.good_for own.new + 1 }
-    ensures ok { OnOk result (Goes S.work (holds (S.tells.list own.old) (L.taken link.old))
-        (holds (S.tells.list own.new) (L.taken link.new))
+    ensures ok { OnOk result (Goes S.work (holds (S.tells.told own.old) (L.taken link.old))
+        (holds (S.tells.told own.new) (L.taken link.new))
         (tick_steps S.work.reading (L.knows link.old) turn.place turn.us (is_tick_due ticked.old turn.us))) }
-    ensures err { IfErr result (λ end. CutShort S.work end (holds (S.tells.list own.old) (L.taken link.old))
-        (holds (S.tells.list own.new) (L.taken link.new))
+    ensures err { IfErr result (λ end. CutShort S.work end (holds (S.tells.told own.old) (L.taken link.old))
+        (holds (S.tells.told own.new) (L.taken link.new))
         (tick_steps S.work.reading (L.knows link.old) turn.place turn.us (is_tick_due ticked.old turn.us))) }
     ensures inside { IfErr result IsInside }
     ensures full { result ≡ Err Ended.TraceFull → S.tells.Lacks own.new }

@@ -33,8 +33,8 @@ fn datagram_turn<S: Flows<U, M>, U, M, L: Link, C, R: Wait>(
     ensures desk { access.new.desk ≡ access.old.desk }
     ensures own { S.owns access.old.desk.now turn.place worker.new.trace }
     ensures left { S.good_for worker.old.trace ≤ S.good_for worker.new.trace + 2 }
-    ensures gains { OnOk result (Goes S.work (holds (S.tells.list worker.old.trace) (L.taken worker.old.link))
-        (holds (S.tells.list worker.new.trace) (L.taken worker.new.link))
+    ensures gains { OnOk result (Goes S.work (holds (S.tells.told worker.old.trace) (L.taken worker.old.link))
+        (holds (S.tells.told worker.new.trace) (L.taken worker.new.link))
         (turn_steps S.work.reading (peers_by (S.work.reading.takes worker.old.opener channel octets.old).1
         (L.knew worker.old.link) (L.knows worker.old.link)) worker.old.opener turn.place ticked.old turn.us
         (Gave (record { channel = channel; octets = octets.old })))) }
@@ -42,8 +42,8 @@ fn datagram_turn<S: Flows<U, M>, U, M, L: Link, C, R: Wait>(
     ensures ticked { OnOk result (ticked.new ≡ ticked_after ticked.old turn.us) }
     ensures ended { (idle : Bool) → IfErr result (λ end. TurnEnds S.work end
         (end_by (Gave (record { channel = channel; octets = octets.old })) turn.last idle)
-        (holds (S.tells.list worker.old.trace) (L.taken worker.old.link))
-        (holds (S.tells.list worker.new.trace) (L.taken worker.new.link))
+        (holds (S.tells.told worker.old.trace) (L.taken worker.old.link))
+        (holds (S.tells.told worker.new.trace) (L.taken worker.new.link))
         (turn_steps S.work.reading (peers_by (S.work.reading.takes worker.old.opener channel octets.old).1
         (L.knew worker.old.link) (L.knows worker.old.link)) worker.old.opener turn.place ticked.old turn.us
         (Gave (record { channel = channel; octets = octets.old })))) }
@@ -77,14 +77,14 @@ fn quiet_turn<S: Flows<U, M>, U, M, L: Link, C, R: Wait>(
     ensures desk { access.new.desk ≡ access.old.desk }
     ensures own { S.owns access.old.desk.now turn.place worker.new.trace }
     ensures left { S.good_for worker.old.trace ≤ S.good_for worker.new.trace + 2 }
-    ensures gains { OnOk result (Goes S.work (holds (S.tells.list worker.old.trace) (L.taken worker.old.link))
-        (holds (S.tells.list worker.new.trace) (L.taken worker.new.link))
+    ensures gains { OnOk result (Goes S.work (holds (S.tells.told worker.old.trace) (L.taken worker.old.link))
+        (holds (S.tells.told worker.new.trace) (L.taken worker.new.link))
         (tick_steps S.work.reading (L.knows worker.old.link) turn.place turn.us (is_tick_due ticked.old turn.us))) }
     ensures going { OnOk result ((turn.last ≡ false) × (idle ≡ false)) }
     ensures ticked { OnOk result (ticked.new ≡ ticked_after ticked.old turn.us) }
     ensures ended { IfErr result (λ end. TurnEnds S.work end (end_by Quiet turn.last idle)
-        (holds (S.tells.list worker.old.trace) (L.taken worker.old.link))
-        (holds (S.tells.list worker.new.trace) (L.taken worker.new.link))
+        (holds (S.tells.told worker.old.trace) (L.taken worker.old.link))
+        (holds (S.tells.told worker.new.trace) (L.taken worker.new.link))
         (tick_steps S.work.reading (L.knows worker.old.link) turn.place turn.us (is_tick_due ticked.old turn.us))) }
     ensures same { IsKept L.reads L.ends L.knows worker.old.link worker.new.link }
     ensures rest { KeepsRest worker.old worker.new }
@@ -103,7 +103,8 @@ fn quiet_turn<S: Flows<U, M>, U, M, L: Link, C, R: Wait>(
     if idle { Err(Ended::Idle) } else { Ok(()) }
 }
 
-/// Makes one turn: one moment, one read, the step of the datagram and a tick. Where it is the last, its error says why.
+/// Makes one turn: one moment, one read into the block, the step of the datagram and a tick. Where it is the last, its error
+/// says why.
 pub fn make_turn<S: Flows<U, M>, U, M, L: Link, C: Clock, R: Wait>(
     access: &mut Access<'_, R, S, M>,
     worker: &mut Worker<L, C, U>,
@@ -111,6 +112,7 @@ pub fn make_turn<S: Flows<U, M>, U, M, L: Link, C: Clock, R: Wait>(
     limits: &ServingLimits,
     last: bool,
     pace: &mut Pace,
+    block: &mut [u8; MAX_DATAGRAM],
 ) -> Result<(), Ended>
     requires place { place < MAX_LINKS }
     requires own { S.owns access.old.desk.now place worker.old.trace }
@@ -122,18 +124,18 @@ pub fn make_turn<S: Flows<U, M>, U, M, L: Link, C: Clock, R: Wait>(
         → IsTask f worker.old.opener place limits.now → last ≡ nat_le f.turns (n + 1)
         → IsGoing S.work f n (L.knows worker.old.link) (C.moments worker.old.clock)
         (L.reads worker.old.link)
-        first (holds (S.tells.list worker.old.trace) (L.taken worker.old.link)) pace.old.ticked pace.old.since
+        first (holds (S.tells.told worker.old.trace) (L.taken worker.old.link)) pace.old.ticked pace.old.since
         → IsGoing S.work f (n + 1) (L.knows worker.new.link) (C.moments worker.new.clock)
         (L.reads worker.new.link)
-        first (holds (S.tells.list worker.new.trace) (L.taken worker.new.link)) pace.new.ticked pace.new.since) }
+        first (holds (S.tells.told worker.new.trace) (L.taken worker.new.link)) pace.new.ticked pace.new.since) }
     ensures ended { IfErr result (λ end. (f : Feed) (n : ℕ) (first : Holds S.Kept)
         → IsTask f worker.old.opener place limits.now → last ≡ nat_le f.turns (n + 1)
         → IsGoing S.work f n (L.knows worker.old.link) (C.moments worker.old.clock)
         (L.reads worker.old.link)
-        first (holds (S.tells.list worker.old.trace) (L.taken worker.old.link)) pace.old.ticked pace.old.since
+        first (holds (S.tells.told worker.old.trace) (L.taken worker.old.link)) pace.old.ticked pace.old.since
         → IsServed S.work f (L.knows worker.new.link) end (C.moments worker.new.clock)
         (L.reads worker.new.link)
-        first (holds (S.tells.list worker.new.trace) (L.taken worker.new.link))) }
+        first (holds (S.tells.told worker.new.trace) (L.taken worker.new.link))) }
     ensures more { OnOk result (last ≡ false) }
     ensures full { result ≡ Err Ended.TraceFull
         → S.tells.Lacks worker.new.trace }
@@ -146,8 +148,7 @@ pub fn make_turn<S: Flows<U, M>, U, M, L: Link, C: Clock, R: Wait>(
     ensures faults { RoseWhere (has_link_failed result) (L.faults worker.old.link) (L.faults worker.new.link) }
 {
     let us = worker.clock.now();
-    let mut block = [0; MAX_DATAGRAM];
-    let got = worker.link.read(&mut block);
+    let got = worker.link.read(block);
     let from = since_then(pace.since, us, &got);
     pace.since = Some(from);
     pace.rest = rest_after(pace.ticked, from, us, &got);

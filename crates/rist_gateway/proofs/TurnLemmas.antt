@@ -8,7 +8,7 @@ use Rattle.rist_desk.specs.declared.worker.ServingLimits.{ServingLimits}
 use Rattle.rist_desk.specs.declared.worker.Worker.{Worker}
 use Rattle.rist_desk.specs.Serving.{MayServe}
 use Rattle.turn_lock.specs.declared.pass.Pass.{Pass}
-use Rattle.turn_lock.specs.Passes.{IsFresh, entries_with, turns_left}
+use Rattle.turn_lock.specs.Passes.{IsFresh, entries_with, turns_left, turns_seen}
 use Rattle.turn_desk.specs.declared.desk.TurnDesk.{TurnDesk}
 use Rattle.turn_desk.specs.declared.shared.Shared.{Shared}
 use Rattle.turn_desk.specs.Own.{AreFreshFor, AreOf, IsBeside, IsOf}
@@ -141,5 +141,5 @@ first_place (z ∷ xs) ys (suc k) x e = first_place xs ys k x e
 
 -- fresh passes added nothing
 pub fresh_nothing : {N K : Type 0} (desk : TurnDesk N K) (n : ℕ) (passes : List (Pass Step (Shared N K))) → AreFreshFor desk passes
-    → (k : ℕ) (p : Pass Step (Shared N K)) → slice_get (take n passes) k ≡ Some p → entries_with p ≡ []
-fresh_nothing desk n passes fresh k p e = (fresh.each k p (in_front n passes k p e)).added_nothing
+    → (k : ℕ) (p : Pass Step (Shared N K)) → slice_get (take n passes) k ≡ Some p → (entries_with p ≡ []) × (turns_seen p ≡ [])
+fresh_nothing desk n passes fresh k p e = let f = fresh.each k p (in_front n passes k p e) in (f.added_nothing, f.seen)

@@ -34,17 +34,21 @@ pub record SharedTells (S U P : Type 0) : Type 1 where
   pub broken : U → Type 0
   pub sides : SidesTell S P
 
+-- what a trace tells, as a trait has it
+abbrev pub trace_as : {U : Type 0} → (U → Option (List Step)) → (U → Option (List Step)) → (U → Option ℕ) → TraceTells U
+trace_as list seen limit = record { list = list; seen = seen; limit = limit }
+
 -- these, as a trait has them
 abbrev pub sides_as : {S P : Type 0} → (S → ℕ → P → Type 0) → (P → ℕ) → (ℕ → ℕ → Side → Type 0) → SidesTell S P
 sides_as is_of left looks = record { is_of = is_of; left = left; looks = looks }
 
 -- what is shared, as a trait has it, with what its side workers look at
-abbrev pub shared_as : {S U P : Type 0} → Given → (U → Option (List Step)) → (U → Option ℕ) → (S → ℕ → U → Type 0)
-    → (U → ℕ) → (U → Type 0) → SidesTell S P → SharedTells S U P
-shared_as given list limit is_of left broken sides =
+abbrev pub shared_as : {S U P : Type 0} → Given → TraceTells U → (S → ℕ → U → Type 0) → (U → ℕ) → (U → Type 0)
+    → SidesTell S P → SharedTells S U P
+shared_as given trace is_of left broken sides =
     record {
       given = given;
-      trace = record { list = list; limit = limit };
+      trace = trace;
       is_of = is_of;
       left = left;
       broken = broken;

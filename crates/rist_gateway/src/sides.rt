@@ -6,7 +6,7 @@ ghost use Rattle.rist_desk.specs.Serving.{MayServe};
 ghost use Rattle.rist_desk.specs.declared.worker.Worker.{Worker as ServedWorker};
 ghost use Rattle.rist_gateway.specs.declared.either_worker.EitherWorker.{EitherWorker as ServedPart};
 ghost use Rattle.rist_gateway.specs.declared.side_worker.SideWorker.{SideWorker as Side};
-ghost use Rattle.rist_gateway.specs.Workers.{ServesWith, shared_as, sides_as, side_clock};
+ghost use Rattle.rist_gateway.specs.Workers.{ServesWith, shared_as, trace_as, sides_as, side_clock};
 ghost use Rattle.rist_gateway.specs.Inside.Sides.{HasRoom, LookAtLinks, MayLookAtLinks, receiving_part, sending_part};
 ghost use Rattle.rist_gateway.specs.Inside.Sides.{seated_sides, sending_parts, side_pass};
 
@@ -189,7 +189,7 @@ pub(crate) fn serve_both<
         (length workers.old.items) parts.old.items }
     ensures count { length workers.new.items ≡ length workers.old.items }
     ensures on { (i : ℕ) (d : _) → i < length workers.old.items → ServesWith
-        (shared_as S.given S.list S.limit S.is_of S.left S.broken
+        (shared_as S.given (trace_as S.list S.seen S.limit) S.is_of S.left S.broken
         (sides_as S.is_beside S.looks_left S.looks)) desk.now C.moments
         ⟦<L as TellingLink>⟧.tells
         limits.now i (slice_index_or workers.old.items i d) (slice_index_or workers.new.items i d) }

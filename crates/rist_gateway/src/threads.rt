@@ -1,6 +1,7 @@
 //! Links served on both sides of what is shared.
 ghost use Rattle.std.specs.Prelude.{◌≡◌, ◌<◌, ◌≤◌, ◌+◌, ◌^◌, ℕ, Some, IfNone, false, length, slice_index_or};
-ghost use Rattle.rist_gateway.specs.Workers.{IsPlaced, LooksWith, MayBegin, MayLook, ServesPart, shared_as, sides_as};
+ghost use Rattle.rist_gateway.specs.Workers.{IsPlaced, LooksWith, MayBegin, MayLook, ServesPart};
+ghost use Rattle.rist_gateway.specs.Workers.{shared_as, sides_as, trace_as};
 ghost use Rattle.rist_gateway.specs.Sides.{IsSideServed, SideTurn};
 
 use crate::either_worker::EitherWorker;
@@ -107,9 +108,9 @@ fn serve_part<S: Shares<U> + SharesBeside<P>, L: Link, C: Clock, U, D: Clock, P,
 )
     requires placed { IsPlaced part.old place }
     requires turns { (0 < limits.now.turns) × (limits.now.turns ≤ 2 ^ 40) }
-    requires may { MayBegin (shared_as S.given S.list S.limit S.is_of S.left S.broken
+    requires may { MayBegin (shared_as S.given (trace_as S.list S.seen S.limit) S.is_of S.left S.broken
         (sides_as S.is_beside S.looks_left S.looks)) desk.now limits.now place part.old }
-    ensures { ServesPart (shared_as S.given S.list S.limit S.is_of S.left S.broken
+    ensures { ServesPart (shared_as S.given (trace_as S.list S.seen S.limit) S.is_of S.left S.broken
         (sides_as S.is_beside S.looks_left S.looks)) desk.now C.moments D.moments
         ⟦<L as TellingLink>⟧.tells
         limits.now place part.old part.new }
@@ -135,10 +136,10 @@ pub fn gate<
     requires placed { (i : ℕ) (d : _) → i < length parts.old → IsPlaced (slice_index_or parts.old i d) i }
     requires turns { (0 < limits.now.turns) × (limits.now.turns ≤ 2 ^ 40) }
     requires may { (i : ℕ) (d : _) → i < length parts.old → MayBegin
-        (shared_as S.given S.list S.limit S.is_of S.left S.broken
+        (shared_as S.given (trace_as S.list S.seen S.limit) S.is_of S.left S.broken
         (sides_as S.is_beside S.looks_left S.looks)) desk.now limits.now i (slice_index_or parts.old i d) }
     ensures { (i : ℕ) (d : _) → i < length parts.old → ServesPart
-        (shared_as S.given S.list S.limit S.is_of S.left S.broken
+        (shared_as S.given (trace_as S.list S.seen S.limit) S.is_of S.left S.broken
         (sides_as S.is_beside S.looks_left S.looks)) desk.now C.moments D.moments
         ⟦<L as TellingLink>⟧.tells
         limits.now i (slice_index_or parts.old i d) (slice_index_or parts.new i d) }

@@ -1,7 +1,8 @@
 //! The run.
 ghost use Rattle.std.specs.Prelude.{◌≡◌, ◌<◌, ◌≤◌, ◌^◌, ℕ, List, length, reverse, slice_index_or, is_some, true, false};
 ghost use Rattle.link_channels.specs.declared.bounds.TheConstants.{MAX_LINKS};
-ghost use Rattle.std.specs.Prelude.{Some};
+ghost use Rattle.std.specs.Prelude.{None, Some};
+ghost use Rattle.rist_desk.specs.Work.{own_told};
 ghost use Rattle.outside_io.specs.Causes.{RoseWhere};
 ghost use Rattle.rist_compare.specs.declared.tear.Tear.{Tear};
 ghost use Rattle.rist_ends.specs.Receiver.{settings_of};
@@ -46,10 +47,11 @@ fn named_run<
     requires turns { (0 < limits.now.turns) × (limits.now.turns ≤ 2 ^ 40) }
     ensures served { (i : ℕ) (d : _) → i < length workers.old → Serves C.moments
         ⟦<L as TellingLink>⟧.tells
-        U.list limits.now i (slice_index_or workers.old i d) (slice_index_or workers.new i d) }
+        (λ own. own_told (U.list own) None) limits.now i (slice_index_or workers.old i d)
+        (slice_index_or workers.new i d) }
     ensures on { (i : ℕ) (d : _) → i < length workers.old → ServesOn N.given C.moments
         ⟦<L as TellingLink>⟧.tells
-        (record { list = U.list; limit = U.limit }) limits.now i
+        (record { list = U.list; seen = λ own. None; limit = U.limit }) limits.now i
         (slice_index_or workers.old i d) (slice_index_or workers.new i d) }
     ensures stands { (steps : List Step) → T.list result.trace ≡ Some steps → StandsFor N.given
         (state_of result.receiver (T.list result.trace) (T.limit result.trace)
@@ -103,13 +105,14 @@ pub fn receive<
     // Each worker's own list and link hold its turns' steps and what these made.
     ensures served { (i : ℕ) (d : _) → i < length workers.old → Serves C.moments
         ⟦<L as TellingLink>⟧.tells
-        U.list limits.now i (slice_index_or workers.old i d) (slice_index_or workers.new i d) }
+        (λ own. own_told (U.list own) None) limits.now i (slice_index_or workers.old i d)
+        (slice_index_or workers.new i d) }
     // What it wrote is what its steps made by the rules, where the desk's trace tells its steps; and why a trace was
     // full is told.
     ensures on { (i : ℕ) (d : _) → i < length workers.old → ServesOn
         (given_by (state_of receiver (T.list trace) (T.limit trace) (K.contents sink) (K.faults sink))) C.moments
         ⟦<L as TellingLink>⟧.tells
-        (record { list = U.list; limit = U.limit }) limits.now i
+        (record { list = U.list; seen = λ own. None; limit = U.limit }) limits.now i
         (slice_index_or workers.old i d) (slice_index_or workers.new i d) }
     // However it ends, the kept list is a legal history of the receiver, and the sink holds what it releases.
     ensures stands { (steps : List Step) → T.list result.trace ≡ Some steps → StandsFor

@@ -84,7 +84,7 @@ module _ {L C : Type 0} (live : TellsLive L C) (s : ReceiveSetup) (limits : Work
       (subst (λ x. IsFeed f s.session place limits (live.moments clock) (live.line.reads x) (live.line.knows x)) (sym same_link) feed)) in
       let did = served.made.served f fed in
       let ms = did.own.done ++ last_in did.own.last in
-      let list : unwrap_or new.trace.list [] ≡ steps_in ms = gained old.trace.list new.trace.list (steps_in ms) (begun.list ∙ ap no_steps tells_it) did.own.gains.0 in
+      let list : unwrap_or new.trace.list [] ≡ steps_in ms = gained old.trace.list new.trace.list (steps_in ms) (begun.list ∙ ap no_steps tells_it) did.own.gains.list in
       let told : unwrap_or new.trace.list [] ≡ steps =
       some_same (unwrap_or new.trace.list []) steps (sym (slice_get-map (λ (w : Worker L C ToldTrace). unwrap_or w.trace.list []) run.are place ∙ ap (option_map (λ (w : Worker L C ToldTrace). unwrap_or w.trace.list [])) is.1) ∙ at) in
       record {

@@ -3,10 +3,11 @@ use Rattle.std.specs.Prelude.{ℕ, List, Option}
 use Rattle.outside_io.specs.Told.{Passage}
 use Rattle.outside_net.specs.Links.{LinkTells}
 
--- what remains of its sources, what its sinks hold and which random words remain, where they tell, and how many calls
--- of each failed
+-- what remains of its sources, as octets or as the payloads of datagrams, what its sinks hold and which random words
+-- remain, where they tell, and how many calls of each failed
 pub record Tells (I O E : Type 0) : Type 0 where
   pub remaining : I → Option (List ℕ)
+  pub payloads : I → Option (List (List ℕ))
   pub read_faults : I → ℕ
   pub contents : O → Option (List ℕ)
   pub write_faults : O → ℕ

@@ -15,6 +15,7 @@ pub trait Telling: Host {
 impl<H: Host> Telling for H {
     ghost objects = { record {
       remaining = H.Input.remaining;
+      payloads = H.Input.payloads;
       read_faults = H.Input.faults;
       contents = H.Output.contents;
       write_faults = H.Output.faults;

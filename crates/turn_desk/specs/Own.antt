@@ -18,6 +18,10 @@ AreOf link (s ∷ steps) = (s.link ≡ link) × AreOf link steps
 abbrev pub own_list : {X : Type 0} → Pass Step X → Option (List Step)
 own_list pass = Some (reverse (entries_with pass))
 
+-- all steps of the turns that a pass has seen, its own and those of others, the oldest first
+abbrev pub all_seen : {X : Type 0} → Pass Step X → Option (List Step)
+all_seen pass = Some (reverse (entries (turns_seen pass)))
+
 -- by the turns that it has seen, a write of the sink has failed
 abbrev pub HasSeenFault : {X : Type 0} → Pass Step X → Type 0
 HasSeenFault pass = phase_of (entries (turns_seen pass)) ≢ Open

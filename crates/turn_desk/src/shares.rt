@@ -14,11 +14,13 @@ use turn_lock::Pass;
 impl<N: DeskOrigin, K: Sink + Drop> Shares<Pass<Step, Shared<N, K>>> for TurnDesk<N, K> {
     ghost use Rattle.std.specs.Prelude.{None};
     ghost use Rattle.turn_lock.specs.Passes.{turns_left};
-    ghost use Rattle.turn_desk.specs.Own.{IsOf, own_list, HasSeenFault};
+    ghost use Rattle.turn_desk.specs.Own.{IsOf, all_seen, own_list, HasSeenFault};
 
     ghost given = { N.given };
 
     ghost list = { own_list };
+
+    ghost seen = { all_seen };
 
     ghost limit = { λ pass. None };
 

@@ -48,7 +48,7 @@ returns-clause-work g c = λ session of_session.
       openers_are = seated.ensures.openers;
       session_is = of_session;
       passes_are = ap (map pass_of) seated.ensures.own ∙ c.row_passes-own.ensures.passes;
-      fresh = λ k p e. (c.requires.passes.each k p e).added_nothing;
+      fresh = λ k p e. let f = c.requires.passes.each k p e in (f.added_nothing, f.seen);
       unended = seated.ensures.ends;
       as_many = c.serve_flows.auto.workers ∙ ap length c.deref_mut.ensures.value;
       served = λ i d less.

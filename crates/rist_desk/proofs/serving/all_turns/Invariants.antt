@@ -17,7 +17,7 @@ invariant-turns g l = record {
   faults : g.L.Link.faults l.worker.link ≡ g.L.Link.faults l.initial.worker.link;
   going : (f : Feed) → IsFeed f l.initial.worker.opener l.place l.limits (g.C.Clock.moments l.initial.worker.clock) (g.L.Link.reads l.initial.worker.link) (g.L.Link.knows l.initial.worker.link)
       → IsGoing g.S.Flows.work f l.made (g.L.Link.knows l.worker.link) (g.C.Clock.moments l.worker.clock) (g.L.Link.reads l.worker.link)
-      (holds (g.S.Flows.tells.list l.initial.worker.trace) (g.L.Link.taken l.initial.worker.link)) (holds (g.S.Flows.tells.list l.worker.trace) (g.L.Link.taken l.worker.link)) l.pace.ticked l.pace.since;
+      (holds (g.S.Flows.tells.told l.initial.worker.trace) (g.L.Link.taken l.initial.worker.link)) (holds (g.S.Flows.tells.told l.worker.trace) (g.L.Link.taken l.worker.link)) l.pace.ticked l.pace.since;
 }
 
 abbrev pub decreases-turns : goal.decreases-turns

@@ -1,7 +1,7 @@
 -- What the workers, the desk and its end leave, together.
 use Rattle.outside_io.specs.Causes.{RoseWhere}
 use Rattle.desk_run.specs.Endings.{is_write_fault}
-use Rattle.std.proofs.Common.{ℕ, arith, ◌≡◌, ◌≤◌, ◌∙◌, refl, map, ap, sym, subst, reverse, List, Some}
+use Rattle.std.proofs.Common.{ℕ, arith, ◌≡◌, ◌≤◌, ◌∙◌, refl, map, ap, sym, subst, reverse, List, None, Some}
 use Rattle.std.proofs.lemmas.List.{length-map}
 use Rattle.std.specs.Prelude.{slice_index_or}
 use Rattle.rist_desk.specs.Desk.{DeskState, Given, StandsFor, state_of}
@@ -48,7 +48,7 @@ serve_both-requires-clause-may_look g c κs within = λ were is place d less. re
 
 pub returns-clause-work : goal.returns-clause-work
 returns-clause-work g c =
-    let trace : TraceTells g.row.T.Denot = record { list = g.T.Trace.list; limit = g.T.Trace.limit } in
+    let trace : TraceTells g.row.T.Denot = record { list = g.T.Trace.list; seen = λ own. None; limit = g.T.Trace.limit } in
     let made = c.args.end.made in
     let r = c.conclude-ending.result in
     let first = c.seated-workers.result.items in

@@ -5,7 +5,7 @@ use Rattle.rist_desk.specs.declared.worker.Worker.{Worker}
 use Rattle.outside_net.specs.Links.{LinkTells}
 use Rattle.rist_desk.specs.Serving.{MayServe}
 use Rattle.rist_gateway.specs.declared.either_worker.EitherWorker.{EitherWorker}
-use Rattle.rist_gateway.specs.Workers.{IsPlaced, LooksWith, MayBegin, MayLook, ServesPart, ServesWith, SharedTells, shared_as, sides_as}
+use Rattle.rist_gateway.specs.Workers.{IsPlaced, LooksWith, MayBegin, MayLook, ServesPart, ServesWith, SharedTells, shared_as, sides_as, trace_as}
 use Rattle.rist_gateway.specs.Inside.Sides.{LookedWith, receiving_part, sending_part}
 use Rattle.rist_gateway.proofs.GatherLemmas.{Served, reverse_twice, placed_from, may_from, parts_served}
 use Rattle.rist_gateway.proofs.LendLemmas.{sides_same}
@@ -13,7 +13,7 @@ use Rattle.rist_gateway.proofs.sides.serve_both.Given as given
 use Rattle.rist_gateway.proofs.sides.serve_both.Goals as goal
 
 abbrev tells_of : (g : given.Over) → SharedTells g.row.S.Denot g.row.U.Denot g.row.P.Denot
-tells_of g = shared_as g.S.Shares.given g.S.Shares.list g.S.Shares.limit g.S.Shares.is_of g.S.Shares.left g.S.Shares.broken
+tells_of g = shared_as g.S.Shares.given (trace_as g.S.Shares.list g.S.Shares.seen g.S.Shares.limit) g.S.Shares.is_of g.S.Shares.left g.S.Shares.broken
     (sides_as g.S.SharesBeside.is_beside g.S.SharesBeside.looks_left g.S.SharesBeside.looks)
 
 abbrev links_of : (g : given.Over) → LinkTells g.row.L.Denot

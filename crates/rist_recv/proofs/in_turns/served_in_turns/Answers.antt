@@ -51,7 +51,7 @@ returns-clause-work g c = λ s contents faults given free told delay session.
       openers_are = c.seated_with-workers.ensures.openers;
       session = session;
       passes_are = c.seated_with-workers.ensures.own;
-      fresh = λ k p e. (c.requires.passes.each k p e).added_nothing;
+      fresh = λ k p e. let f = c.requires.passes.each k p e in (f.added_nothing, f.seen);
       unended = c.seated_with-workers.ensures.ends;
       as_many = c.serve.auto.workers ∙ ap length c.deref_mut.ensures.value;
       served = λ i d less.

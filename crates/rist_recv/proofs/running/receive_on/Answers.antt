@@ -1,5 +1,5 @@
 -- What the workers and the desk leave, together.
-use Rattle.std.proofs.Common.{◌≡◌, ◌<◌, ◌∙◌, refl, map, length, ap, sym, subst, reverse, List, Some}
+use Rattle.std.proofs.Common.{◌≡◌, ◌<◌, ◌∙◌, refl, map, length, ap, sym, subst, reverse, List, None, Some}
 use Rattle.std.proofs.lemmas.List.{length-map}
 use Rattle.std.specs.Prelude.{slice_index_or, is_some}
 use Rattle.rist_desk.specs.Desk.{DeskState, Given, StandsFor, state_of}
@@ -16,7 +16,7 @@ use Rattle.rist_recv.proofs.running.receive_on.Goals as goal
 
 pub returns-clause-work : goal.returns-clause-work
 returns-clause-work g c =
-    let trace : TraceTells g.row.T.Denot = record { list = g.T.Trace.list; limit = g.T.Trace.limit } in
+    let trace : TraceTells g.row.T.Denot = record { list = g.T.Trace.list; seen = λ own. None; limit = g.T.Trace.limit } in
     let made = c.args.made in
     let r = c.receive-received.result in
     let later = c.receive-received.new.workers in

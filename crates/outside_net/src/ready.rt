@@ -1,0 +1,52 @@
+//! Which sockets of a link have something to read, as the system says.
+ghost use Rattle.std.specs.Prelude.{◌≡◌};
+ghost use Rattle.outside_net.specs.Sockets.{is_ready};
+
+use link_channels::Channel;
+
+/// Of media's socket and of control's, whether a read of it may give anything.
+#[derive(Clone, Copy)]
+pub struct Ready {
+    media: bool,
+    control: bool,
+}
+
+impl Ready {
+    ghost use Rattle.std.specs.Prelude.{◌≡◌, ◌||◌};
+    ghost use Rattle.outside_net.specs.Sockets.{is_ready, has_ready};
+
+    /// What a look of the system at both came to: its answer, and what it told of each socket.
+    pub fn of(count: i32, media: i16, control: i16) -> Ready
+        ensures value { result ≡ record { media = is_ready count media; control = is_ready count control } }
+    {
+        Ready {
+            media: is_ready(count, media),
+            control: is_ready(count, control),
+        }
+    }
+
+    /// Whether any has something.
+    pub fn any(self) -> bool
+        ensures value { result ≡ (self.media || self.control) }
+    {
+        self.media || self.control
+    }
+
+    /// Whether a channel's socket is to be looked at. That of a tunnel is in any case.
+    pub fn has(self, channel: Channel) -> bool
+        ensures value { result ≡ has_ready self channel }
+    {
+        match channel {
+            Channel::Media => self.media,
+            Channel::Control => self.control,
+            Channel::Tunnel => true,
+        }
+    }
+}
+
+/// A socket of which the system told anything, a fault too, is read; and each one, where the look itself failed.
+fn is_ready(count: i32, told: i16) -> bool
+    ensures value { result ≡ is_ready count told }
+{
+    count < 0 || told != 0
+}
