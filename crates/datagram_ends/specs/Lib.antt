@@ -1,2 +1,3 @@
 pub mod Media
 pub mod Ends
+pub mod Held

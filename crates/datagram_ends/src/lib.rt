@@ -10,7 +10,7 @@ mod udp_out;
 mod udp_source;
 
 pub use datagram_sink::DatagramSink;
-pub use media::media_of;
+pub use media::{media_of, payload_of};
 pub use out::DatagramOut;
 pub use udp_out::UdpOut;
 pub use udp_source::UdpSource;

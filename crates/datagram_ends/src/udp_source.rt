@@ -1,14 +1,15 @@
 //! A source over UDP. What the system gives is not told: the trusted edge of the system.
-ghost use Rattle.std.specs.Prelude.{◌≡◌, ◌≤◌, ℕ, Bool, true, Ok, Some, length};
+ghost use Rattle.std.specs.Prelude.{◌≡◌, ◌≤◌, ℕ, Bool, true, false, Ok, Some, IfOk, length};
 ghost use Rattle.std.specs.Io.{ReadsAtMost};
+ghost use Rattle.link_channels.specs.declared.bounds.TheConstants.{MAX_PAYLOAD as max_payload};
 ghost use Rattle.outside_io.specs.Causes.{HasCause};
 
-use crate::media::media_of;
+use crate::media::payload_of;
 use crate::sockets::{is_no_fault, quick_socket};
 use end_sign::EndSign;
 use libc::net::{POLLIN, poll};
 use libc::types::pollfd;
-use link_channels::MAX_DATAGRAM;
+use link_channels::{MAX_DATAGRAM, MAX_PAYLOAD};
 use media_address::{Form, MediaAddress};
 use outside_io::{Failed, Source, copy_front};
 use std::io;
@@ -21,18 +22,18 @@ const MAX_LOOKS: usize = 64;
 /// For how long a wait for a datagram lasts at most, in milliseconds, before the sign is looked at again.
 const WAIT_MS: i32 = 100;
 
-/// A socket that is bound to an address, what is left of the datagram that it gave last, and a sign that ends the source. A read
-/// waits for a datagram that carries octets of the stream; one of more than 2,048 octets is dropped. What it has still to give is
-/// not told.
+/// A socket that is bound to an address, what is left of the payload that it took last, and a sign that ends the source. Each datagram
+/// gives its payload whole, and no octets of two are put together. A read waits for a datagram with a payload: an empty one is passed over,
+/// and one with more than 1,500 octets of the stream, or of more than 2,048 octets, is dropped. What it has still to give is not told.
 #[derive(Drop)]
 pub struct UdpSource<E> {
     socket: UdpSocket,
     form: Form,
     sign: E,
-    block: [u8; MAX_DATAGRAM],
+    block: [u8; MAX_PAYLOAD],
     from: usize,
     to: usize,
-    ghost ordered: { (from ≤ to) × (to ≤ 2048) },
+    ghost ordered: { (from ≤ to) × (to ≤ 1500) },
     /// A look has failed, and no read has told that yet.
     has_failed: bool,
     faults: u64,
@@ -62,7 +63,7 @@ impl<E: Drop> UdpSource<E> {
             socket,
             form: address.form,
             sign,
-            block: [0; MAX_DATAGRAM],
+            block: [0; MAX_PAYLOAD],
             from: 0,
             to: 0,
             has_failed: false,
@@ -72,9 +73,25 @@ impl<E: Drop> UdpSource<E> {
 }
 
 impl<E> UdpSource<E> {
-    /// Whether octets of a datagram are left.
-    fn holds(&self) -> bool {
+    ghost use Rattle.std.specs.Prelude.{◌≡◌, ◌≤◌, [], false, length, min, take};
+    ghost use Rattle.datagram_ends.specs.Media.{payload_of};
+    ghost use Rattle.datagram_ends.specs.Held.{held_by};
+
+    /// Whether octets of a payload are left.
+    fn holds(&self) -> bool
+        ensures none { result ≡ false → held_by self.now ≡ [] }
+    {
         self.from < self.to
+    }
+
+    /// Holds the payload of a datagram, all of it.
+    fn hold(&mut self, datagram: &[u8])
+        ensures held { held_by self.new ≡ payload_of self.old.form datagram.now }
+        ensures form { self.new.form ≡ self.old.form }
+        ensures faults { self.new.faults ≡ self.old.faults }
+    {
+        self.from = 0;
+        self.to = copy_front(payload_of(self.form, datagram), &mut self.block);
     }
 
     /// Takes the next datagram, if one is there, in place of what is left of the last one.
@@ -88,7 +105,7 @@ impl<E> UdpSource<E> {
         match self.socket.recv_from(&mut datagram) {
             Ok((count, _)) => {
                 if count <= MAX_DATAGRAM {
-                    self.to = copy_front(media_of(self.form, &datagram[..count]), &mut self.block);
+                    self.hold(&datagram[..count]);
                 }
                 Look::Took
             }
@@ -102,14 +119,25 @@ impl<E> UdpSource<E> {
         }
     }
 
-    /// Gives what is left of the last datagram, as much as fits.
+    /// Gives what is left of the last payload, as much as fits.
     fn give(&mut self, buf: &mut [u8]) -> usize
         ensures within { result ≤ length buf.new }
+        ensures count { result ≡ min (length buf.old) (length (held_by self.old)) }
+        ensures given { take result buf.new ≡ take result (held_by self.old) }
         ensures faults { self.new.faults ≡ self.old.faults }
     {
         let count = copy_front(&self.block[self.from..self.to], buf);
         self.from += count;
         count
+    }
+
+    /// Gives what is left of the last payload, all of it.
+    fn give_whole(&mut self, block: &mut [u8; MAX_PAYLOAD]) -> usize
+        ensures within { result ≤ max_payload }
+        ensures whole { take result block.new ≡ held_by self.old }
+        ensures faults { self.new.faults ≡ self.old.faults }
+    {
+        self.give(block)
     }
 
     /// Waits until a datagram is there, or a tenth of a second has passed.
@@ -162,14 +190,13 @@ impl<E: EndSign> UdpSource<E> {
         }
     }
 
-    /// Gives octets of the last datagram, or of the next one that carries some, for which it waits.
-    fn read_on(&mut self, buf: &mut [u8]) -> Result<usize, Failed>
-        ensures within { ReadsAtMost result buf.new }
+    /// Waits until octets of a payload are held. Whether some are: none are where the program is to end.
+    fn hold_next(&mut self) -> Result<bool, Failed>
         ensures cause { HasCause self.old.faults self.new.faults result }
     {
         for _ in 0..u64::MAX {
             if self.holds() {
-                return Ok(self.give(buf));
+                return Ok(true);
             }
             if self.has_failed {
                 self.has_failed = false;
@@ -180,26 +207,52 @@ impl<E: EndSign> UdpSource<E> {
                 Look::Took => {}
                 Look::Nothing => {
                     if self.sign.asked() {
-                        return Ok(0);
+                        return Ok(false);
                     }
                     self.wait();
                 }
                 Look::Failed => self.has_failed = true,
             }
         }
-        Ok(0)
+        Ok(false)
     }
 
-    /// Reads on, unless the program is to end: then it gives its end.
+    /// The same, unless the program is to end: then none are.
+    fn hold_or_end(&mut self) -> Result<bool, Failed>
+        ensures ended { (s : ℕ → Bool) → E.answers self.old.sign ≡ Some s → s 0 ≡ true → result ≡ Ok false }
+        ensures cause { HasCause self.old.faults self.new.faults result }
+    {
+        if self.sign.asked() {
+            return Ok(false);
+        }
+        self.hold_next()
+    }
+
+    /// Gives octets of the last payload, or of the next one, for which it waits. Where the program is to end it gives its end.
     fn read_or_end(&mut self, buf: &mut [u8]) -> Result<usize, Failed>
         ensures within { ReadsAtMost result buf.new }
         ensures ended { (s : ℕ → Bool) → E.answers self.old.sign ≡ Some s → s 0 ≡ true → result ≡ Ok 0 }
         ensures cause { HasCause self.old.faults self.new.faults result }
     {
-        if self.sign.asked() {
-            return Ok(0);
+        match self.hold_or_end() {
+            Ok(true) => Ok(self.give(buf)),
+            Ok(false) => Ok(0),
+            Err(bad) => Err(bad),
         }
-        self.read_on(buf)
+    }
+
+    /// Gives the next payload, whole, or what is left of the last one, and says how long it is. It waits for one. 0 is its end, where the
+    /// program is to end.
+    pub fn read_payload(&mut self, block: &mut [u8; MAX_PAYLOAD]) -> Result<usize, Failed>
+        ensures within { IfOk result (λ count. count ≤ max_payload) }
+        ensures ended { (s : ℕ → Bool) → E.answers self.old.sign ≡ Some s → s 0 ≡ true → result ≡ Ok 0 }
+        ensures cause { HasCause self.old.faults self.new.faults result }
+    {
+        match self.hold_or_end() {
+            Ok(true) => Ok(self.give_whole(block)),
+            Ok(false) => Ok(0),
+            Err(bad) => Err(bad),
+        }
     }
 }
 

@@ -7,6 +7,7 @@ ghost use Rattle.block_source.specs.Block.{between};
 ghost use Rattle.gathered_source.specs.Gathered.{most_gathered, HasGathered};
 
 use crate::ReadySource;
+use link_channels::MAX_PAYLOAD;
 use live_source::LiveSource;
 use outside_io::{Failed, Source, copy_front};
 use std::marker::Model;
@@ -189,8 +190,17 @@ impl<S: Source> Source for Gathered<S> {
 }
 
 impl<S: ReadySource> LiveSource for Gathered<S> {
+    /// What was gathered has no bounds.
+    fn is_in_datagrams(&self) -> bool {
+        false
+    }
+
     /// Of more than 16,384 octets it answers for these.
     fn gather(&mut self, count: usize) -> bool {
         self.gather_on(count.min(ROOM))
+    }
+
+    fn read_payload(&mut self, _block: &mut [u8; MAX_PAYLOAD]) -> Result<usize, Failed> {
+        Ok(0)
     }
 }

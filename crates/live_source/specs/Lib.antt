@@ -1,1 +1,2 @@
 pub mod Pausing
+pub mod Payloads

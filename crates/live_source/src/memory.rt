@@ -1,14 +1,23 @@
-//! Sources in memory are never waited for.
+//! Sources in memory are never waited for, and don't come in datagrams.
 use crate::LiveSource;
-use outside_io::{Bytes, MemSource, Pieces};
+use link_channels::MAX_PAYLOAD;
+use outside_io::{Bytes, Failed, MemSource, Pieces};
 
 impl LiveSource for Bytes {
     ghost use Rattle.std.specs.Prelude.{Some, true};
 
     ghost ready = { λ _. Some (λ _. true) };
 
+    fn is_in_datagrams(&self) -> bool {
+        false
+    }
+
     fn gather(&mut self, _count: usize) -> bool {
         true
+    }
+
+    fn read_payload(&mut self, _block: &mut [u8; MAX_PAYLOAD]) -> Result<usize, Failed> {
+        Ok(0)
     }
 }
 
@@ -17,8 +26,16 @@ impl LiveSource for Pieces {
 
     ghost ready = { λ _. Some (λ _. true) };
 
+    fn is_in_datagrams(&self) -> bool {
+        false
+    }
+
     fn gather(&mut self, _count: usize) -> bool {
         true
+    }
+
+    fn read_payload(&mut self, _block: &mut [u8; MAX_PAYLOAD]) -> Result<usize, Failed> {
+        Ok(0)
     }
 }
 
@@ -27,7 +44,15 @@ impl LiveSource for MemSource {
 
     ghost ready = { λ _. Some (λ _. true) };
 
+    fn is_in_datagrams(&self) -> bool {
+        false
+    }
+
     fn gather(&mut self, _count: usize) -> bool {
         true
+    }
+
+    fn read_payload(&mut self, _block: &mut [u8; MAX_PAYLOAD]) -> Result<usize, Failed> {
+        Ok(0)
     }
 }

@@ -2,11 +2,12 @@
 ghost use Rattle.std.specs.Prelude.{◌≡◌, IfOk};
 
 use crate::LiveSource;
+use link_channels::MAX_PAYLOAD;
 use outside_io::{Failed, NoMemory, Source};
 use std::alloc::Global;
 
-/// A source whose octets aren't always there: whether they are is answered by a list, and behind its end they are. What it has still to
-/// give is not told.
+/// A source whose octets, or payloads, aren't always there: whether they are is answered by a list, and behind its end they are. Which octets
+/// it has still to give is not told; its payloads are, where the source behind tells them.
 #[derive(Drop)]
 pub struct PausingSource<S> {
     source: S,
@@ -43,11 +44,17 @@ impl<S: Source> Source for PausingSource<S> {
     }
 }
 
-impl<S: Source> LiveSource for PausingSource<S> {
+impl<S: LiveSource> LiveSource for PausingSource<S> {
     ghost use Rattle.std.specs.Prelude.{Some, drop};
     ghost use Rattle.live_source.specs.Pausing.{answers_of};
 
     ghost ready = { λ pausing. Some (answers_of (drop pausing.at pausing.answers.items)) };
+
+    ghost payloads = { λ pausing. S.payloads pausing.source };
+
+    fn is_in_datagrams(&self) -> bool {
+        self.source.is_in_datagrams()
+    }
 
     fn gather(&mut self, _count: usize) -> bool {
         if self.at < self.answers.len() {
@@ -56,5 +63,9 @@ impl<S: Source> LiveSource for PausingSource<S> {
             return answer;
         }
         true
+    }
+
+    fn read_payload(&mut self, block: &mut [u8; MAX_PAYLOAD]) -> Result<usize, Failed> {
+        self.source.read_payload(block)
     }
 }

@@ -1,10 +1,11 @@
 -- What a contract sees of the system's host.
-use Rattle.std.specs.Prelude.{◌≡◌, ◌≢◌, ℕ, List, Bool, true, false, Option, Some, None, Ok, IfErr, Result}
+use Rattle.std.specs.Prelude.{◌≡◌, ◌≢◌, ℕ, List, [], Bool, true, false, Option, Some, None, Ok, Err, IfErr, Result}
 use Rattle.outside_io.specs.Real.{IsSinkNamed, IsSourceNamed, file_of, sink_faults, source_faults}
 use Rattle.outside_io.specs.declared.file_identity.FileIdentity.{FileIdentity}
 use Rattle.end_sign.specs.Until.{source_behind}
 use Rattle.media_address.specs.Address.{address_of}
 use Rattle.media_address.specs.declared.address.MediaAddress.{MediaAddress}
+use Rattle.media_address.specs.declared.bad.AddressBad.{AddressBad}
 use Rattle.outside_net.specs.Links.{Datagram}
 use Rattle.outside_net.specs.declared.link_spec.Role.{Role}
 use Rattle.outside_net.specs.declared.link_spec.Role.TheVariants as roles
@@ -25,6 +26,10 @@ pub record RealHostState : Type 0 where
 abbrev pub untold : Option (List Datagram)
 untold = None
 
+-- nor which payloads a source has still to give
+abbrev pub no_payloads : Option (List (List ℕ))
+no_payloads = None
+
 -- a sender sends on a link in this role what its source gives
 abbrev pub is_senders : Role → Bool
 is_senders roles.Receives = false
@@ -44,12 +49,12 @@ named_faults input = source_faults (source_behind input.source)
 -- how many reads of a source told a fault
 abbrev pub input_faults : {A B C D E : Type 0} → RealInput A B C D E → ℕ
 input_faults (inputs.Named input) = input.faults
-input_faults (inputs.Network input) = input.faults
+input_faults (inputs.Network input) = input.source.faults
 
 -- the octets that were gathered of a source and not read
 abbrev pub input_ahead : {A B C D E : Type 0} → RealInput A B C D E → List ℕ
 input_ahead (inputs.Named input) = input.ahead
-input_ahead (inputs.Network input) = input.ahead
+input_ahead (inputs.Network input) = []
 
 -- how many calls of a sink failed
 abbrev pub output_faults : {R F O : Type 0} → RealOutput R F O → ℕ
@@ -68,7 +73,22 @@ IsInputNamed name (inputs.Named input) =
     (address_of name ≡ Ok None) × IsSourceNamed name (source_behind input.source.source)
 IsInputNamed name (inputs.Network input) =
     (address_of name ≢ Ok None)
-    × ((address : MediaAddress) → address_of name ≡ Ok (Some address) → input.source.source.form ≡ address.form)
+    × ((address : MediaAddress) → address_of name ≡ Ok (Some address) → input.source.form ≡ address.form)
+
+-- a source comes in datagrams, each a piece of the stream
+abbrev pub in_datagrams : {A B C D E : Type 0} → RealInput A B C D E → Bool
+in_datagrams (inputs.Named input) = false
+in_datagrams (inputs.Network input) = true
+
+-- an address of UDP stands in a word
+abbrev pub is_address : Result (Option MediaAddress) AddressBad → Bool
+is_address (Ok None) = false
+is_address (Ok (Some address)) = true
+is_address (Err bad) = false
+
+-- a name is an address of UDP, as it is or as RTP
+abbrev pub is_network : List ℕ → Bool
+is_network name = is_address (address_of name)
 
 -- likewise of a sink
 abbrev pub IsOutputNamed : {R F O : Type 0} → List ℕ → RealOutput R F O → Type 0

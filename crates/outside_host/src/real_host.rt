@@ -9,7 +9,7 @@ ghost use Rattle.end_sign.specs.Status.{answers_of};
 ghost use Rattle.end_sign.specs.Until.{link_behind, sign_of};
 ghost use Rattle.media_address.specs.Address.{address_of};
 ghost use Rattle.media_address.specs.declared.bad.AddressBad.{AddressBad};
-ghost use Rattle.outside_host.specs.RealHost.{untold, file_read, is_senders, FailsAlone, IsInputNamed, IsOutputNamed};
+ghost use Rattle.outside_host.specs.RealHost.{untold, file_read, in_datagrams, is_network, is_senders, FailsAlone, IsInputNamed, IsOutputNamed};
 ghost use Rattle.outside_host.specs.Shelf.{nowhere, HasHostCause, IsUnwritten, KnowsStated};
 
 use crate::counts::ReportText;
@@ -293,6 +293,7 @@ impl<'a, R: Files + Input + Net + Clock> RealHost<'a, R> {
         ensures cause { HasHostCause self.old.faults self.new.faults result }
         ensures only { FailsAlone result }
         ensures named { IfOk result (λ source. IsInputNamed name.now source.source) }
+        ensures datagrams { IfOk result (λ source. in_datagrams source.source ≡ is_network name.now) }
         ensures known { IfOk result (λ source. self.new.read ≡ file_read source.source) }
         ensures stays { OnErr result (self.new.read ≡ self.old.read) }
     {
@@ -317,6 +318,7 @@ impl<'a, R: Files + Input + Net + Clock> RealHost<'a, R> {
         ensures cause { HasHostCause self.old.faults self.new.faults result }
         ensures only { FailsAlone result }
         ensures named { IfOk result (λ source. IsInputNamed name.now source.source) }
+        ensures datagrams { IfOk result (λ source. in_datagrams source.source ≡ is_network name.now) }
         ensures known { IfOk result (λ source. self.new.read ≡ file_read source.source) }
         ensures stays { OnErr result (self.new.read ≡ self.old.read) }
     {
@@ -325,7 +327,7 @@ impl<'a, R: Files + Input + Net + Clock> RealHost<'a, R> {
                 self.read = None;
                 self.source = self.kept(name);
                 source.await_first();
-                let input = Gathered::over(NetworkInput::over(source));
+                let input = NetworkInput::over(source);
                 Ok(Progress::silent(RealInput::Network(input)))
             }
             Err(error) => Err(self.refuse_name(name, Reason::System(error))),
@@ -428,6 +430,7 @@ where
         ensures cause { HasHostCause self.old.faults self.new.faults result }
         ensures only { FailsAlone result }
         ensures named { IfOk result (λ source. IsInputNamed name.now source.source) }
+        ensures datagrams { IfOk result (λ source. in_datagrams source.source ≡ is_network name.now) }
         ensures faulty { (bad : AddressBad) → address_of name.now ≡ Err bad → result ≡ Err HostBad.Failed }
         // What it reads is taken down. Standard input and the network are no file that could be told from others.
         ensures known { IfOk result (λ source. self.new.read ≡ file_read source.source) }

@@ -1,10 +1,13 @@
 //! What the system's host hands out as a source. What it gives is not told: the trusted edge of the system.
-ghost use Rattle.std.specs.Prelude.{◌≡◌};
+ghost use Rattle.std.specs.Prelude.{◌≡◌, IsSome, true, false};
 ghost use Rattle.end_sign.specs.Until.{source_behind};
+ghost use Rattle.outside_io.specs.Real.{silent};
+ghost use Rattle.outside_host.specs.RealHost.{in_datagrams, no_payloads};
 
 use datagram_ends::UdpSource;
 use end_sign::{EndSign, ProcessSign, UntilSource};
 use gathered_source::{Gathered, ReadySource};
+use link_channels::MAX_PAYLOAD;
 use live_source::LiveSource;
 use outside_io::{Failed, Reading, RealSource, Source};
 use std::fs::Files;
@@ -97,20 +100,28 @@ impl<'a, R: Files + Clock> Source for NetworkInput<'a, R> {
     }
 }
 
-impl<'a, R: Files + Clock> ReadySource for NetworkInput<'a, R> {
-    fn is_ready(&mut self) -> bool {
+impl<'a, R: Files + Clock> LiveSource for NetworkInput<'a, R> {
+    fn is_in_datagrams(&self) -> bool {
+        true
+    }
+
+    fn gather(&mut self, _count: usize) -> bool {
         self.source.is_ready()
+    }
+
+    fn read_payload(&mut self, block: &mut [u8; MAX_PAYLOAD]) -> Result<usize, Failed> {
+        self.source.read_payload(block)
     }
 }
 
-/// A file, standard input, or a stream that comes in datagrams of UDP. What is there can be gathered without a wait. Each comes to its
-/// end where the system asks the program to end.
+/// A file, standard input, or a stream that comes in datagrams of UDP. What is there can be gathered without a wait: of the first two so
+/// many octets, of the third a payload. Each comes to its end where the system asks the program to end.
 #[derive(Drop)]
 pub enum RealInput<'a, R: Files + Clock, F: Read, I: Read> {
     /// Under a name.
     Named(Gathered<NamedInput<'a, R, F, I>>),
     /// Under an address.
-    Network(Gathered<NetworkInput<'a, R>>),
+    Network(NetworkInput<'a, R>),
 }
 
 impl<'a, R: Files + Clock, F: Read, I: Read> Source for RealInput<'a, R, F, I> {
@@ -132,10 +143,25 @@ impl<'a, R: Files + Clock, F: Read, I: Read> Source for RealInput<'a, R, F, I> {
 }
 
 impl<'a, R: Files + Clock, F: Read, I: Read> LiveSource for RealInput<'a, R, F, I> {
+    fn is_in_datagrams(&self) -> bool
+        ensures octets { IsSome silent → result ≡ false }
+        ensures payloads { IsSome no_payloads → result ≡ true }
+        ensures value { result ≡ in_datagrams self.now }
+    {
+        matches!(self, RealInput::Network(_))
+    }
+
     fn gather(&mut self, count: usize) -> bool {
         match self {
             RealInput::Named(input) => input.gather(count),
             RealInput::Network(input) => input.gather(count),
+        }
+    }
+
+    fn read_payload(&mut self, block: &mut [u8; MAX_PAYLOAD]) -> Result<usize, Failed> {
+        match self {
+            RealInput::Named(input) => input.read_payload(block),
+            RealInput::Network(input) => input.read_payload(block),
         }
     }
 }

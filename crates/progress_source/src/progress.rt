@@ -9,6 +9,7 @@ ghost use Rattle.progress_source.specs.Meters.{new_meter};
 ghost use Rattle.progress_source.specs.Showings.{Asks, Ends, EndsIn, Shows, ShowsIn};
 
 use crate::{Change, Meter, Outlet};
+use link_channels::MAX_PAYLOAD;
 use live_source::LiveSource;
 use outside_io::{Failed, Source};
 use outside_net::Clock;
@@ -148,6 +149,7 @@ impl<S: LiveSource, C: Clock, O: Outlet> Progress<S, C, O> {
         ensures ready { S.ready self.new.source ≡ option_map later (S.ready self.old.source) }
         ensures told { IsSome (S.remaining self.old.source) → result ≡ true }
         ensures same { S.remaining self.new.source ≡ S.remaining self.old.source }
+        ensures payloads { S.payloads self.new.source ≡ S.payloads self.old.source }
         ensures ahead { IsPrefix (S.ahead self.old.source) (S.ahead self.new.source) }
         ensures faults { S.faults self.new.source ≡ S.faults self.old.source }
         ensures ends { EndsIn O.asked self.old.showing self.new.showing }
@@ -160,8 +162,19 @@ impl<S: LiveSource, C: Clock, O: Outlet> Progress<S, C, O> {
 impl<S: LiveSource, C: Clock, O: Outlet> LiveSource for Progress<S, C, O> {
     ghost ready = { λ progress. S.ready progress.source };
 
+    ghost payloads = { λ progress. S.payloads progress.source };
+
+    fn is_in_datagrams(&self) -> bool {
+        self.source.is_in_datagrams()
+    }
+
     /// A source whose octets are gathered before they are read comes as time goes on: nothing is shown of it.
     fn gather(&mut self, count: usize) -> bool {
         self.gather_unseen(count)
+    }
+
+    /// Nothing is shown of a payload, nor counted.
+    fn read_payload(&mut self, block: &mut [u8; MAX_PAYLOAD]) -> Result<usize, Failed> {
+        self.source.read_payload(block)
     }
 }

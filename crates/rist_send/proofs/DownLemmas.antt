@@ -1,6 +1,5 @@
 -- A run that ends with all links down: a write on each of them failed.
-use Rattle.std.proofs.Common.{◌≡◌, ◌∙◌, ◌⊎◌, ◌<◌, ℕ, List, [], ◌∷◌, ◌++◌, Bool, true, false, if◌then◌else◌, Option, None, Some, Result, Ok, Err, sym, subst}
-use Rattle.std.specs.Prelude.{◌||◌, ◌&&◌, ◌==◌}
+use Rattle.std.proofs.Common.{◌≡◌, ◌∙◌, ◌⊎◌, ℕ, List, [], ◌∷◌, Bool, true, false, if◌then◌else◌, Option, None, Some, Result, Ok, Err, sym, subst}
 use Rattle.std.specs.List.{range_with_len}
 use mathlib.Core.Logic.{inl, inr}
 use Rattle.rtcp_compound.specs.Compound.{Content}
@@ -41,14 +40,15 @@ down_unread : (setup : Setup) (fault : PieceFault) (to : Run) → EndsDown setup
 down_unread setup pieces.ReadFault to e = absurd (cc e)
 down_unread setup pieces.TooLong to e = absurd (cc e)
 
-down_read : (setup : Setup) (k : ℕ) (reading : Result (List ℕ) PieceFault) (result : Result Unit SendFault) (from to : Run) → SendsRead setup k reading result from to → EndsDown setup result to
-down_read setup k (Err fault) result from to (answer, is) e = down_unread setup fault to (sym answer ∙ e)
-down_read setup k (Ok []) result from to s e = down_not setup result (with_piece k 0 from) to s e
-down_read setup k (Ok (x ∷ xs)) result from to s e = down_answer setup (λ done. Unit {0}) s.answer result to s.answers s.sends.answer e
+down_read : (setup : Setup) (k least : ℕ) (reading : Result (List ℕ) PieceFault) (result : Result Unit SendFault) (from to : Run) → SendsRead setup k least reading result from to → EndsDown setup result to
+down_read setup k least (Err fault) result from to (answer, is) e = down_unread setup fault to (sym answer ∙ e)
+down_read setup k least (Ok []) result from to s e = down_not setup result (with_piece k least 0 from) to s e
+down_read setup k least (Ok (x ∷ xs)) result from to s e = down_answer setup (λ done. Unit {0}) s.answer result to s.answers s.sends.answer e
 
 down_if : (setup : Setup) (k : ℕ) (due : Bool) (result : Result Unit SendFault) (from to : Run) → IfElse due (BringsDue setup k result from to) (Stays result from to) → EndsDown setup result to
-down_if setup k true result from to (inl b) = down_read setup k b.reading result (record from { octets = b.left }) to b.sends
-down_if setup k true result from to (inr w) = down_not setup result from to w.stays
+down_if setup k true result from to (inl b) = down_read setup k 1316 b.reading result (record from { octets = b.left; payloads = b.payloads }) to b.sends
+down_if setup k true result from to (inr (inl b)) = down_read setup k 1 b.reading result (record from { payloads = b.left }) to b.sends
+down_if setup k true result from to (inr (inr w)) = down_not setup result from to w.stays
 down_if setup k false result from to b = down_not setup result from to b
 
 down_next : (setup : Setup) (stage : Stage) (result : Result Unit SendFault) (from to : Run) → BringsNext setup stage result from to → EndsDown setup result to

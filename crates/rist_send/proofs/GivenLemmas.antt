@@ -22,7 +22,7 @@ use Rattle.rist_send.specs.Run.{Setup, Run, is_due, is_over_at, has_ended, outco
 use Rattle.rist_sender.specs.Incoming.{compound_in}
 use Rattle.rist_send.specs.Turns.{Stays, GoesOn, SendsRead, BringsDue, BringsNext, AnswersIf, ReadsOn, ReadsInTurn, TicksOnce, ReadsAndTicks, Turn, sent_with, stage_after, with_piece, is_read, with_answer, with_moment}
 use Rattle.rist_send.specs.Given.{joined, Drops, GivesFirst, GivesAll, Gives}
-use Rattle.rist_send.specs.Sending.{TurnsOn, StopsWith, Stops, IsSpent, SendsSource, result_at_last}
+use Rattle.rist_send.specs.Sending.{TurnsOn, StopsWith, Stops, IsSpent, result_at_last}
 use Rattle.rist_send.specs.Served.{Outside, new_run}
 
 -- what was given and the rest, by what the source is at
@@ -94,7 +94,7 @@ placed moment k given piece rest size few last false is = last (grind (arith, na
 
 -- a piece was read and given
 gives_piece : (octets : List ℕ) (had left : Option (List ℕ)) (given : List (List ℕ)) (moment k : ℕ) (piece : List ℕ) → 0 < length piece
-    → HasGiven octets had given (Reading k) → TakesPiece k had left piece → HasGiven octets left (given ++ piece ∷ []) (stage_after moment k (length piece))
+    → HasGiven octets had given (Reading k) → TakesPiece k had left piece → HasGiven octets left (given ++ piece ∷ []) (stage_after moment k 1316 (length piece))
 gives_piece octets had left given moment k piece some g taken =
     let b = behind g.rest left piece (subst (λ (told : Option (List ℕ)). Takes told left piece) g.told taken.taken) in
     let last : length piece < 1316 → b.rest ≡ [] = λ short. none_left left b.rest b.told (taken.last short) in
@@ -115,23 +115,23 @@ keeps_piece octets had left given k piece some g taken =
     (drops faults.Spent octets had left given (Reading k) piece g taken.taken
     (λ rest told. inr (next_piece piece rest some taken.few (λ short. none_left left rest told (taken.last short)))))
 
-sent_piece : (setup : Setup) (octets : List ℕ) (k : ℕ) (piece : List ℕ) (left : Option (List ℕ)) (from to : Run) (answer : Result Unit SendBad) → 0 < length piece
+sent_piece : (setup : Setup) (octets : List ℕ) (k : ℕ) (piece : List ℕ) (left : Option (List ℕ)) (payloads : Option (List (List ℕ))) (from to : Run) (answer : Result Unit SendBad) → 0 < length piece
     → HasGiven octets from.octets from.sent (Reading k) → TakesPiece k from.octets left piece
-    → Leaves (outcome answer) octets (record (with_piece k (length piece) (record from { octets = left })) { work = to.work; sent = from.sent ++ sent_with piece answer })
-sent_piece setup octets k piece left from to (Ok done) some g taken = gives_piece octets from.octets left from.sent from.progress.moment k piece some g taken
-sent_piece setup octets k piece left from to (Err refusals.LinksDown) some g taken =
+    → Leaves (outcome answer) octets (record (with_piece k 1316 (length piece) (record from { octets = left; payloads = payloads })) { work = to.work; sent = from.sent ++ sent_with piece answer })
+sent_piece setup octets k piece left payloads from to (Ok done) some g taken = gives_piece octets from.octets left from.sent from.progress.moment k piece some g taken
+sent_piece setup octets k piece left payloads from to (Err refusals.LinksDown) some g taken =
     drops_none faults.LinksDown octets left (from.sent ++ piece ∷ []) _ (gives_piece octets from.octets left from.sent from.progress.moment k piece some g taken) (λ rest. refl)
-sent_piece setup octets k piece left from to (Err refusals.Spent) some g taken = keeps_piece octets from.octets left from.sent k piece some g taken
+sent_piece setup octets k piece left payloads from to (Err refusals.Spent) some g taken = keeps_piece octets from.octets left from.sent k piece some g taken
 
-brought : (setup : Setup) (octets : List ℕ) (k : ℕ) (left : Option (List ℕ)) (from to : Run) (reading : Result (List ℕ) PieceFault) (result : Result Unit SendFault)
-    → HasGiven octets from.octets from.sent (Reading k) → ReadsPiece k from.octets left reading → SendsRead setup k reading result (record from { octets = left }) to → Leaves result octets to
-brought setup octets k left from to (Err pieces.ReadFault) result g part (answer, is) =
+brought : (setup : Setup) (octets : List ℕ) (k : ℕ) (left : Option (List ℕ)) (payloads : Option (List (List ℕ))) (from to : Run) (reading : Result (List ℕ) PieceFault) (result : Result Unit SendFault)
+    → HasGiven octets from.octets from.sent (Reading k) → ReadsPiece k from.octets left reading → SendsRead setup k 1316 reading result (record from { octets = left; payloads = payloads }) to → Leaves result octets to
+brought setup octets k left payloads from to (Err pieces.ReadFault) result g part (answer, is) =
     subst (λ (r : Result Unit SendFault). Leaves r octets to) (sym answer) (subst (λ (t : Run). GivesFirst faults.ReadFault octets t.octets t.sent) (sym is)
     (drops faults.ReadFault octets from.octets left from.sent (Reading k) part.part g part.taken (λ rest told. (part.few, omega (arith, part.fact, g.place)))))
-brought setup octets k left from to (Err pieces.TooLong) result g part (answer, is) =
+brought setup octets k left payloads from to (Err pieces.TooLong) result g part (answer, is) =
     subst (λ (r : Result Unit SendFault). Leaves r octets to) (sym answer) (subst (λ (t : Run). GivesFirst faults.TooLong octets t.octets t.sent) (sym is)
     (drops faults.TooLong octets from.octets left from.sent (Reading k) part.part g part.taken (λ rest told. (part.few, omega (arith, part.fact, g.place)))))
-brought setup octets k left from to (Ok []) result g taken (answer, is) =
+brought setup octets k left payloads from to (Ok []) result g taken (answer, is) =
     let b = behind g.rest left [] (subst (λ (told : Option (List ℕ)). Takes told left []) g.told taken.taken) in
     subst (λ (r : Result Unit SendFault). Leaves r octets to) (sym answer) (subst (λ (t : Run). HasGiven octets t.octets t.sent t.progress.stage) (sym is) (record {
       rest = b.rest;
@@ -141,9 +141,9 @@ brought setup octets k left from to (Ok []) result g taken (answer, is) =
       within = g.within;
       place = none_left left b.rest b.told (taken.last (omega arith));
     }))
-brought setup octets k left from to (Ok (x ∷ xs)) result g taken s =
+brought setup octets k left payloads from to (Ok (x ∷ xs)) result g taken s =
     subst (λ (r : Result Unit SendFault). Leaves r octets to) (sym s.answers)
-    (subst (λ (t : Run). Leaves (outcome s.answer) octets t) (sym s.is) (sent_piece setup octets k (x ∷ xs) left from to s.answer (omega arith) g taken))
+    (subst (λ (t : Run). Leaves (outcome s.answer) octets t) (sym s.is) (sent_piece setup octets k (x ∷ xs) left payloads from to s.answer (omega arith) g taken))
 
 stays : (octets : List ℕ) (result : Result Unit SendFault) (from to : Run) → HasGiven octets from.octets from.sent from.progress.stage → Stays result from to → Leaves result octets to
 stays octets result from to g (answer, is) =
@@ -152,8 +152,9 @@ stays octets result from to g (answer, is) =
 brings_if : (setup : Setup) (octets : List ℕ) (k : ℕ) (from to : Run) (result : Result Unit SendFault) (due : Bool) → from.progress.stage ≡ Reading k
     → HasGiven octets from.octets from.sent from.progress.stage → IfElse due (BringsDue setup k result from to) (Stays result from to) → Leaves result octets to
 brings_if setup octets k from to result true at g (inl b) =
-    brought setup octets k b.left from to b.reading result (subst (HasGiven octets from.octets from.sent) at g) b.reads b.sends
-brings_if setup octets k from to result true at g (inr w) = stays octets result from to g w.stays
+    brought setup octets k b.left b.payloads from to b.reading result (subst (HasGiven octets from.octets from.sent) at g) b.reads b.sends
+brings_if setup octets k from to result true at g (inr (inl b)) = absurd (cc (g.told, b.untold))
+brings_if setup octets k from to result true at g (inr (inr w)) = stays octets result from to g w.stays
 brings_if setup octets k from to result false at g b = stays octets result from to g b
 
 brings_next : (setup : Setup) (octets : List ℕ) (stage : Stage) (from to : Run) (result : Result Unit SendFault) → from.progress.stage ≡ stage
@@ -164,25 +165,27 @@ brings_next setup octets (Ended moment) from to result at g b = stays octets res
 -- ---- the parts that give nothing
 
 -- a part that comes to neither source nor what was given; it may be refused by the sender
-record Keeps (result : Result Unit SendFault) (from to : Run) : Type 0 where
-  answer : Result Unit SendBad
-  is : result ≡ outcome answer
-  octets : to.octets ≡ from.octets
-  sent : to.sent ≡ from.sent
-  stage : to.progress.stage ≡ from.progress.stage
+pub record Keeps (result : Result Unit SendFault) (from to : Run) : Type 0 where
+  pub answer : Result Unit SendBad
+  pub is : result ≡ outcome answer
+  pub octets : to.octets ≡ from.octets
+  pub payloads : to.payloads ≡ from.payloads
+  pub sent : to.sent ≡ from.sent
+  pub stage : to.progress.stage ≡ from.progress.stage
 
 keeps_none : (result : Result Unit SendFault) (from to : Run) → Stays result from to → Keeps result from to
-keeps_none result from to (answer, is) = record { answer = Ok tt; is = answer; octets = ap (λ (r : Run). r.octets) is; sent = ap (λ (r : Run). r.sent) is; stage = ap (λ (r : Run). r.progress.stage) is }
+keeps_none result from to (answer, is) = record { answer = Ok tt; is = answer; octets = ap (λ (r : Run). r.octets) is; payloads = ap (λ (r : Run). r.payloads) is; sent = ap (λ (r : Run). r.sent) is; stage = ap (λ (r : Run). r.progress.stage) is }
 
 keeps_then : (P : Result Unit SendFault → Run → Run → Type 0) → ((r : Result Unit SendFault) (a b : Run) → P r a b → Keeps r a b)
     → (first result : Result Unit SendFault) (from between to : Run) → Keeps first from between → GoesOn P first result between to → Keeps result from to
 keeps_then P next (Ok done) result from between to k p =
     let n = next result between to p in
-    record { answer = n.answer; is = n.is; octets = n.octets ∙ k.octets; sent = n.sent ∙ k.sent; stage = n.stage ∙ k.stage }
+    record { answer = n.answer; is = n.is; octets = n.octets ∙ k.octets; payloads = n.payloads ∙ k.payloads; sent = n.sent ∙ k.sent; stage = n.stage ∙ k.stage }
 keeps_then P next (Err fault) result from between to k (answer, is) = record {
   answer = k.answer;
   is = answer ∙ k.is;
   octets = ap (λ (r : Run). r.octets) is ∙ k.octets;
+  payloads = ap (λ (r : Run). r.payloads) is ∙ k.payloads;
   sent = ap (λ (r : Run). r.sent) is ∙ k.sent;
   stage = ap (λ (r : Run). r.progress.stage) is ∙ k.stage;
 }
@@ -202,6 +205,7 @@ answers_if setup link (Some compound) result from to a = record {
   answer = refused_by a.answer;
   is = a.answers ∙ refused_same a.answer;
   octets = ap (λ (r : Run). r.octets) a.is;
+  payloads = ap (λ (r : Run). r.payloads) a.is;
   sent = ap (λ (r : Run). r.sent) a.is;
   stage = ap (λ (r : Run). r.progress.stage) a.is;
 }
@@ -209,7 +213,7 @@ answers_if setup link (Some compound) result from to a = record {
 link_if : (setup : Setup) (link : ℕ) (result : Result Unit SendFault) (from to : Run) (read : Bool) → IfElse read (ReadsOn setup link result from to) (Stays result from to) → Keeps result from to
 link_if setup link result from to true r =
     let k = answers_if setup link (compound_in setup.session r.answer) result (with_answer link r.answer from) to r.answers in
-    record { answer = k.answer; is = k.is; octets = k.octets; sent = k.sent; stage = k.stage }
+    record { answer = k.answer; is = k.is; octets = k.octets; payloads = k.payloads; sent = k.sent; stage = k.stage }
 link_if setup link result from to false r = keeps_none result from to r
 
 reads_keep : (setup : Setup) (links : List ℕ) (result : Result Unit SendFault) (from to : Run) → ReadsInTurn setup links result from to → Keeps result from to
@@ -218,9 +222,9 @@ reads_keep setup (link ∷ links) result from to f =
     keeps_then (ReadsInTurn setup links) (reads_keep setup links) f.first result from f.between to (link_if setup link f.first from f.between (is_read link from) f.before) f.after
 
 tick_keeps : (setup : Setup) (result : Result Unit SendFault) (from to : Run) → TicksOnce setup result from to → Keeps result from to
-tick_keeps setup result from to t = record { answer = t.answer; is = t.answers; octets = ap (λ (r : Run). r.octets) t.is; sent = ap (λ (r : Run). r.sent) t.is; stage = ap (λ (r : Run). r.progress.stage) t.is }
+tick_keeps setup result from to t = record { answer = t.answer; is = t.answers; octets = ap (λ (r : Run). r.octets) t.is; payloads = ap (λ (r : Run). r.payloads) t.is; sent = ap (λ (r : Run). r.sent) t.is; stage = ap (λ (r : Run). r.progress.stage) t.is }
 
-rest_keeps : (setup : Setup) (result : Result Unit SendFault) (from to : Run) → ReadsAndTicks setup result from to → Keeps result from to
+pub rest_keeps : (setup : Setup) (result : Result Unit SendFault) (from to : Run) → ReadsAndTicks setup result from to → Keeps result from to
 rest_keeps setup result from to f =
     keeps_then (TicksOnce setup) (tick_keeps setup) f.first result from f.between to (reads_keep setup (range_with_len 0 setup.links) f.first from f.between f.before) f.after
 
@@ -284,14 +288,8 @@ ends_give setup octets count result before to g (inr s) =
     subst (λ (r : Result Unit SendFault). Gives r octets to.octets to.sent) (sym s.answer)
     (subst (λ (t : Run). Gives (result_at_last before) octets t.octets t.sent) (sym s.same) (at_last octets before.octets before.sent before.progress.stage g))
 
--- a run, and what it gave
-pub sends_source : (setup : Setup) (count : ℕ) (result : Result Unit SendFault) (work : Work) (outside : Outside) (before to : Run)
-    → TurnsOn setup count (new_run work outside) before → Stops setup count result before to ⊎ IsSpent setup count result before to
-    → SendsSource setup result (new_run work outside) to
-sends_source setup count result work outside before to turns ends = record {
-  count = count;
-  before = before;
-  turns = turns;
-  ends = ends;
-  gives = λ octets told. ends_give setup octets count result before to (turns_leave setup octets count (new_run work outside) before (at_first octets outside.octets told) turns) ends;
-}
+-- a run, and what it gave of octets
+pub gives_octets : (setup : Setup) (octets : List ℕ) (count : ℕ) (result : Result Unit SendFault) (work : Work) (outside : Outside) (before to : Run) → outside.octets ≡ Some octets
+    → TurnsOn setup count (new_run work outside) before → Stops setup count result before to ⊎ IsSpent setup count result before to → Gives result octets to.octets to.sent
+gives_octets setup octets count result work outside before to told turns ends =
+    ends_give setup octets count result before to (turns_leave setup octets count (new_run work outside) before (at_first octets outside.octets told) turns) ends

@@ -1,6 +1,7 @@
 pub mod MoveLemmas
 pub mod PieceLemmas
 pub mod GivenLemmas
+pub mod PayloadLemmas
 pub mod PacketLemmas
 pub mod DownLemmas
 pub mod UnsealedLemmas

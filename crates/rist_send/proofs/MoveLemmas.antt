@@ -21,7 +21,7 @@ use Rattle.rist_sender.proofs.ServedLemmas.{all_none, all_then, all_given, all_r
 
 -- these reads are to come
 abbrev pub with_reads : Outside → List (Option (ℕ → Answer)) → Outside
-with_reads o reads = record { moments = o.moments; octets = o.octets; answers = reads }
+with_reads o reads = record { moments = o.moments; octets = o.octets; payloads = o.payloads; answers = reads }
 
 -- nothing is done to sender and links
 pub moves_none : {L : Type 0} (line : LinkTells L) (s : SenderState) (p : Progress) (o : Outside) (ls : List L) (from : Run) (P : Run → Type 0) (to : Run) → to.work ≡ from.work
@@ -45,6 +45,7 @@ moves_call line s t p o was is from base P R same long reads at d both = record 
     progress = at.progress;
     moments = at.moments;
     octets = at.octets;
+    payloads = at.payloads;
     answers = at.answers ∙ reads ∙ sym (reads_given line s.flow s.session from.work.history d.to.history was is long d.given);
   };
   given = all_given line s.flow s.session from.work.history d.to.history was is d.given;
@@ -74,7 +75,7 @@ moves_as line s t p o u was is from P R d at both = record { to = d.to; fact = b
 -- ---- parts that come to sender and links alone
 
 pub at_self : (s : SenderState) (p : Progress) (o : Outside) (run : Run) → IsAt s p o run → IsAt s p (with_links run o.answers) run
-at_self s p o run at = record { sender = at.sender; progress = at.progress; moments = refl; octets = refl; answers = at.answers }
+at_self s p o run at = record { sender = at.sender; progress = at.progress; moments = refl; octets = refl; payloads = refl; answers = at.answers }
 
 pub setup_same : (settings : SendSettings) (s t : SenderState) (m n : ℕ) → StaysSet s t → n ≡ m → setup_of settings t n ≡ setup_of settings s m
 setup_same settings s t m n set same = λ i. record { settings = settings; rules = set.rules i; session = set.session i; links = same i }
@@ -95,7 +96,7 @@ follows {L} line r s t p q o reads was mid is from base settings P Q result same
       before = d.fact;
       after = subst (λ (x : Setup). Q x result d.to to) (setup_same settings r s (length was) (length mid) set same) fact;
     }))
-    (λ to at. record { sender = at.sender; progress = at.progress; moments = at.moments ∙ d.stands.moments; octets = at.octets ∙ d.stands.octets; answers = at.answers })
+    (λ to at. record { sender = at.sender; progress = at.progress; moments = at.moments ∙ d.stands.moments; octets = at.octets ∙ d.stands.octets; payloads = at.payloads ∙ d.stands.payloads; answers = at.answers })
     (λ to fact. fact)
 
 -- two parts that come to sender and links alone
@@ -106,7 +107,7 @@ pub links_then : {L : Type 0} (line : LinkTells L) (r s t : SenderState) (p q : 
 links_then {L} line r s t p q a b was mid is from P Q R same set d e both =
     moves_as line r t q (with_links d.to b) (with_links from b) was is from R R
     (moves_then line r s t p q (with_links from a) (with_links d.to b) was mid is from P Q R same set d e both)
-    (λ to at. record { sender = at.sender; progress = at.progress; moments = at.moments ∙ d.stands.moments; octets = at.octets ∙ d.stands.octets; answers = at.answers })
+    (λ to at. record { sender = at.sender; progress = at.progress; moments = at.moments ∙ d.stands.moments; octets = at.octets ∙ d.stands.octets; payloads = at.payloads ∙ d.stands.payloads; answers = at.answers })
     (λ to fact. fact)
 
 -- a part that was refused
@@ -134,6 +135,7 @@ runs_of line s t p old new was is work P R d both = record {
   stands = d.stands.sender;
   moments = d.stands.moments;
   octets = d.stands.octets;
+  payloads = d.stands.payloads;
   answers = d.stands.answers;
   given = d.given;
 }
@@ -162,6 +164,7 @@ reads_then line s t p q settings place answer was mid is from result same inside
       progress = progress;
       moments = refl;
       octets = refl;
+      payloads = refl;
       answers = ap (λ (told : List (Option (ℕ → Answer))). set told place (option_map later (get_or told place None))) at.answers ∙ sym (reads_at line place answer was mid same inside r);
     }) in
     record {
@@ -171,7 +174,7 @@ reads_then line s t p q settings place answer was mid is from result same inside
         first = subst (λ (told : List (Option (ℕ → Answer))). IsFirst (get_or told place None) answer) (sym at.answers) (first_at line place answer was mid inside r);
         answers = subst (λ (n : ℕ). AnswersIf (setup_of settings s n) place (compound_in s.session answer) result run d.to) same d.fact;
       };
-      stands = record { sender = d.stands.sender; progress = d.stands.progress; moments = d.stands.moments; octets = d.stands.octets; answers = d.stands.answers };
+      stands = record { sender = d.stands.sender; progress = d.stands.progress; moments = d.stands.moments; octets = d.stands.octets; payloads = d.stands.payloads; answers = d.stands.answers };
       given = all_then line s.flow s.session from.work.history from.work.history d.to.work.history was mid is same
           (all_read line s.flow s.session from.work.history place answer was mid r) d.given;
     }

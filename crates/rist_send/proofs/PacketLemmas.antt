@@ -139,17 +139,18 @@ made_then : (setup : Setup) (P : Result Unit SendFault → Run → Run → Type 
 made_then setup P next (Ok done) result between to made p = next result between to made p
 made_then setup P next (Err fault) result between to made (answer, is) = made_same setup between to (ap (λ (r : Run). r.sent) is) (ap (λ (r : Run). packets_of r.work) is) made
 
-made_read : (setup : Setup) (k : ℕ) (reading : Result (List ℕ) PieceFault) (result : Result Unit SendFault) (from to : Run) → IsMade setup from → SendsRead setup k reading result from to → IsMade setup to
-made_read setup k (Err fault) result from to made (answer, is) = made_same setup from to (ap (λ (r : Run). r.sent) is) (ap (λ (r : Run). packets_of r.work) is) made
-made_read setup k (Ok []) result from to made s = made_stays setup result (with_piece k 0 from) to made s
-made_read setup k (Ok (x ∷ xs)) result from to made s =
+made_read : (setup : Setup) (k least : ℕ) (reading : Result (List ℕ) PieceFault) (result : Result Unit SendFault) (from to : Run) → IsMade setup from → SendsRead setup k least reading result from to → IsMade setup to
+made_read setup k least (Err fault) result from to made (answer, is) = made_same setup from to (ap (λ (r : Run). r.sent) is) (ap (λ (r : Run). packets_of r.work) is) made
+made_read setup k least (Ok []) result from to made s = made_stays setup result (with_piece k least 0 from) to made s
+made_read setup k least (Ok (x ∷ xs)) result from to made s =
     subst (λ (ps : List (List ℕ)). AreSentAs setup.rules.nulls setup.rules.first (reverse ps) (packets_of to.work)) (sym (ap (λ (r : Run). r.sent) s.is))
     (sends_as_packet setup.rules setup.links from.progress.moment from.sent (x ∷ xs) s.answer from.work to.work s.sends made)
 
 made_if : (setup : Setup) (k : ℕ) (due : Bool) (result : Result Unit SendFault) (from to : Run) → IsMade setup from
     → IfElse due (BringsDue setup k result from to) (Stays result from to) → IsMade setup to
-made_if setup k true result from to made (inl b) = made_read setup k b.reading result (record from { octets = b.left }) to made b.sends
-made_if setup k true result from to made (inr w) = made_stays setup result from to made w.stays
+made_if setup k true result from to made (inl b) = made_read setup k 1316 b.reading result (record from { octets = b.left; payloads = b.payloads }) to made b.sends
+made_if setup k true result from to made (inr (inl b)) = made_read setup k 1 b.reading result (record from { payloads = b.left }) to made b.sends
+made_if setup k true result from to made (inr (inr w)) = made_stays setup result from to made w.stays
 made_if setup k false result from to made b = made_stays setup result from to made b
 
 made_next : (setup : Setup) (stage : Stage) (result : Result Unit SendFault) (from to : Run) → IsMade setup from → BringsNext setup stage result from to → IsMade setup to

@@ -136,20 +136,23 @@ far_either setup false piece answer from to whole is s a none =
     let quiet : IsQuiet from to = quiet_then from (after_sent packet from) to (record { keeps = λ n. ap after_pair n; short = λ n. refl }) spread in
     (quiet.keeps none, λ e. absurd (quiet_answer setup (λ done. Unit {0}) answer from to whole quiet a none e))
 
-far_read : (setup : Setup) (k : ℕ) (reading : Result (List ℕ) PieceFault) (result : Result Unit SendFault) (from to : Run) → SendsRead setup k reading result from to → EndsFar setup result from to
-far_read setup k (Err pieces.ReadFault) result from to (answer, is) = record { keeps = λ none. ap (λ (r : Run). r.work.sealer) is ∙ none; far = λ none e. absurd (cc (sym answer ∙ e)) }
-far_read setup k (Err pieces.TooLong) result from to (answer, is) = record { keeps = λ none. ap (λ (r : Run). r.work.sealer) is ∙ none; far = λ none e. absurd (cc (sym answer ∙ e)) }
-far_read setup k (Ok []) result from to (answer, is) = record { keeps = λ none. ap (λ (r : Run). r.work.sealer) is ∙ none; far = λ none e. absurd (cc (sym answer ∙ e)) }
-far_read setup k (Ok (x ∷ xs)) result from to s =
+far_read : (setup : Setup) (k least : ℕ) (reading : Result (List ℕ) PieceFault) (result : Result Unit SendFault) (from to : Run) → SendsRead setup k least reading result from to → EndsFar setup result from to
+far_read setup k least (Err pieces.ReadFault) result from to (answer, is) = record { keeps = λ none. ap (λ (r : Run). r.work.sealer) is ∙ none; far = λ none e. absurd (cc (sym answer ∙ e)) }
+far_read setup k least (Err pieces.TooLong) result from to (answer, is) = record { keeps = λ none. ap (λ (r : Run). r.work.sealer) is ∙ none; far = λ none e. absurd (cc (sym answer ∙ e)) }
+far_read setup k least (Ok []) result from to (answer, is) = record { keeps = λ none. ap (λ (r : Run). r.work.sealer) is ∙ none; far = λ none e. absurd (cc (sym answer ∙ e)) }
+far_read setup k least (Ok (x ∷ xs)) result from to s =
     let start = called_at from.progress.moment from.work in
     let far = λ (none : from.work.sealer ≡ None). far_either setup (is_ended (setup.rules.first + packet_count start.history) start) (x ∷ xs) s.answer start to.work refl refl s.sends.writes s.sends.answer none in
     record { keeps = λ none. (far none).0; far = λ none e. (far none).1 (sym s.answers ∙ e) }
 
 far_if : (setup : Setup) (k : ℕ) (due : Bool) (result : Result Unit SendFault) (from to : Run) → IfElse due (BringsDue setup k result from to) (Stays result from to) → EndsFar setup result from to
 far_if setup k true result from to (inl b) =
-    let r = far_read setup k b.reading result (record from { octets = b.left }) to b.sends in
+    let r = far_read setup k 1316 b.reading result (record from { octets = b.left; payloads = b.payloads }) to b.sends in
     record { keeps = r.keeps; far = r.far }
-far_if setup k true result from to (inr w) = far_stays setup result from to w.stays
+far_if setup k true result from to (inr (inl b)) =
+    let r = far_read setup k 1 b.reading result (record from { payloads = b.left }) to b.sends in
+    record { keeps = r.keeps; far = r.far }
+far_if setup k true result from to (inr (inr w)) = far_stays setup result from to w.stays
 far_if setup k false result from to b = far_stays setup result from to b
 
 far_next : (setup : Setup) (stage : Stage) (result : Result Unit SendFault) (from to : Run) → BringsNext setup stage result from to → EndsFar setup result from to

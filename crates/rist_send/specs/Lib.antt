@@ -1,5 +1,6 @@
 pub mod Text
 pub mod Run
+pub mod Payloads
 pub mod Turns
 pub mod Given
 pub mod Packets

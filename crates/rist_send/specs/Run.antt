@@ -29,13 +29,15 @@ abbrev pub setup_of : SendSettings → SenderState → ℕ → Setup
 setup_of settings s links = record { settings = settings; rules = rules_of s; session = s.session; links = links }
 
 -- what a run's sender did; the pieces that it sent, the oldest first; how far the run has come; and what its clock, its
--- source and the reads of each of its links have still to give, where they tell it
+-- source and the reads of each of its links have still to give, where they tell it: of the source its octets, or where it
+-- comes in datagrams their payloads
 pub record Run : Type 0 where
   pub work : Work
   pub sent : List (List ℕ)
   pub progress : Progress
   pub moments : Option (ℕ → ℕ)
   pub octets : Option (List ℕ)
+  pub payloads : Option (List (List ℕ))
   pub answers : List (Option (ℕ → Answer))
 
 -- no turn was made

@@ -5,7 +5,7 @@ use Rattle.rist_send.specs.declared.fault.SendFault.{SendFault}
 use Rattle.rist_send.specs.declared.fault.SendFault.TheVariants.{ReadFault, LinksDown, Spent, TooLong, TurnsSpent}
 use Rattle.rist_send.specs.Run.{Setup, Run, is_over, has_ended}
 use Rattle.rist_send.specs.Turns.{Turn}
-use Rattle.rist_send.specs.Given.{Gives}
+use Rattle.rist_send.specs.Given.{Gives, GivesPayloads}
 
 -- so many turns, none of them refused, and after none of them the run is over
 abbrev pub TurnsOn : Setup → ℕ → Run → Run → Type 0
@@ -36,13 +36,15 @@ pub record IsSpent (setup : Setup) (count : ℕ) (result : Result Unit SendFault
   pub answer : result ≡ result_at_last from
 
 -- A run from its first turn on. Of a source that tells its octets it gave its sender the first pieces, in order, each
--- once.
+-- once, and of one that tells its payloads the first of these, each whole, in order, once.
 pub record SendsSource (setup : Setup) (result : Result Unit SendFault) (from to : Run) : Type 0 where
   pub count : ℕ
   pub before : Run
   pub turns : TurnsOn setup count from before
   pub ends : Stops setup count result before to ⊎ IsSpent setup count result before to
   pub gives : (octets : List ℕ) → from.octets ≡ Some octets → Gives result octets to.octets to.sent
+  pub gives_payloads : (payloads : List (List ℕ)) → from.payloads ≡ Some payloads
+      → GivesPayloads result payloads to.payloads to.sent
 
 -- which call on the source failed, by an error
 abbrev pub read_fault : SendFault → Fault

@@ -7,7 +7,6 @@ use Rattle.std.specs.Option.{option_map}
 use Rattle.outside_net.specs.Streams.{later, IsFirst}
 use Rattle.outside_net.specs.Links.{Answer, Gave, Quiet, End, Failed}
 use Rattle.rtcp_compound.specs.Compound.{Content}
-use Rattle.rist_wire.specs.declared.item.Item.TheVariants as items
 use Rattle.sender_rules.specs.declared.send_bad.SendBad.{SendBad}
 use Rattle.sender_rules.specs.declared.send_bad.SendBad.TheVariants.{Spent, LinksDown}
 use Rattle.rist_sender.specs.History.{is_down}
@@ -18,6 +17,7 @@ use Rattle.rist_sender.specs.Incoming.{compound_in}
 use Rattle.rist_send.specs.declared.fault.SendFault.{SendFault}
 use Rattle.rist_send.specs.declared.progress.Stage.{Stage}
 use Rattle.rist_send.specs.declared.progress.Stage.TheVariants.{Reading, Ended}
+use Rattle.rist_send.specs.Payloads.{ReadsPayload}
 use Rattle.rist_send.specs.Run.{Setup, Run, begun_at, is_due, fault_of, outcome}
 
 -- ---- parts in order
@@ -55,28 +55,41 @@ pub record SendsPiece (setup : Setup) (piece : List ℕ) (result : Result Unit S
   pub answers : result ≡ outcome answer
   pub is : to ≡ record from { work = to.work; sent = from.sent ++ sent_with piece answer }
 
--- After a piece of so many octets the source has ended where that isn't a whole one, since a read gave nothing then.
-abbrev pub stage_after : ℕ → ℕ → ℕ → Stage
-stage_after moment k count = if nat_le 1316 count then Reading (k + 1) else Ended moment
+-- After a piece of fewer octets than it has while the source goes on, this has ended. A piece of octets has 1,316 then,
+-- since a read gave nothing where it has fewer, and a payload has one.
+abbrev pub stage_after : ℕ → ℕ → ℕ → ℕ → Stage
+stage_after moment k least count = if nat_le least count then Reading (k + 1) else Ended moment
 
 -- piece k was read, of so many octets
-abbrev pub with_piece : ℕ → ℕ → Run → Run
-with_piece k count run =
-    record run { progress = record run.progress { stage = stage_after run.progress.moment k count } }
+abbrev pub with_piece : ℕ → ℕ → ℕ → Run → Run
+with_piece k least count run =
+    record run { progress = record run.progress { stage = stage_after run.progress.moment k least count } }
 
 -- what follows a read of piece k: the piece is sent, or the read's fault is answered
-abbrev pub SendsRead : Setup → ℕ → Result (List ℕ) PieceFault → Result Unit SendFault → Run → Run → Type 0
-SendsRead setup k (Err fault) result from to = (result ≡ Err (fault_of fault)) × (to ≡ from)
-SendsRead setup k (Ok []) result from to = Stays result (with_piece k 0 from) to
-SendsRead setup k (Ok (octet ∷ octets)) result from to =
-    SendsPiece setup (octet ∷ octets) result (with_piece k (length (octet ∷ octets)) from) to
+abbrev pub SendsRead : Setup → ℕ → ℕ → Result (List ℕ) PieceFault → Result Unit SendFault → Run → Run → Type 0
+SendsRead setup k least (Err fault) result from to = (result ≡ Err (fault_of fault)) × (to ≡ from)
+SendsRead setup k least (Ok []) result from to = Stays result (with_piece k least 0 from) to
+SendsRead setup k least (Ok (octet ∷ octets)) result from to =
+    SendsPiece setup (octet ∷ octets) result (with_piece k least (length (octet ∷ octets)) from) to
 
--- piece k is read and sent
+-- piece k of the source's octets is read and sent
 pub record BringsPiece (setup : Setup) (k : ℕ) (result : Result Unit SendFault) (from to : Run) : Type 0 where
+  -- a source that tells payloads isn't read by its octets; what it tells of them then is free
+  pub untold : from.payloads ≡ None
+  pub payloads : Option (List (List ℕ))
   pub left : Option (List ℕ)
   pub reading : Result (List ℕ) PieceFault
   pub reads : ReadsPiece k from.octets left reading
-  pub sends : SendsRead setup k reading result (record from { octets = left }) to
+  pub sends : SendsRead setup k 1316 reading result (record from { octets = left; payloads = payloads }) to
+
+-- the payload of the next datagram is read, whole, and sent as piece k
+pub record BringsPayload (setup : Setup) (k : ℕ) (result : Result Unit SendFault) (from to : Run) : Type 0 where
+  -- a source that tells its octets doesn't come in datagrams
+  pub untold : from.octets ≡ None
+  pub left : Option (List (List ℕ))
+  pub reading : Result (List ℕ) PieceFault
+  pub reads : ReadsPayload k from.payloads left reading
+  pub sends : SendsRead setup k 1 reading result (record from { payloads = left }) to
 
 -- The source said that the next piece isn't there, and the turn goes on without it. One that tells its octets never
 -- says so.
@@ -84,9 +97,10 @@ pub record Awaits (result : Result Unit SendFault) (from to : Run) : Type 0 wher
   pub untold : from.octets ≡ None
   pub stays : Stays result from to
 
--- piece k, which is due, is read and sent, unless the source said that it isn't there
+-- piece k, which is due, is read and sent, as octets or as a payload, unless the source said that it isn't there
 abbrev pub BringsDue : Setup → ℕ → Result Unit SendFault → Run → Run → Type 0
-BringsDue setup k result from to = BringsPiece setup k result from to ⊎ Awaits result from to
+BringsDue setup k result from to =
+    BringsPiece setup k result from to ⊎ (BringsPayload setup k result from to ⊎ Awaits result from to)
 
 -- the next piece is read and sent, where it is due and there
 abbrev pub BringsNext : Setup → Stage → Result Unit SendFault → Run → Run → Type 0

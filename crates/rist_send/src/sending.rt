@@ -80,12 +80,14 @@ fn turn<S: LiveSource, L: Link, C: Clock>(
     ensures work { (from : Run) → IsAt sender.old progress.old (record {
       moments = C.moments clock.old;
       octets = S.remaining source.old;
+      payloads = S.payloads source.old;
       answers = map L.reads links.old;
     }) from
         → Moves ⟦<L as TellingLink>⟧.tells
         sender.old sender.new progress.new (record {
           moments = C.moments clock.new;
           octets = S.remaining source.new;
+          payloads = S.payloads source.new;
           answers = map L.reads links.new;
         }) links.old links.new from
         (Turn (setup_of settings.now sender.old (length links.old)) result from) }
@@ -105,9 +107,10 @@ fn turn<S: LiveSource, L: Link, C: Clock>(
     }
 }
 
-/// Sends a source, piece after piece, onto links. A turn takes one moment of the clock, and the first one's is the
-/// start; reads and sends the next piece, where its time has come, piece k's being the lead and k gaps after the start, and
-/// the source has it there; reads each link once that is up and gave no end and no failure, and answers what came; and lets
+/// Sends a source, piece after piece, onto links: of octets 1,316 each, and of datagrams the payload of each, as it came. A
+/// turn takes one moment of the clock, and the first one's is the start; reads and sends the next piece, where its time
+/// has come, piece k's being the lead and k gaps after the start, and the source has it there; reads each link once that
+/// is up and gave no end and no failure, and answers what came; and lets
 /// the sender tick. So a lead lets reports go out before the first piece, and a piece that is waited for goes out in the
 /// first turn that finds it there, with that turn's moment as its timestamp. Where no piece went out, or the next isn't due
 /// yet, it rests on a link before the next turn.
@@ -131,11 +134,13 @@ pub fn send<S: LiveSource, L: Link, C: Clock>(
         sender.old sender.new (record {
           moments = C.moments clock.new;
           octets = S.remaining source.new;
+          payloads = S.payloads source.new;
           answers = map L.reads links.new;
         }) links.old links.new from
         (SendsSource (setup_of settings.now sender.old (length links.old)) result (new_run from (record {
           moments = C.moments clock.old;
           octets = S.remaining source.old;
+          payloads = S.payloads source.old;
           answers = map L.reads links.old;
         }))) }
     ensures set { StaysSet sender.old sender.new }

@@ -1,7 +1,7 @@
 -- The payloads of a sending are the first pieces of its source.
 use Rattle.std.proofs.Common.{ap, subst}
 use Rattle.outside_host.specs.Shelf.{Shelf}
-use Rattle.rist_send.specs.Given.{Gives}
+use Rattle.rist_send.specs.Given.{Gives, GivesPayloads}
 use Rattle.rist_send.specs.Served.{Outside}
 use Rattle.rist_words.specs.CommandLine.{SendCommand}
 use Rattle.rist_send.proofs.PacketLemmas.{sent_as_packets}
@@ -31,5 +31,6 @@ in_pieces tells live old new c status s =
           took_all live.line c.stream.flow (session_sent c) s.to.work.history s.links_were s.links_are link d s.given among few same (s.known calls link d among);
       sent = s.to.sent;
       packets = sent_as_packets (setup_sent c) s.end _ s.to s.sends tt;
+      payloads = λ payloads told. (s.end, s.answer, subst (λ left. GivesPayloads s.end payloads left s.to.sent) (ap (λ (o : Outside). o.payloads) s.left) (s.sends.gives_payloads payloads told));
       pieces = λ octets told. (s.end, s.answer, subst (λ left. Gives s.end octets left s.to.sent) (ap (λ (o : Outside). o.octets) s.left) (s.sends.gives octets told));
     }

@@ -50,12 +50,8 @@ same_setup : (c : SendCommand) (s : SenderState) (links : ℕ) → IsSetTo s c �
 same_setup c s links set is = rw (set.flow, set.first, set.hold, set.size, set.bonding, set.session, is) refl
 
 -- what is left of clock, source and reads
-abbrev outside_with : Option (ℕ → ℕ) → Option (List ℕ) → List (Option (ℕ → Answer)) → Outside
-outside_with moments octets answers = record { moments = moments; octets = octets; answers = answers }
-
-same_outside : (x y : Outside) → x.moments ≡ y.moments → x.octets ≡ y.octets → x.answers ≡ y.answers → x ≡ y
-same_outside x y a b d =
-    ap (λ m. outside_with m x.octets x.answers) a ∙ (ap (λ o. outside_with y.moments o x.answers) b ∙ ap (λ z. outside_with y.moments y.octets z) d)
+same_outside : (x y : Outside) → x.moments ≡ y.moments → x.octets ≡ y.octets → x.payloads ≡ y.payloads → x.answers ≡ y.answers → x ≡ y
+same_outside x y a b p d = λ i. record { moments = a i; octets = b i; payloads = p i; answers = d i }
 
 -- what a run left is what the line asks for
 pub sends_as : {L : Type 0} (line : LinkTells L) (c : SendCommand) (sealer : Option SealerState) (pace : SendSettings) (s after : SenderState) (had has : Outside) (was is : List L) (end : Result Unit SendFault) (status : Status)
@@ -67,7 +63,7 @@ sends_as line c sealer pace s after had has was is end status paced set count an
   answer = answer;
   to = runs.to;
   sends = subst (λ setup. SendsSource setup end (new_run (no_work sealer) had) runs.to) (ap (λ p. setup_of p s (length was)) paced ∙ same_setup c s (length was) set count) runs.fact;
-  left = same_outside (outside_left runs.to) has runs.moments runs.octets runs.answers;
+  left = same_outside (outside_left runs.to) has runs.moments runs.octets runs.payloads runs.answers;
   given = subst (λ f. AreServed line f (session_sent c) [] runs.to.work.history was is) set.flow
       (subst (λ x. AreServed line s.flow x [] runs.to.work.history was is) set.session runs.given);
 }
@@ -194,8 +190,8 @@ pub put_back : {A : Type 0} (n : ℕ) (xs ys : List A) → n ≡ length ys → x
 put_back n xs ys count same = rw (count, same) (front_of ys (drop (length ys) ys))
 
 -- what a run left, under the names of its caller
-pub sends_same : {I L C : Type 0} (line : LinkTells L) (moments : C → Option (ℕ → ℕ)) (remaining : I → Option (List ℕ)) (c : SendCommand) (sealer : Option SealerState) (had : Outside) (was : List L)
+pub sends_same : {I L C : Type 0} (line : LinkTells L) (moments : C → Option (ℕ → ℕ)) (remaining : I → Option (List ℕ)) (payloads : I → Option (List (List ℕ))) (c : SendCommand) (sealer : Option SealerState) (had : Outside) (was : List L)
     (clock clock' : C) (source source' : I) (links links' : List L) (status status' : Status) → clock' ≡ clock → source' ≡ source → links' ≡ links → status' ≡ status
-    → SendsAs line c sealer had (record { moments = moments clock; octets = remaining source; answers = map line.reads links }) was links status
-    → SendsAs line c sealer had (record { moments = moments clock'; octets = remaining source'; answers = map line.reads links' }) was links' status'
-sends_same line moments remaining c sealer had was clock clock' source source' links links' status status' a b d e sends = rw (a, b, d, e) sends
+    → SendsAs line c sealer had (record { moments = moments clock; octets = remaining source; payloads = payloads source; answers = map line.reads links }) was links status
+    → SendsAs line c sealer had (record { moments = moments clock'; octets = remaining source'; payloads = payloads source'; answers = map line.reads links' }) was links' status'
+sends_same line moments remaining payloads c sealer had was clock clock' source source' links links' status status' a b d e sends = rw (a, b, d, e) sends

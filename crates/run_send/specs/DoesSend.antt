@@ -25,7 +25,8 @@ pub record DoesSend {I O E L C : Type 0} (told : Bool) (tells : Tells I O E) (li
   -- was read of it and nothing written
   pub sent : IsUnused told old → (CanRefuse status → ⊥) → Sent tells live old new c status
   pub unsent : IsUnused told old → CanRefuse status → Unsent old new c
-  -- the payloads sent are the first pieces of the source's octets, in order, each once, and with Done all of them
+  -- the payloads sent are the first pieces of the source's octets, or where it comes in datagrams the first of their
+  -- payloads as they came, in order, each once, and with Done all of them
   pub pieces : IsUnused told old → (CanRefuse status → ⊥) → SentInPieces tells live old new c status
   -- it touches only what its line speaks of
   pub around : IsUnused told old → KeepsAround old new c

@@ -7,7 +7,7 @@ use Rattle.outside_host.specs.declared.host.Place.TheVariants.{Here, Back}
 use Rattle.sender_rules.specs.Sendings.{sent_packets}
 use Rattle.rist_sender.specs.History.{Event, sendings_of, tried_as, tried_on}
 use Rattle.rist_sender.specs.Links.{datagrams_given}
-use Rattle.rist_send.specs.Given.{Gives}
+use Rattle.rist_send.specs.Given.{Gives, GivesPayloads}
 use Rattle.rist_send.specs.Packets.{AreSentAs}
 use Rattle.rist_sender.specs.Served.{AreServed}
 use Rattle.rist_send.specs.declared.fault.SendFault.{SendFault}
@@ -22,6 +22,12 @@ use Rattle.run_parts.specs.declared.status.Status.{Status}
 abbrev pub SendsPieces : List ℕ → Option (List ℕ) → List (List ℕ) → Status → Type 0
 SendsPieces octets left sent status =
     (end : Result Unit SendFault) × (status ≡ send_status end) × Gives end octets left sent
+
+-- Payloads were sent of a source that comes in datagrams, and had these payloads and has these left: with Done all of
+-- them, each whole, in order, once, and with any other status the first ones.
+abbrev pub SendsPayloads : List (List ℕ) → Option (List (List ℕ)) → List (List ℕ) → Status → Type 0
+SendsPayloads payloads left sent status =
+    (end : Result Unit SendFault) × (status ≡ send_status end) × GivesPayloads end payloads left sent
 
 -- a sender was given such payloads of a line's source, and the links of the line just the datagrams that it made
 pub record SentInPieces {I O E L C : Type 0} (tells : Tells I O E) (live : TellsLive L C) (old new : Shelf I O E L C)
@@ -48,3 +54,5 @@ pub record SentInPieces {I O E L C : Type 0} (tells : Tells I O E) (live : Tells
   pub packets : AreSentAs c.stream.nulls c.stream.first (reverse sent) (sent_packets (sendings_of history))
   pub pieces : (octets : List ℕ) → tells.remaining source ≡ Some octets
       → SendsPieces octets (tells.remaining spent) sent status
+  pub payloads : (payloads : List (List ℕ)) → tells.payloads source ≡ Some payloads
+      → SendsPayloads payloads (tells.payloads spent) sent status

@@ -40,12 +40,14 @@ abbrev pub outside_of : {I O E L C : Type 0} → Tells I O E → TellsLive L C �
 outside_of tells live clock source links = record {
   moments = live.moments clock;
   octets = tells.remaining source;
+  payloads = tells.payloads source;
   answers = map live.line.reads links;
 }
 
 -- what a run has left of them
 abbrev pub outside_left : Run → Outside
-outside_left run = record { moments = run.moments; octets = run.octets; answers = run.answers }
+outside_left run =
+    record { moments = run.moments; octets = run.octets; payloads = run.payloads; answers = run.answers }
 
 -- a sending of a line ran
 pub record Sent {I O E L C : Type 0} (tells : Tells I O E) (live : TellsLive L C) (old new : Shelf I O E L C)

@@ -89,10 +89,12 @@ fn send_with<S: LiveSource, L: Link, C: Clock>(
         (shown_send line.now) sealer (record {
           moments = C.moments clock.old;
           octets = S.remaining source.old;
+          payloads = S.payloads source.old;
           answers = map L.reads links.old;
         }) (record {
           moments = C.moments clock.new;
           octets = S.remaining source.new;
+          payloads = S.payloads source.new;
           answers = map L.reads links.new;
         }) links.old links.new result }
     ensures memory { CanRefuse result → (result ≡ Status.Memory)

@@ -1,5 +1,5 @@
 -- A part of a run: what it leaves of sender, progress, source and links.
-use Rattle.std.specs.Prelude.{◌≡◌, ◌≢◌, ◌≤◌, ◌-◌, ◌*◌, ◌^◌, ℕ, List, length, map, Option, Result}
+use Rattle.std.specs.Prelude.{◌≡◌, ◌≤◌, ◌-◌, ◌^◌, ℕ, List, length, map, Option, Result}
 use Rattle.std.specs.List.{range_with_len}
 use Rattle.outside_net.specs.Links.{Answer}
 use Rattle.outside_net.specs.Links.{LinkTells}
@@ -14,18 +14,20 @@ use Rattle.rist_send.specs.Turns.{ReadsInTurn}
 use Rattle.rist_sender.specs.Served.{AreServed}
 use Rattle.rist_send.specs.Served.{Outside}
 
--- the octets before the next piece are no more than the longest source has
+-- the place of the next piece is no more than 2^40
 abbrev pub IsPlace : Stage → Type 0
-IsPlace (Reading k) = 1316 * k ≤ 2 ^ 40
+IsPlace (Reading k) = k ≤ 2 ^ 40
 IsPlace (Ended moment) = Unit {0}
 
 -- the outside where a part of a run doesn't come to its clock, nor to its source
-abbrev pub with_source : Run → Option (List ℕ) → List (Option (ℕ → Answer)) → Outside
-with_source run octets answers = record { moments = run.moments; octets = octets; answers = answers }
+abbrev pub with_source : Run → Option (List ℕ) → Option (List (List ℕ)) → List (Option (ℕ → Answer)) → Outside
+with_source run octets payloads answers =
+    record { moments = run.moments; octets = octets; payloads = payloads; answers = answers }
 
 -- the outside of a run whose links have these answers still to give
 abbrev pub with_links : Run → List (Option (ℕ → Answer)) → Outside
-with_links run answers = record { moments = run.moments; octets = run.octets; answers = answers }
+with_links run answers =
+    record { moments = run.moments; octets = run.octets; payloads = run.payloads; answers = answers }
 
 -- sender, progress and outside are at what a run has come to
 pub record IsAt (s : SenderState) (p : Progress) (outside : Outside) (run : Run) : Type 0 where
@@ -33,6 +35,7 @@ pub record IsAt (s : SenderState) (p : Progress) (outside : Outside) (run : Run)
   pub progress : run.progress ≡ p
   pub moments : run.moments ≡ outside.moments
   pub octets : run.octets ≡ outside.octets
+  pub payloads : run.payloads ≡ outside.payloads
   pub answers : run.answers ≡ outside.answers
 
 -- a part of a run comes to a run of which P holds

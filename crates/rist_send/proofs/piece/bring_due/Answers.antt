@@ -18,7 +18,7 @@ pub returns-else-is_due-clause-work : goal.returns-else-is_due-clause-work
 returns-else-is_due-clause-work g c = λ from at.
     let setup = setup_of c.args.settings.now c.args.sender.now (length c.args.links.now) in
     let no = c.if-is_due.ensures.value ∙ ap (λ (p : Progress). is_due c.args.settings.now p c.args.k) (sym at.progress) in
-    moves_none _ c.args.sender.now c.args.progress.now (with_source from (g.S.Source.remaining c.args.source.now) (map g.L.Link.reads c.args.links.now)) c.args.links.now from _ from refl at
+    moves_none _ c.args.sender.now c.args.progress.now (with_source from (g.S.Source.remaining c.args.source.now) (g.S.LiveSource.payloads c.args.source.now) (map g.L.Link.reads c.args.links.now)) c.args.links.now from _ from refl at
     (subst (λ (b : Bool). IfElse b (BringsDue setup c.args.k (Ok tt) from from) (Stays (Ok tt) from from)) no (refl, refl))
 
 pub returns-else-is_due-clause-waits : goal.returns-else-is_due-clause-waits

@@ -16,7 +16,7 @@ returns-in-Reading-clause-work g c = λ from at.
 pub returns-in-Ended-clause-work : goal.returns-in-Ended-clause-work
 returns-in-Ended-clause-work g c = λ from at.
     let setup = setup_of c.args.settings.now c.args.sender.now (length c.args.links.now) in
-    moves_none _ c.args.sender.now c.args.progress.now (with_source from (g.S.Source.remaining c.args.source.now) (map g.L.Link.reads c.args.links.now)) c.args.links.now from _ from refl at
+    moves_none _ c.args.sender.now c.args.progress.now (with_source from (g.S.Source.remaining c.args.source.now) (g.S.LiveSource.payloads c.args.source.now) (map g.L.Link.reads c.args.links.now)) c.args.links.now from _ from refl at
     (subst (λ (s : Stage). BringsNext setup s (Ok tt) from from) (sym (ap (λ (p : Progress). p.stage) at.progress ∙ c.in-Ended.is)) (refl, refl))
 
 pub returns-in-Ended-clause-waits : goal.returns-in-Ended-clause-waits

@@ -12,7 +12,7 @@ use Rattle.rist_send.specs.Sending.{TurnsOn}
 use Rattle.rist_send.specs.Inside.Moves.{IsPlace}
 use Rattle.rist_send.specs.Served.{Outside, new_run}
 use Rattle.rist_send.proofs.MoveLemmas.{moves_none, moves_then, moves_next, setup_same, runs_of}
-use Rattle.rist_send.proofs.GivenLemmas.{sends_source}
+use Rattle.rist_send.proofs.PayloadLemmas.{sends_source}
 use Rattle.rist_send.proofs.sending.send.Goals as goal
 
 abbrev last_with : Bool → Result Unit SendFault
@@ -34,9 +34,9 @@ loop-count-init g c = record {
   faults = refl;
   never = λ n. (n, ap (λ (p : Progress). p.stage) c.new-progress.ensures.value);
   does = λ from stands.
-      let outside : Outside = record { moments = g.C.Clock.moments c.args.clock.now; octets = g.S.Source.remaining c.args.source.now; answers = map g.L.Link.reads c.args.links.now } in
+      let outside : Outside = record { moments = g.C.Clock.moments c.args.clock.now; octets = g.S.Source.remaining c.args.source.now; payloads = g.S.LiveSource.payloads c.args.source.now; answers = map g.L.Link.reads c.args.links.now } in
       moves_none _ c.args.sender.now c.new-progress.result outside c.args.links.now (new_run from outside) _ (new_run from outside) refl
-      (record { sender = stands; progress = sym c.new-progress.ensures.value; moments = refl; octets = refl; answers = refl }) refl;
+      (record { sender = stands; progress = sym c.new-progress.ensures.value; moments = refl; octets = refl; payloads = refl; answers = refl }) refl;
 }
 
 pub loop-count-preserved : goal.loop-count-preserved
@@ -59,8 +59,8 @@ loop-count-preserved g c =
           (after.never, after.stage ∙ before.1);
       does = λ from stands.
           let d = inv.does from stands in
-          let old : Outside = record { moments = g.C.Clock.moments c.args.clock.now; octets = g.S.Source.remaining c.args.source.now; answers = map g.L.Link.reads c.args.links.now } in
-          let new : Outside = record { moments = g.C.Clock.moments c.turn.new.clock; octets = g.S.Source.remaining c.turn.new.source; answers = map g.L.Link.reads c.turn.new.links } in
+          let old : Outside = record { moments = g.C.Clock.moments c.args.clock.now; octets = g.S.Source.remaining c.args.source.now; payloads = g.S.LiveSource.payloads c.args.source.now; answers = map g.L.Link.reads c.args.links.now } in
+          let new : Outside = record { moments = g.C.Clock.moments c.turn.new.clock; octets = g.S.Source.remaining c.turn.new.source; payloads = g.S.LiveSource.payloads c.turn.new.source; answers = map g.L.Link.reads c.turn.new.links } in
           let run = new_run from old in
           let setup = setup_of settings sender (length links) in
           moves_next _ sender loop.sender c.turn.new.sender loop.progress c.turn.new.progress _ new links loop.links c.turn.new.links run

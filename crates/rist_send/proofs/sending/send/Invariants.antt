@@ -21,10 +21,10 @@ invariant-loop-count g l = record {
   never : IsNeverReady (g.S.LiveSource.ready l.fn.source) → IsNeverReady (g.S.LiveSource.ready l.source) × (l.progress.stage ≡ Reading 0);
   does : (from : Work) → IsSenderAfter l.fn.sender from
       → Moves (record { taken = g.L.Link.taken; knows = g.L.Link.knows; faults = g.L.Link.faults; reads = g.L.Link.reads; ends = g.L.Link.ends })
-      l.fn.sender l.sender l.progress (record { moments = g.C.Clock.moments l.clock; octets = g.S.Source.remaining l.source; answers = map g.L.Link.reads l.links }) l.fn.links l.links
-      (new_run from (record { moments = g.C.Clock.moments l.fn.clock; octets = g.S.Source.remaining l.fn.source; answers = map g.L.Link.reads l.fn.links }))
+      l.fn.sender l.sender l.progress (record { moments = g.C.Clock.moments l.clock; octets = g.S.Source.remaining l.source; payloads = g.S.LiveSource.payloads l.source; answers = map g.L.Link.reads l.links }) l.fn.links l.links
+      (new_run from (record { moments = g.C.Clock.moments l.fn.clock; octets = g.S.Source.remaining l.fn.source; payloads = g.S.LiveSource.payloads l.fn.source; answers = map g.L.Link.reads l.fn.links }))
       (TurnsOn (setup_of l.settings l.fn.sender (length l.fn.links)) l.count
-      (new_run from (record { moments = g.C.Clock.moments l.fn.clock; octets = g.S.Source.remaining l.fn.source; answers = map g.L.Link.reads l.fn.links })));
+      (new_run from (record { moments = g.C.Clock.moments l.fn.clock; octets = g.S.Source.remaining l.fn.source; payloads = g.S.LiveSource.payloads l.fn.source; answers = map g.L.Link.reads l.fn.links })));
 }
 
 abbrev pub decreases-loop-count : goal.decreases-loop-count

@@ -20,14 +20,15 @@ returns-in-Ok-clause-work g c = λ from at.
     let mid = c.bring_next.new.links in
     let new = c.read_and_tick.new.links in
     let settings = c.args.settings.now in
-    let begun : IsAt c.args.sender.now c.begin.new.self (with_source run (g.S.Source.remaining c.args.source.now) (map g.L.Link.reads old)) run = record {
+    let begun : IsAt c.args.sender.now c.begin.new.self (with_source run (g.S.Source.remaining c.args.source.now) (g.S.LiveSource.payloads c.args.source.now) (map g.L.Link.reads old)) run = record {
       sender = at.sender;
       progress = ap (begun_at moment) at.progress ∙ sym c.begin.ensures.state;
       moments = refl;
       octets = at.octets;
+      payloads = at.payloads;
       answers = at.answers;
     } in
-    let outside = with_source run (g.S.Source.remaining c.bring_next.new.source) (map g.L.Link.reads mid) in
+    let outside = with_source run (g.S.Source.remaining c.bring_next.new.source) (g.S.LiveSource.payloads c.bring_next.new.source) (map g.L.Link.reads mid) in
     let d = rebased _ c.args.sender.now c.bring_next.new.sender c.bring_next.new.progress outside old mid from run _ refl (c.in-Ok.ensures.work run begun) in
     moves_as _ c.args.sender.now c.read_and_tick.new.sender c.read_and_tick.new.progress _ _ old new from _ _
     (follows _ c.args.sender.now c.bring_next.new.sender c.read_and_tick.new.sender c.bring_next.new.progress c.read_and_tick.new.progress outside (map g.L.Link.reads new) old mid new from run settings
@@ -38,6 +39,7 @@ returns-in-Ok-clause-work g c = λ from at.
       progress = is.progress;
       moments = is.moments ∙ ap (option_map later) at.moments ∙ sym c.now-moment.ensures.moments;
       octets = is.octets;
+      payloads = is.payloads;
       answers = is.answers;
     })
     (λ to fact. record { moment = moment; first = subst (λ (told : Option (ℕ → ℕ)). IsFirst told moment) (sym at.moments) c.now-moment.ensures.value; parts = fact })
@@ -49,14 +51,15 @@ returns-in-Err-clause-work g c = λ from at.
     let old = c.args.links.now in
     let mid = c.bring_next.new.links in
     let setup = setup_of c.args.settings.now c.args.sender.now (length old) in
-    let begun : IsAt c.args.sender.now c.begin.new.self (with_source run (g.S.Source.remaining c.args.source.now) (map g.L.Link.reads old)) run = record {
+    let begun : IsAt c.args.sender.now c.begin.new.self (with_source run (g.S.Source.remaining c.args.source.now) (g.S.LiveSource.payloads c.args.source.now) (map g.L.Link.reads old)) run = record {
       sender = at.sender;
       progress = ap (begun_at moment) at.progress ∙ sym c.begin.ensures.state;
       moments = refl;
       octets = at.octets;
+      payloads = at.payloads;
       answers = at.answers;
     } in
-    let outside = with_source run (g.S.Source.remaining c.bring_next.new.source) (map g.L.Link.reads mid) in
+    let outside = with_source run (g.S.Source.remaining c.bring_next.new.source) (g.S.LiveSource.payloads c.bring_next.new.source) (map g.L.Link.reads mid) in
     let d = rebased _ c.args.sender.now c.bring_next.new.sender c.bring_next.new.progress outside old mid from run _ refl (c.in-Err.ensures.work run begun) in
     moves_as _ c.args.sender.now c.bring_next.new.sender c.bring_next.new.progress _ _ old mid from _ _
     (stops _ c.args.sender.now c.bring_next.new.sender c.bring_next.new.progress outside old mid from run (BringsNext setup from.progress.stage) (ReadsAndTicks setup) c.in-Err.fault d)
@@ -65,6 +68,7 @@ returns-in-Err-clause-work g c = λ from at.
       progress = is.progress;
       moments = is.moments ∙ ap (option_map later) at.moments ∙ sym c.now-moment.ensures.moments;
       octets = is.octets;
+      payloads = is.payloads;
       answers = is.answers;
     })
     (λ to fact. record { moment = moment; first = subst (λ (told : Option (ℕ → ℕ)). IsFirst told moment) (sym at.moments) c.now-moment.ensures.value; parts = fact })

@@ -20,7 +20,7 @@ returns-clause-sent g c told clock_is entropy_is ran =
         fresh = w.in-Ok-sealer_for.ensures.ok;
         drawn = drawn_between _ _ _ _ _ _ (ap (λ s. s.entropies) (c.in-Ok.ensures.same told)) (ap (λ s. s.entropies) (c.back_clock.ensures.same told))
             (w.in-Ok-sealer_for.ensures.drawn (told, ap (λ s. s.next_entropy) (c.in-Ok.ensures.same told) ∙ entropy_is));
-        sends = sends_same _ g.H.Time.Clock.moments g.H.Input.Source.remaining _ _ _ _ _ _ _ _ _ _ _ _ w.clock-is w.source-is w.links-is w.status-is
+        sends = sends_same _ g.H.Time.Clock.moments g.H.Input.Source.remaining g.H.Input.LiveSource.payloads _ _ _ _ _ _ _ _ _ _ _ _ w.clock-is w.source-is w.links-is w.status-is
             (w.send_with-status.ensures.work (λ r. ran (subst CanRefuse (sym w.status-is) r)));
       }
       | in-Err-sealer_for w ↦ absurd (ran (subst CanRefuse (sym w.status-is) w.in-Err-sealer_for.ensures.err))
