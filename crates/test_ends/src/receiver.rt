@@ -685,6 +685,45 @@ fn what_is_missing_is_asked_for_and_again(rt: HostRuntime) -> Result<(), Fail> {
     Ok(())
 }
 
+/// After 10 at tick 0 and some rows the figures say that so many numbers were asked for.
+fn expect_count(alloc: Global, asks: Asking, rows: &[Row], want: u64) -> Result<(), Fail> {
+    let mut receiver = speaking(alloc, Profile::Simple, asks)?;
+    let mut all = Vec::new(alloc);
+    all.push(TEN)?;
+    all.extend_from_slice(rows)?;
+    let _ = made(alloc, &mut receiver, all.as_slice())?;
+    expect(receiver.figures().asked == want, "another count")
+}
+
+const FIFTEEN: Row = Row::Media(1_112, 15, b"F");
+
+const THIRTEEN: Row = Row::Media(1_112, 13, b"D");
+
+const SIXTEEN: Row = Row::Media(1_112, 16, b"G");
+
+static ASKED_COUNTS: [(Asking, &[Row], u64); 5] = [
+    (Asking::Ranges, &[SIXTEEN, REPORTS_FIRST], 0),
+    // 11 and the four after it.
+    (Asking::Ranges, &[SIXTEEN, REPORTS_FIRST, FIRST], 5),
+    (Asking::Ranges, &[SIXTEEN, REPORTS_FIRST, FIRST, SECOND], 10),
+    // 11, and the first and the third after it: a mask of 101.
+    (Asking::Masks, &[FIFTEEN, THIRTEEN, REPORTS_FIRST, FIRST], 3),
+    // 11 and 12, and 14, by two words.
+    (
+        Asking::Ranges,
+        &[FIFTEEN, THIRTEEN, REPORTS_FIRST, FIRST],
+        3,
+    ),
+];
+
+#[test]
+fn each_number_that_is_asked_for_counts_each_time(rt: HostRuntime) -> Result<(), Fail> {
+    for (asks, rows, want) in &ASKED_COUNTS {
+        expect_count(rt.alloc(), *asks, rows, *want)?;
+    }
+    Ok(())
+}
+
 // 8,000 and then 16,000 microseconds on link 0 are 9,000, so 810 ticks: 3,159 and 3,160.
 static ROUND_TRIPS: [(&[Row], &[u8]); 3] = [
     (

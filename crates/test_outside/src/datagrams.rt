@@ -3,8 +3,8 @@
 ghost use Rattle.std.specs.Prelude.{◌≡◌};
 
 use crate::asserts::{assert_given, assert_put, assert_read};
-use datagram_ends::{DatagramOut, DatagramSink, UdpOut, UdpSource, media_of};
-use end_sign::AskedAfter;
+use datagram_ends::{DatagramOut, DatagramSink, UdpOut, UdpSource, media_of, payload_of};
+use end_sign::{AskedAfter, EndSign};
 use media_address::{Form, MediaAddress, address_of};
 use outside_host::{Host, HostBad, RealHost};
 use outside_io::{Failed, FailingCalls};
@@ -66,6 +66,7 @@ fn of_rtp_the_payload_is_taken(rt: HostRuntime) {
     for (datagram, carried) in &CARRIED {
         assert!(rt; media_of(Form::Rtp, datagram) == *carried);
         assert!(rt; media_of(Form::Udp, datagram) == *datagram);
+        assert!(rt; payload_of(Form::Rtp, datagram) == *carried);
     }
 }
 
@@ -254,11 +255,72 @@ fn what_is_no_stream_is_passed_over(rt: HostRuntime) -> Result<(), Fail> {
         &address_in("udp://127.0.0.93:6804")?,
         AskedAfter::with(9),
     )?;
-    // One of more than 2,048 octets is dropped.
-    for count in [2049, 2048] {
+    // One of more than 1,500 octets is dropped.
+    for count in [2049, 2048, 1501, 1500] {
         send_raw(&rt, "udp://127.0.0.93:6804", &block[..count])?;
     }
-    assert_read(&rt, &mut source, &mut block, Ok(2048));
+    assert_read(&rt, &mut source, &mut block, Ok(1500));
+    Ok(())
+}
+
+/// The header of an RTP packet: version 2, payload type 33.
+const HEADER: &[u8; 12] = b"\x80\x21\x00\x0a\x00\x00\x00\x00\x10\x20\x30\x40";
+
+/// Lengths of payloads, the octet of which each is made, and whether it is given: an empty one is passed over, and one of more than 1,500
+/// octets dropped.
+const PAYLOADS: [(usize, u8, bool); 7] = [
+    (188, 1, true),
+    (1316, 2, true),
+    (1328, 3, true),
+    (1501, 4, false),
+    (1500, 5, true),
+    (0, 6, false),
+    (1, 7, true),
+];
+
+/// The next payload is of so many of these octets.
+fn assert_payload<E: EndSign>(
+    rt: &impl Abort,
+    source: &mut UdpSource<E>,
+    block: &mut [u8; 1500],
+    want: &[u8],
+) {
+    assert!(rt; source.read_payload(block) == Ok(want.len()));
+    assert!(rt; block.get(..want.len()) == Some(want));
+}
+
+/// Sends these payloads to an address, each in a datagram of the address's form.
+fn send_payloads(rt: &HostRuntime, address: &MediaAddress) -> Result<(), Fail> {
+    let mut out = UdpOut::open(rt, address)?;
+    for (count, octet, _) in &PAYLOADS {
+        let mut datagram = [*octet; 1513];
+        datagram[..12].copy_from_slice(HEADER);
+        let end = 12 + (*count).min(1501);
+        let octets = match address.form {
+            Form::Udp => &datagram[12..end],
+            Form::Rtp => &datagram[..end],
+        };
+        if out.send(octets).is_err() {
+            return Err(Fail::new("not sent"));
+        }
+    }
+    Ok(())
+}
+
+#[test]
+fn a_datagram_gives_its_payload_whole(rt: HostRuntime) -> Result<(), Fail> {
+    for word in ["udp://127.0.0.93:6808", "rtp://127.0.0.93:6809"] {
+        let address = address_in(word)?;
+        let mut source = UdpSource::open(&rt, &address, AskedAfter::with(20))?;
+        send_payloads(&rt, &address)?;
+        let mut block = [0; 1500];
+        for (count, octet, is_given) in &PAYLOADS {
+            if *is_given {
+                let payload = [*octet; 1500];
+                assert_payload(&rt, &mut source, &mut block, &payload[..(*count).min(1500)]);
+            }
+        }
+    }
     Ok(())
 }
 

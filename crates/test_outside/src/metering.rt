@@ -43,10 +43,13 @@ fn a_receivers_line_is_one_object(rt: HostRuntime) -> Result<(), Fail> {
         exhausted: 7,
         refused: 9,
         held: 120,
+        asked: 39,
+        lost: 8,
+        fill: 979,
     };
     let line = receiver_line(rt.alloc(), 2_000_000, 1, &figures)?;
     let want =
-        b"{\"at\":2000000,\"event\":\"receiver\",\"flow\":1,\"held\":120,\"packets\":{\"behind\":3,\"early\":4,\"exhausted\":7,\"kept\":8000,\"late\":2,\"recovered\":31,\"span\":5,\"stranger\":6,\"twice\":24000},\"refused\":9}\n";
+        b"{\"asked\":39,\"at\":2000000,\"event\":\"receiver\",\"fill\":979,\"flow\":1,\"held\":120,\"lost\":8,\"packets\":{\"behind\":3,\"early\":4,\"exhausted\":7,\"kept\":8000,\"late\":2,\"recovered\":31,\"span\":5,\"stranger\":6,\"twice\":24000},\"refused\":9}\n";
     assert!(rt; line.as_slice() == want.as_slice());
     Ok(())
 }

@@ -6,7 +6,7 @@ ghost use Rattle.rist_wire.specs.Session.{IsSession};
 use crate::desk::simple;
 use bond_links::Bond;
 use link_channels::Channel;
-use live_source::{LiveSource, PausingSource};
+use live_source::{LiveSource, PausingSource, PayloadSource};
 use outside_io::{Pieces, Words};
 use outside_net::{Octets, ScriptClock, ScriptLink, ScriptRead};
 use psk_keys::Phrase;
@@ -316,6 +316,63 @@ fn asking_later(alloc: Global) -> Result<ScriptLink, Fail> {
     reads.push(ScriptRead::Quiet)?;
     reads.push(ScriptRead::Datagram(Channel::Control, compound))?;
     Ok(ScriptLink::with(alloc, reads, true, 64, &[], &[])?)
+}
+
+/// A source in datagrams with payloads of these lengths, each of one octet again and again.
+fn in_datagrams(alloc: Global, payloads: &[(usize, u8)]) -> Result<PayloadSource, Fail> {
+    let mut source = PayloadSource::new(alloc);
+    for (length, octet) in payloads {
+        let octets = [*octet; 1501];
+        source.add(&octets[..(*length).min(1501)])?;
+    }
+    Ok(source)
+}
+
+// An empty payload and one of 1,501 octets are dropped.
+const GIVEN: &[(usize, u8)] = &[
+    (188, 1),
+    (1316, 2),
+    (1328, 3),
+    (0, 4),
+    (1501, 5),
+    (1500, 6),
+    (1, 7),
+];
+
+// Each behind an RTP header of 12 octets, one a turn.
+const PAYLOADS: &[Datagram] = &[
+    (Channel::Media, 200),
+    REPORT,
+    WHOLE,
+    (Channel::Media, 1340),
+    (Channel::Media, 1512),
+    ONE,
+];
+
+const SIX: &[u64] = &[0, 1000, 2000, 3000, 4000, 5000];
+
+#[test]
+fn a_payload_of_a_datagram_is_sent_whole(rt: HostRuntime) -> Result<(), Fail> {
+    let alloc = rt.alloc();
+    let source = in_datagrams(alloc, GIVEN)?;
+    let ran = sent_from(alloc, source, SIX, 0, 6, link(alloc, &[])?)?;
+    expect_ran(&rt, &ran, Ok(()), PAYLOADS);
+    assert!(rt; ran.payload(0, 0) == Some([1; 188].as_slice()));
+    assert!(rt; ran.payload(0, 4) == Some([6; 1500].as_slice()));
+    // The source isn't at its end before a read has told that.
+    let source = in_datagrams(alloc, GIVEN)?;
+    let ran = sent_from(alloc, source, SIX, 0, 5, link(alloc, &[])?)?;
+    expect_ran(&rt, &ran, Err(SendFault::TurnsSpent), PAYLOADS);
+    // Between two payloads it pauses.
+    let source = PausingSource::with(
+        alloc,
+        in_datagrams(alloc, &[(188, 1), (188, 2)])?,
+        &[true, false],
+    )?;
+    let ran = sent_from(alloc, source, SIX, 0, 4, link(alloc, &[])?)?;
+    let two = &[(Channel::Media, 200), REPORT, (Channel::Media, 200)];
+    expect_ran(&rt, &ran, Ok(()), two);
+    Ok(())
 }
 
 /// Sends a piece and an octet, which the source answers to have there or not, a turn a millisecond.
