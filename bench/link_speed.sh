@@ -26,12 +26,8 @@ cat > "$work/crates/speed/src/main.rt" <<'RATTLE'
 use link_channels::{Channel, Profile};
 use outside_net::{Clock, Got, Link, LinkSpec, ProcessClock, Role, UdpLink};
 use std::io::Print;
+use std::net::{IpAddr, Ipv4Addr};
 use std::{env, io};
-
-const SPEC: LinkSpec = LinkSpec {
-    address: [127, 0, 0, 1],
-    port: 25_000,
-};
 
 // Reads until nothing has come for 300 reads.
 fn read_all(rt: &impl Print, link: &mut UdpLink, clock: &mut impl Clock) -> io::Result<()> {
@@ -98,7 +94,8 @@ fn main(rt: HostRuntime) -> io::Result<()> {
         return Ok(());
     };
     let role = if word.as_str() == "write" { Role::Sends } else { Role::Receives };
-    let Ok(mut link) = UdpLink::open(&rt, &SPEC, role, Profile::Simple) else {
+    let spec = LinkSpec::at(IpAddr::V4(Ipv4Addr::new(127, 0, 0, 1)), 25_000);
+    let Ok(mut link) = UdpLink::open(&rt, &spec, role, Profile::Simple) else {
         return println!(rt; "cannot open");
     };
     match word.as_str() {

@@ -6,10 +6,15 @@
                                                every other one are null packets
     pieces.py feed FILE PORT GAP [FORM]        sends them to a port of 127.0.0.1, GAP microseconds apart: each in a datagram; with
                                                `rtp` in an RTP packet, of which every third has two sources, an extension and
-                                               padding; with `thirds` in datagrams of up to three transport packets
-    pieces.py take FILE PORT [rtp]             writes what comes to a port of 127.0.0.1, until it is stopped; with `rtp` the payloads
+                                               padding; with `mixed` the octets of all in datagrams of 1 to 1,500, with an empty one
+                                               and one of 1,501 behind each eighth, and with `mixed-rtp` the same in RTP packets
+    pieces.py take FILE PORT [FORM]            writes what comes to a port of 127.0.0.1, until it is stopped; with `rtp` the payloads
                                                of RTP packets: it says what is none, which numbers are missing, and whether a
-                                               timestamp fell, and ends there with status 1
+                                               timestamp fell, and ends there with status 1; with `mixed` and `mixed-rtp` each datagram,
+                                               or each payload, behind two octets with its length
+    pieces.py alike FILE CAME END              what came by `take` in a mixed form are the datagrams that `feed` cuts FILE into, each as it is,
+                                               in order, but for the empty ones and those of 1,501 octets; at most END may be missing
+                                               after the last that came: its status is 1 where that doesn't hold
     pieces.py compare FILE CAME FRONT END      compares octets. At most FRONT pieces may be missing before the first that
                                                came and END after the last, none between, and none may come twice or out of
                                                its place; its status is 1 where that doesn't hold
@@ -63,15 +68,29 @@ def rtp_packet(k, piece):
 def datagrams_of(k, piece, form):
     if form == 'rtp':
         return [rtp_packet(k, piece)]
-    if form == 'thirds':
-        return [piece[at:at + 564] for at in range(0, LENGTH, 564)]
+    if form.startswith('mixed'):
+        strange = [b'', bytes([0xFF]) * 1501] if k % len(LENGTHS) == 0 else []
+        return [rtp_packet(k, payload) if form == 'mixed-rtp' else payload for payload in [piece, *strange]]
     return [piece]
+
+
+# One transport packet, seven, these and half a second header, the longest payload and one octet less, an octet, two and four packets.
+LENGTHS = [188, 1316, 1328, 1500, 1, 376, 1499, 752]
+
+
+def mixed_of(name):
+    """The octets of a file in pieces of these lengths, in turn."""
+    with open(name, 'rb') as octets:
+        k = 0
+        while piece := octets.read(LENGTHS[k % len(LENGTHS)]):
+            yield piece
+            k += 1
 
 
 def feed(name, port, gap, form=''):
     end = socket.socket(socket.AF_INET, socket.SOCK_DGRAM)
     start = time.monotonic()
-    for k, piece in enumerate(pieces_of(name)):
+    for k, piece in enumerate(mixed_of(name) if form.startswith('mixed') else pieces_of(name)):
         rest = start + k * int(gap) / 1e6 - time.monotonic()
         if rest > 0:
             time.sleep(rest)
@@ -100,9 +119,24 @@ def take(name, port, form=''):
     with open(name, 'wb', buffering=0) as out:
         while True:
             datagram = end.recv(65536)
-            if form == 'rtp':
+            if form in ('rtp', 'mixed-rtp'):
                 datagram, before = payload_of(datagram, before)
-            out.write(datagram)
+            out.write((len(datagram).to_bytes(2, 'big') if form.startswith('mixed') else b'') + datagram)
+
+
+def taken_of(name):
+    """What `take` wrote in a mixed form."""
+    with open(name, 'rb') as octets:
+        while length := octets.read(2):
+            yield octets.read(int.from_bytes(length, 'big'))
+
+
+def alike(name, came, end):
+    sent, got = list(mixed_of(name)), list(taken_of(came))
+    other = next((k for k, (one, another) in enumerate(zip(sent, got)) if one != another), min(len(sent), len(got)))
+    is_good = other == len(got) and len(sent) - len(got) <= int(end)
+    print(f'{len(got)} datagrams came of {len(sent)}, of which the first {other} are as they were sent: ' + ('good' if is_good else 'NOT GOOD'))
+    return 0 if is_good else 1
 
 
 class Came:
@@ -174,5 +208,5 @@ def cut(name, at, first, second):
             (before if k < int(at) else after).write(piece)
 
 
-sys.exit({'make': make, 'feed': feed, 'take': take, 'compare': compare, 'restarted': restarted,
+sys.exit({'make': make, 'feed': feed, 'take': take, 'alike': alike, 'compare': compare, 'restarted': restarted,
           'held': held, 'cut': cut}[sys.argv[1]](*sys.argv[2:]))

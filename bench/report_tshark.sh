@@ -3,7 +3,7 @@
 # their numbers, how many came first time and how many as a repeat (the last bit of the SSRC marks a retransmission, VSF TR-06-1, 5.3.3),
 # how many never came, octets, the length, jitter (RFC 3550, 6.4.1, without smoothing) and restarts where the page has them, and the octets
 # of each second of the link; and what the receiver asked for, as `rist show`
-# tells it, beside tshark's. tcpdump takes the sessions on the loopback interface: `rist send` to `rist recv` with 5 per cent lost each way
+# tells it and as the last line of `recv --stats` counts it, beside tshark's. tcpdump takes the sessions on the loopback interface: `rist send` to `rist recv` with 5 per cent lost each way
 # and requests by bit mask, the same with 20 per cent lost and requests by range, and with each number asked for just once, a sender that is
 # started again under another SSRC, and `ristsender` to `ristreceiver`. Where no packet is late both see the same, so all numbers have to be equal. Then ten million records
 # from a pipe through `rist report` and `rist count`: the greatest memory, at most 1 MB above that of a hundredth of the records, and
@@ -56,7 +56,7 @@ end() {
 
 # receive WORDS
 receive() {
-    timeout 100 $rist recv "$work/came" 127.0.0.1:5000 --idle 4000 "$@" > "$work/log" 2>&1 &
+    timeout 100 $rist recv "$work/came" 127.0.0.1:5000 --idle 4000 --stats 100 --stats-file "$work/stats" "$@" > "$work/log" 2>&1 &
     receiver=$!
     started="$started $receiver"
     sleep 0.5
@@ -83,11 +83,11 @@ PY
     "$RIST" show --pcap --udp 9000 "$work/back" > "$work/lines"
     tshark -r "$work/pcap" -d udp.port==5000,rtp -Y 'udp.dstport == 5000' -T fields -e frame.time_epoch -e rtp.ssrc -e rtp.seq -e udp.length \
         -e rtp.timestamp -e rtp.cc -e rtp.ext -e rtp.padding > "$work/media" 2> /dev/null
-    tshark -r "$work/pcap" -Y 'udp.dstport == 5000 or udp.dstport == 5001' -T fields -e frame.time_epoch > "$work/times" 2> /dev/null
+    tshark -r "$work/pcap" -Y 'udp.dstport == 5000 or udp.dstport == 5001' -T fields -e frame.time_epoch -e udp.dstport > "$work/times" 2> /dev/null
     tshark -r "$work/pcap" -d udp.port==5001,rtcp -Y 'udp.srcport == 5001' -T fields -E occurrence=a -e rtcp.app.subtype -e rtcp.app.data \
         -e rtcp.rtpfb.nack_pid -e rtcp.rtpfb.nack_blp > "$work/asked" 2> /dev/null
     python3 - "$work" <<'PY'
-import json, re, sys
+import json, os, re, sys
 work = sys.argv[1]
 
 
@@ -97,7 +97,9 @@ def micros(text):
 
 
 # By tshark: media by flow, unwrapped.
-times = [micros(line.strip()) for line in open(f'{work}/times')]
+rows = [line.rstrip('\n').split('\t') for line in open(f'{work}/times')]
+times = [micros(at) for at, _ in rows]
+began = {port: micros(at) for at, port in reversed(rows)}
 start, length = times[0], max(times) - times[0]
 flows, seconds, jitter, transits = {}, [0] * (length // 1_000_000 + 1), [], {}
 for line in open(f'{work}/media'):
@@ -143,8 +145,12 @@ for line in open(f'{work}/asked'):
             for at in range(0, len(words) - 3, 4):
                 first, more = int.from_bytes(words[at:at + 2], 'big'), int.from_bytes(words[at + 2:at + 4], 'big')
                 asked += [(first + k) & 0xFFFF for k in range(more + 1)]
-    for pid, mask in zip(pids, masks):
-        asked += [int(pid, 0)] + [(int(pid, 0) + 1 + k) & 0xFFFF for k in range(16) if int(mask, 0) >> k & 1]
+    # Some versions of tshark list the numbers of a mask behind the one that its word begins with, others don't.
+    pids, at = [int(pid, 0) for pid in pids], 0
+    for mask in (int(mask, 0) for mask in masks):
+        named = [pids[at]] + [(pids[at] + 1 + k) & 0xFFFF for k in range(16) if mask >> k & 1]
+        asked += named
+        at += len(named) if pids[at:at + len(named)] == named else 1
 shown = []
 for line in open(f'{work}/lines'):
     for first, more in json.loads(line).get('asks', []):
@@ -165,6 +171,12 @@ if not by_tshark['Recovered'] or not asked:
     wrong.append('nothing was lost, or tshark sees no requests')
 if sorted(shown) != sorted(asked):
     wrong.append(f'asked for: {len(shown)} shown, {len(asked)} by tshark')
+# The last line of `recv` comes seconds after its last request. A request that is made before the sender's first control datagram came
+# goes nowhere: none is where that came within the 25 ms for which no packet is asked for.
+if os.path.exists(f'{work}/stats'):
+    told = [it['asked'] for it in map(json.loads, open(f'{work}/stats')) if it['event'] == 'receiver'][-1]
+    if told < len(asked) or told > len(asked) and began['5001'] - began['5000'] < 25_000:
+        wrong.append(f'asked for: {told} by the last line of `recv`, {len(asked)} by tshark')
 if points != seconds:
     wrong.append(f'octets of the link: the page says {points}, tshark {seconds}')
 bits = page['Written'] * 8
@@ -225,6 +237,7 @@ if chosen librist 'ristsender to ristreceiver, 5 per cent lost each way'; then
     sleep 2
     kill $sender $receiver
     : > "$work/log"
+    rm -f "$work/stats"
     end
     beside || bad=1
 fi

@@ -1,6 +1,6 @@
 #!/bin/sh
-# The processor time a GB of `rist send` at 400 Mbit/s (--gap 26) over loopback, beside that of a C program that reads 1,316
-# octets and sends them, each in its time, and does no more. A third program takes what comes and drops it.
+# The processor time a GB of `rist send` at 400 Mbit/s (--gap 26) over loopback, beside that of a C program (`send_baseline.c`)
+# that reads 1,316 octets and sends them, each in its time, and does no more. A third program takes what comes and drops it.
 # Words: how many MB are sent (default 500). Needs cc and python3; bin/rist builds the program. It writes only below a new
 # folder in /tmp.
 set -eu
@@ -11,32 +11,6 @@ work=$(mktemp -d /tmp/send_run_speed.XXXXXX)
 sink=
 trap 'kill $sink 2> /dev/null || true; rm -rf "$work"' EXIT
 head -c "${size}000000" /dev/urandom > "$work/source"
-cat > "$work/plain.c" <<'C'
-#include <arpa/inet.h>
-#include <string.h>
-#include <time.h>
-#include <unistd.h>
-
-static long long now(void) {
-    struct timespec t;
-    clock_gettime(CLOCK_MONOTONIC, &t);
-    return t.tv_sec * 1000000LL + t.tv_nsec / 1000;
-}
-
-int main(void) {
-    unsigned char block[12 + 1316] = {0x80, 33};
-    struct sockaddr_in to = {.sin_family = AF_INET, .sin_port = htons(5000)};
-    inet_pton(AF_INET, "127.0.0.1", &to.sin_addr);
-    int out = socket(AF_INET, SOCK_DGRAM, 0);
-    long long start = now(), sent = 0;
-    for (ssize_t got; (got = read(0, block + 12, 1316)) > 0; sent++) {
-        while (now() < start + 26 * sent)
-            nanosleep(&(struct timespec){.tv_nsec = 1000000}, 0);
-        sendto(out, block, 12 + got, 0, (struct sockaddr *)&to, sizeof to);
-    }
-    return 0;
-}
-C
 cat > "$work/sink.c" <<'C'
 #include <arpa/inet.h>
 
@@ -48,7 +22,7 @@ int main(void) {
     for (;;) recv(in, block, sizeof block, 0);
 }
 C
-cc -O2 -o "$work/plain" "$work/plain.c"
+cc -O2 -o "$work/plain" "$here/send_baseline.c"
 cc -O2 -o "$work/sink" "$work/sink.c"
 "$here/../bin/rist" replay /dev/null /dev/null > "$work/log" 2>&1 || true
 "$work/sink" &
@@ -70,6 +44,6 @@ print('%.2f %.1f' % best)
 PYTHON
 }
 sent=$(measure "$here/../bin/rist" send - 127.0.0.1:5000 --gap 26 --linger 0)
-plain=$(measure "$work/plain")
+plain=$(measure "$work/plain" 5000 26)
 echo "$sent $plain" | awk '{
     printf "rist send: %s s of the processor a GB, %s s by the clock; read and sendto: %s and %s; ratio %.2f\n", $1, $2, $3, $4, $1 / $3 }'

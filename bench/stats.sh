@@ -70,10 +70,15 @@ counts = {said[at]: int(said[at + 1]) for at in range(len(said) - 1) if said[at 
 assert len(receiver) >= 20 and all(it["flow"] == 0 for it in receiver), len(receiver)
 for before, after in zip(receiver, receiver[1:]):
     assert all(before["packets"][name] <= after["packets"][name] for name in before["packets"]), after
+    assert before["asked"] <= after["asked"], after
 end = receiver[-1]
 for name, count in {**end["packets"], "refused": end["refused"]}.items():
     assert name == "recovered" or counts.get(name) == count, (name, count, counts)
 assert end["packets"]["recovered"] <= end["packets"]["kept"] and end["held"] == 0, end
+# A packet is sent again only where its number was asked for. How many were is compared with tshark's count by report_tshark.sh.
+assert end["packets"]["recovered"] <= end["asked"], end
+# The output was the source whole, so nothing was lost.
+assert end["lost"] == 0 and end["fill"] == 0, end
 print("receiver", end)
 END
 echo 'an error output that nobody reads'

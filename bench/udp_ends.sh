@@ -1,9 +1,10 @@
 #!/bin/sh
 # A stream that comes in datagrams of UDP and goes in such: a feeder gives pieces of 1,316 octets, one each millisecond, to
 # `rist send udp://..`, whose datagrams pass relay.py to `rist recv .. udp://..`, and a reader takes what that plays out. The relay loses 5
-# per cent of the datagrams each way and takes 5 ms for each. As it is, with datagrams of other lengths, which are cut anew, and as
-# RTP at both ends, where every third packet of the feeder has sources, an extension and padding, and the reader looks at numbers
-# and timestamps. SIGTERM ends the sender. Octets are compared: no piece may be missing but 20 at the end. It takes a minute,
+# per cent of the datagrams each way and takes 5 ms for each. As it is, and as RTP at both ends, where every third packet of the feeder
+# has sources, an extension and padding, and the reader looks at numbers and timestamps. Then both with datagrams of 1 to 1,500 octets, and
+# among them empty ones and ones of 1,501, which have to be dropped: each has to come as it was sent. SIGTERM ends the sender. Octets, and of
+# mixed datagrams their bounds, are compared: no piece may be missing but 20 at the end. It takes two minutes,
 # needs python3, uses 127.0.0.1 alone and writes only below a new folder in /tmp. Where a tool isn't there it says so and ends with
 # status 3; it ends with 1 where something is missing or a program ended with another status than 0.
 # Words: how many pieces (8,000), microseconds between two (1,000), and a built program that stands for bin/rist (none).
@@ -51,18 +52,23 @@ try() {
     cat "$work/sent" "$work/log"
     wait $relay || true
     grep relay: "$work/relay" || true
-    read=0
+    read=0 judged=0
     kill $reader 2> /dev/null || read=1
     wait $reader 2> /dev/null || true
     started=
     [ "$status" = 0 ] || echo "rist send ended with status $status"
     [ "$got" = 0 ] || echo "rist recv ended with status $got"
     [ "$read" = 0 ] || echo 'the reader ended before'
-    python3 "$here/pieces.py" compare "$work/source" "$work/came" 0 20 && [ "$status$got$read" = 000 ]
+    case $taken in
+    mixed*) python3 "$here/pieces.py" alike "$work/source" "$work/came" 20 || judged=1 ;;
+    *) python3 "$here/pieces.py" compare "$work/source" "$work/came" 0 20 || judged=1 ;;
+    esac
+    [ "$status$got$read$judged" = 0000 ]
 }
 
 bad=0
 try 'a piece in a datagram' udp '' '' || bad=1
-try 'pieces in datagrams of 564 and 188 octets' udp thirds '' || bad=1
 try 'a piece in an RTP packet' rtp rtp rtp || bad=1
+try 'datagrams of mixed lengths' udp mixed mixed || bad=1
+try 'RTP packets of mixed lengths' rtp mixed-rtp mixed-rtp || bad=1
 exit $bad
