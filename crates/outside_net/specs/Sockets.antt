@@ -1,7 +1,7 @@
 -- What the calls of a socket mean: where it stands, whom it sends to, which errors are faults, and which socket comes
 -- next.
 use Rattle.std.specs.Prelude.{◌≡◌, ◌/◌, ◌-◌, ◌^◌, ℕ, List, [], ◌∷◌, min, if◌then◌else◌, not, Bool, true, false}
-use Rattle.std.specs.Prelude.{Option, None, Some, slice_index_or, set, nat_lt}
+use Rattle.std.specs.Prelude.{Option, None, Some, slice_index_or, set, nat_lt, ◌||◌}
 use Rattle.outside_net.specs.declared.port.TheConstants.{MAX_FLOWS}
 use Rattle.std.specs.Prelude.{Result, Ok, Err, ℤ, pos, negsuc, zero, suc}
 use Rattle.std.specs.Duration.{as_nanos}
@@ -24,6 +24,8 @@ use Rattle.outside_net.specs.declared.link_spec.Role.TheVariants as roles
 use Rattle.outside_net.specs.declared.port.Peer.{Peer}
 use Rattle.outside_net.specs.declared.port.Peer.TheVariants.{Unknown, Last, Stated}
 use Rattle.outside_net.specs.declared.ready.Ready.{Ready}
+use Rattle.outside_net.specs.declared.ready.Known.{Known}
+use Rattle.outside_net.specs.declared.ready.Known.TheVariants as known
 
 -- a link of which nothing is stated but its address and its port
 abbrev pub plain_link : IpAddr → ℕ → LinkSpec
@@ -133,6 +135,10 @@ abbrev pub has_ready : Ready → Channel → Bool
 has_ready ready channels.Media = ready.media
 has_ready ready channels.Control = ready.control
 has_ready ready channels.Tunnel = true
+
+-- after a rest a link knows which sockets have something; where none has, the next read alone takes that
+abbrev pub known_after : Ready → Known
+known_after ready = if ready.media || ready.control then known.Ready ready else known.Quiet 1
 
 -- the channel that takes turns with this one
 abbrev pub other_channel : Channel → Channel

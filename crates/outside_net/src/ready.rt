@@ -50,3 +50,33 @@ fn is_ready(count: i32, told: i16) -> bool
 {
     count < 0 || told != 0
 }
+
+/// How many reads of a link that doesn't rest take the word of the one that found nothing.
+pub const QUIET_READS: u8 = 7;
+
+/// What a link knows of its sockets without a look.
+#[derive(Clone, Copy)]
+pub enum Known {
+    /// Nothing.
+    Nothing,
+    /// Which had something when it last rested.
+    Ready(Ready),
+    /// None had anything, and so many reads more take that.
+    Quiet(u8),
+}
+
+impl Known {
+    ghost use Rattle.std.specs.Prelude.{◌≡◌};
+    ghost use Rattle.outside_net.specs.Sockets.{known_after};
+
+    /// After a rest that came to this: where it found nothing, the next read needs no look of its own.
+    pub fn after_rest(ready: Ready) -> Known
+        ensures value { result ≡ known_after ready }
+    {
+        if ready.any() {
+            Known::Ready(ready)
+        } else {
+            Known::Quiet(1)
+        }
+    }
+}

@@ -5,7 +5,7 @@ ghost use Rattle.outside_net.specs.Real.{knows_at, knew_at, LooksOn};
 ghost use Rattle.outside_net.specs.Sockets.{IsOn, other_channel};
 
 use crate::port::Port;
-use crate::ready::Ready;
+use crate::ready::{Known, QUIET_READS, Ready};
 use crate::{Got, Link, LinkSpec, Role};
 use libc::net::{POLLIN, poll};
 use libc::types::pollfd;
@@ -26,8 +26,7 @@ pub struct UdpLink {
     control: Option<Port>,
     tunnel: Option<Port>,
     next: Channel,
-    /// Which sockets had something when it last waited, until the next read.
-    ready: Cell<Option<Ready>>,
+    known: Cell<Known>,
     faults: u64,
     ends: u64,
 }
@@ -64,7 +63,7 @@ impl UdpLink {
                     control: Some(control),
                     tunnel: None,
                     next: Channel::Media,
-                    ready: Cell::new(None),
+                    known: Cell::new(Known::Nothing),
                     faults: 0,
                     ends: 0,
                 })
@@ -76,7 +75,7 @@ impl UdpLink {
                     control: None,
                     tunnel: Some(tunnel),
                     next: Channel::Tunnel,
-                    ready: Cell::new(None),
+                    known: Cell::new(Known::Nothing),
                     faults: 0,
                     ends: 0,
                 })
@@ -123,8 +122,34 @@ impl UdpLink {
         }
     }
 
-    /// Looks at the sockets that have something, the one first that gave least recently.
+    /// Looks at the sockets, or takes the word of the last look that nothing is there.
     fn look_at_all(&mut self, buf: &mut [u8; MAX_DATAGRAM]) -> Option<Got>
+        ensures within { IfSome result IsWithin }
+        ensures turns { IfSome result (TakesTurns self.new.next) }
+        ensures going { IfSome result (λ got. has_come_to_end got ≡ false) }
+        ensures peer { KnowsAfterLook (knows_in_link self.old) (knows_in_link self.new) result }
+        ensures before { (c : ChannelValue) → knew_in_link self.new c ≡ knew_in_link self.old c }
+        ensures faults { self.new.faults ≡ self.old.faults }
+        ensures ends { self.new.ends ≡ self.old.ends }
+    {
+        match self.known.get() {
+            Known::Quiet(reads) if reads > 0 => {
+                self.known.set(Known::Quiet(reads - 1));
+                None
+            }
+            known => {
+                let got = self.look_at_ready(known, buf);
+                self.known.set(match got {
+                    Some(_) => Known::Nothing,
+                    None => Known::Quiet(QUIET_READS),
+                });
+                got
+            }
+        }
+    }
+
+    /// Looks at the sockets that have something, the one first that gave least recently.
+    fn look_at_ready(&mut self, known: Known, buf: &mut [u8; MAX_DATAGRAM]) -> Option<Got>
         ensures within { IfSome result IsWithin }
         ensures turns { IfSome result (TakesTurns self.new.next) }
         ensures going { IfSome result (λ got. has_come_to_end got ≡ false) }
@@ -137,7 +162,10 @@ impl UdpLink {
             // A tunnel has one socket, which a read looks at by itself.
             return self.look_at(Channel::Tunnel, buf);
         }
-        let ready = self.ready_now();
+        let ready = match known {
+            Known::Ready(ready) => ready,
+            Known::Nothing | Known::Quiet(_) => self.ready_within(0),
+        };
         let first = self.next;
         let second = other_channel(first);
         if ready.has(first) {
@@ -150,15 +178,6 @@ impl UdpLink {
             return self.look_at(second, buf);
         }
         None
-    }
-
-    /// Which sockets have something: those that had it when the link last waited, if any had, and else those that have
-    /// it now.
-    fn ready_now(&self) -> Ready {
-        match self.ready.replace(None) {
-            Some(ready) if ready.any() => ready,
-            Some(_) | None => self.ready_within(0),
-        }
     }
 
     /// Which sockets have something, in one call for both, as soon as one has or so many milliseconds have passed.
@@ -327,6 +346,6 @@ impl Link for UdpLink {
     }
 
     fn rest(&self, limit: u8) {
-        self.ready.set(Some(self.ready_within(limit)));
+        self.known.set(Known::after_rest(self.ready_within(limit)));
     }
 }

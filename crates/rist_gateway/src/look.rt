@@ -128,6 +128,8 @@ fn look_on<L: Link>(
     ensures opener { opener.new ≡ opener.old }
 {
     let mut block = [0; MAX_DATAGRAM];
+    // Between two looks the side worker waits elsewhere: what came meanwhile is seen by this one.
+    links[usize::from(link)].rest(0);
     match read_at(links, link, &mut block) {
         Got::Datagram(channel, count) => {
             let octets = &mut block[..count];

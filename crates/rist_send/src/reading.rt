@@ -151,14 +151,16 @@ fn read_link<L: Link>(
     }
 }
 
-/// Rests on the first link that is read, if there is one.
+/// Rests on the first link that is read, if there is one. The others are looked at without a rest, so that what comes on them is
+/// read in the next turn.
 pub(crate) fn rest<L: Link>(sender: &Sender, links: &[L], progress: &Progress)
     requires few { length links.now ≤ MAX_LINKS }
 {
+    let mut limit = REST_MS;
     for link in 0..links.len() as u8 {
         if is_read(sender, link, progress) {
-            links[usize::from(link)].rest(REST_MS);
-            return;
+            links[usize::from(link)].rest(limit);
+            limit = 0;
         }
     }
 }
