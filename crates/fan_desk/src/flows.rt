@@ -40,7 +40,8 @@ fn step_and_send<N: FanOrigin, K: Sink + Drop, L: Link, R: Wait>(
     ensures own { IsOf tunnel.now told.now.link own.new.pass × (length own.new.came.items ≡ N.places)
         × KnowsEnds N.places own.new.pass }
     ensures left { turns_left own.old.pass ≤ turns_left own.new.pass + 1 }
-    ensures ok { OnOk result (Goes (several N.ports N.given N.places) (holds (rows_told own.old.pass) (L.taken link.old))
+    ensures ok { OnOk result (Goes (several N.ports N.given N.places)
+        (holds (rows_told own.old.pass) (L.taken link.old))
         (holds (rows_told own.new.pass) (L.taken link.new))
         (record { place = place; planned = told_plan (L.knows link.old) told.now } ∷ [])) }
     ensures err { IfErr result (λ end. CutShort (several N.ports N.given N.places) end

@@ -71,6 +71,7 @@ heard_until (Some events.Interval) heard = heard
 heard_until (Some events.Up) heard = heard
 heard_until (Some events.Down) heard = None
 
+-- the moment of the last datagram, after a read that came to this at a moment
 abbrev pub heard_after : ℕ → Got → Option Event → Option ℕ → Option ℕ
 heard_after us (got.Datagram channel octets) event heard = Some us
 heard_after us got.Quiet event heard = heard_until event heard

@@ -153,9 +153,11 @@ fn step_and_send<S: Shares<U>, U, L: Link, R: Wait>(
     requires none { figures.old ≡ None }
     ensures own { S.is_of shares.now told.now.link own.new }
     ensures left { S.left own.old ≤ S.left own.new + 1 }
-    ensures ok { OnOk result (Goes (one (Some S.given)) (holds (own_told (S.list own.old) (S.seen own.old)) (L.taken link.old))
+    ensures ok { OnOk result (Goes (one (Some S.given))
+        (holds (own_told (S.list own.old) (S.seen own.old)) (L.taken link.old))
         (holds (own_told (S.list own.new) (S.seen own.new)) (L.taken link.new)) (told_plan (L.knows link.old) told.now ∷ [])) }
-    ensures err { IfErr result (λ end. CutShort (one (Some S.given)) end (holds (own_told (S.list own.old) (S.seen own.old)) (L.taken link.old))
+    ensures err { IfErr result (λ end. CutShort (one (Some S.given)) end
+        (holds (own_told (S.list own.old) (S.seen own.old)) (L.taken link.old))
         (holds (own_told (S.list own.new) (S.seen own.new)) (L.taken link.new)) (told_plan (L.knows link.old) told.now ∷ [])) }
     ensures inside { IfErr result IsInside }
     ensures full { result ≡ Err Ended.TraceFull → LacksRoom S.given (S.limit own.new) (S.list own.new) }
