@@ -1,9 +1,10 @@
-//! What several tests assert of a source, a sink or a link.
-use link_channels::Channel;
+//! What several tests assert.
+use link_channels::{Channel, MAX_DATAGRAM};
 use outside_io::{Failed, Sink, Source};
 use outside_net::{Got, Link};
 use std::process::Abort;
 
+/// These are the octets that are wanted.
 pub fn assert_octets(rt: &impl Abort, octets: &[u8], want: &[u8]) {
     assert!(rt; octets == want);
 }
@@ -30,7 +31,12 @@ pub fn assert_put<K: Sink>(rt: &impl Abort, sink: &mut K, octets: &[u8], want: R
 }
 
 /// The link's next read answers so.
-pub fn assert_got<L: Link>(rt: &impl Abort, link: &mut L, block: &mut [u8; 2048], want: Got) {
+pub fn assert_got<L: Link>(
+    rt: &impl Abort,
+    link: &mut L,
+    block: &mut [u8; MAX_DATAGRAM],
+    want: Got,
+) {
     assert!(rt; link.read(block) == want);
 }
 

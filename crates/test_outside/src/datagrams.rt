@@ -296,11 +296,11 @@ fn send_payloads(rt: &HostRuntime, address: &MediaAddress) -> Result<(), Fail> {
         let mut datagram = [*octet; 1513];
         datagram[..12].copy_from_slice(HEADER);
         let end = 12 + (*count).min(1501);
-        let octets = match address.form {
-            Form::Udp => &datagram[12..end],
-            Form::Rtp => &datagram[..end],
+        let start = match address.form {
+            Form::Udp => 12,
+            Form::Rtp => 0,
         };
-        if out.send(octets).is_err() {
+        if out.send(&datagram[start..end]).is_err() {
             return Err(Fail::new("not sent"));
         }
     }

@@ -3,7 +3,7 @@ use Rattle.std.proofs.Common.{◌≡◌, ℕ, List, [], ◌∷◌, ◌++◌, ref
 use Rattle.std.proofs.lemmas.Grind.{flat_map-append}
 use Rattle.outside_io.specs.Told.{Appends, AppendsPart, Writes, WritesPart}
 use Rattle.capture_file.specs.Capture.{Record}
-use Rattle.test_outside.specs.Copied.{copied}
+use Rattle.test_captures.specs.Copied.{copied}
 
 copied_more : (done : List Record) (r : Record) → copied (done ++ r ∷ []) ≡ copied done ++ r.octets
 copied_more done r = flat_map-append (λ (r : Record). r.octets) done (r ∷ []) ∙ ap (λ l. copied done ++ l) (append-nil r.octets)

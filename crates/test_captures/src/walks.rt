@@ -19,7 +19,7 @@ struct Copier;
 
 impl Visitor for Copier {
     ghost use Rattle.std.specs.Prelude.{◌++◌, ◌∷◌, [], false};
-    ghost use Rattle.test_outside.specs.Copied.{copied};
+    ghost use Rattle.test_captures.specs.Copied.{copied};
 
     ghost so_far = { λ _ rs. copied rs };
 
