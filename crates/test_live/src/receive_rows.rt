@@ -135,12 +135,18 @@ pub const BREAKS: &[Row<'static>] = &[
         line: "rist recv out 127.0.0.1:5000 --keep 1",
         exit: 8,
         written: Some(b""),
+        counted: Some(
+            "kept 1, late 0, behind 0, early 0, twice 0, span 0, stranger 0, exhausted 0, refused 0",
+        ),
         ..SINGLE
     },
     Row {
         puts: &[1],
         exit: 5,
         written: Some(b"A"),
+        counted: Some(
+            "kept 2, late 0, behind 0, early 0, twice 0, span 0, stranger 0, exhausted 0, refused 0",
+        ),
         ..SINGLE
     },
 ];
