@@ -116,7 +116,7 @@ counted given desk counts before ended settings same stands steps told =
     let at_end : desk.receiver.buffer.phase ≡ phases.Ended = there.phase ∙ ap phase_of back in
     subst (λ c. AreCountsOf c given.settings.limits (history_of (reverse steps))) (sym same)
     (subst (λ l. AreCountsOf desk.receiver.counts l (history_of (reverse steps))) (ap (λ x. x.limits) settings)
-    (there.receiver.counts (λ failed. absurd (cc (at_end, failed)))))
+    (there.receiver.counted (λ failed. absurd (cc (at_end, failed)))).counts)
 
 -- a list that holds nothing is told where it is
 pub none_told : (tells : Bool) → is_some (no_steps tells) ≡ tells

@@ -32,11 +32,11 @@ use Rattle.desk_run.specs.declared.ending.Ending.{Ending}
 use Rattle.desk_run.specs.declared.ending.Ending.TheVariants as endings
 use Rattle.desk_run.specs.Endings.{any_worker, is_without_room, is_write_fault}
 use Rattle.desk_run.specs.Receiving.{own_lists, HasReceived}
-use Rattle.desk_run.specs.Run.{EndsAs, HasSeen, IsExact, IsNewWorker, Receives, outside}
+use Rattle.desk_run.specs.Run.{EndsAs, HasSeen, IsExact, IsNewWorker, Receives, outside, told_lists}
 use Rattle.desk_run.specs.Setup.{Setup, given_to, no_steps}
 use Rattle.desk_run.specs.Turns.{AreOwned, FitsAfter, HasConcluded, ending_by}
 use Rattle.desk_run.specs.Workers.{ToldTrace, told_by, link_of, clock_of, opener_of, trace_of, is_unended}
-use Rattle.desk_run.proofs.RunLemmas.{all_served, clocks_told, ends_as, exactly, links_told, told_at}
+use Rattle.desk_run.proofs.RunLemmas.{all_served, clocks_told, ends_as, exactly, links_told, lists_told, told_at}
 
 -- what passes tell
 abbrev pub pass_tells : {X : Type 0} → TraceTells (Pass Step X)
@@ -186,6 +186,13 @@ module _ {L C X : Type 0} (moments : C → Option (ℕ → ℕ)) (tells : LinkTe
         done = λ e. let h = r.fits.done e in (h.0, h.1, received refl);
       }
 
+  -- what was received is exact where no write failed
+  exact_by : (cut : Bool) (desk : DeskState) (counts : Counts) → (cut ≡ false → HasReceived (given_to s contents faults) desk.kept desk.contents (own_lists own_list later))
+      → (HasReceived (given_to s contents faults) desk.kept desk.contents (own_lists own_list later) → IsExact (given_to s contents faults) desk (own_lists own_list later) counts)
+      → is_write_fault (ending_by cut after) ≡ false → IsExact (given_to s contents faults) desk (told_lists (map (told_by pass_tells) later)) counts
+  exact_by true desk counts received exact sound = absurd (cc (sound))
+  exact_by false desk counts received exact sound = subst (λ own. IsExact (given_to s contents faults) desk own counts) (sym (lists_told pass_tells later)) (exact (received refl))
+
   pub receives : (left : List (Pass Step X)) (cut : Bool) (receiver : ReceiverState) (contents_are : Option (List ℕ)) (faults_are : ℕ) (counts : Counts)
       (links_were links_are : List L) (clocks_were clocks_are : List C)
       → map link_of ws ≡ links_were → map link_of later ≡ links_are → map clock_of ws ≡ clocks_were → map clock_of later ≡ clocks_are
@@ -195,6 +202,7 @@ module _ {L C X : Type 0} (moments : C → Option (ℕ → ℕ)) (tells : LinkTe
       → Receives moments tells s limits (outside links_were clocks_were contents faults) (outside links_are clocks_are contents_are faults_are) counts (ending_by cut after)
   receives left cut receiver contents_are faults_are counts links_were links_are clocks_were clocks_are had have clocks_had clocks_have h places count delay =
       let given = given_to s contents faults in
+      let exact = exactly given h.desk (own_lists own_list later) counts delay (ap settings_of h.receiver_is ∙ h.settings) (count ∙ ap (λ (x : ReceiverState). x.counts) (sym h.receiver_is)) h.stands in
       record {
         were = map (told_by pass_tells) ws;
         are = map (told_by pass_tells) later;
@@ -212,11 +220,11 @@ module _ {L C X : Type 0} (moments : C → Option (ℕ → ℕ)) (tells : LinkTe
         counts_are = count ∙ ap (λ (x : ReceiverState). x.counts) (sym h.receiver_is);
         stands = h.stands;
         fault = fault_by cut faults faults_are h.cause;
-        ends = ends_by cut h.desk counts h.received
-            (exactly given h.desk (own_lists own_list later) counts delay (ap settings_of h.receiver_is ∙ h.settings) (count ∙ ap (λ (x : ReceiverState). x.counts) (sym h.receiver_is)) h.stands);
+        ends = ends_by cut h.desk counts h.received exact;
         sure = λ limit tells_all. record {
           room = not_full_by cut;
           whole = not_torn_by cut;
+          exact = exact_by cut h.desk counts h.received exact;
           broken = λ link w e broke.
               let back = told_at pass_tells later link w e in
               let seen = seen_at link back.0 back.1 (subst (λ (x : Worker L C ToldTrace). (x.end ≡ Some ends.Stopped) ⊎ (x.end ≡ Some ends.WriteFault)) (sym back.2) broke) in

@@ -75,16 +75,18 @@ pub record HasSeen (kept seen : Option (List Step)) : Type 0 where
   pub older : (whole : List Step) → kept ≡ Some whole → IsOlder steps whole
 
 -- Where the steps are told without a limit, they are one history: no list was full or torn, and a worker ended as
--- Stopped or WriteFault only where a write of the sink failed. At first a worker had seen no step; and what it has seen
--- then stands at the front of the history, its own steps, each behind those that had been made before it, with it.
-pub record IsSure {L C : Type 0} (were are : List (Worker L C ToldTrace)) (kept : Option (List Step))
-    (faults_were faults_are : ℕ) (ending : Ending) : Type 0 where
+-- Stopped or WriteFault only where a write of the sink failed; where none did, what was received is exact, whichever
+-- ending it was. At first a worker had seen no step; and what it has seen then stands at the front of the history, its
+-- own steps, each behind those that had been made before it, with it.
+pub record IsSure {L C : Type 0} (given : Given) (were are : List (Worker L C ToldTrace)) (desk : DeskState)
+    (counts : Counts) (faults_were faults_are : ℕ) (ending : Ending) : Type 0 where
   pub room : ending ≢ endings.TraceFull
   pub whole : (tear : Tear) → ending ≢ endings.Torn tear
   pub broken : (link : ℕ) (w : Worker L C ToldTrace) → slice_get are link ≡ Some w
       → (w.end ≡ Some ends.Stopped) ⊎ (w.end ≡ Some ends.WriteFault) → Rose faults_were faults_are
+  pub exact : is_write_fault ending ≡ false → IsExact given desk (told_lists are) counts
   pub unseen : (link : ℕ) (w : Worker L C ToldTrace) → slice_get were link ≡ Some w → w.trace.seen ≡ Some []
-  pub seen : (link : ℕ) (w : Worker L C ToldTrace) → slice_get are link ≡ Some w → HasSeen kept w.trace.seen
+  pub seen : (link : ℕ) (w : Worker L C ToldTrace) → slice_get are link ≡ Some w → HasSeen desk.kept w.trace.seen
 
 -- what a run is over, before it or after: its links, the clock of each, what its sink tells, and how many of the sink's
 -- writes failed
@@ -136,4 +138,5 @@ pub record Receives {L C : Type 0} (moments : C → Option (ℕ → ℕ)) (tells
   -- a write failed exactly where the sink's count rose
   pub fault : RoseWhere (is_write_fault ending) was.faults is.faults
   pub ends : EndsAs ending (given_to s was.contents was.faults) desk are counts
-  pub sure : s.limit ≡ None → s.tells ≡ true → IsSure were are desk.kept was.faults is.faults ending
+  pub sure : s.limit ≡ None → s.tells ≡ true
+      → IsSure (given_to s was.contents was.faults) were are desk counts was.faults is.faults ending

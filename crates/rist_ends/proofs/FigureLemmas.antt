@@ -39,11 +39,11 @@ lost_is n b history shows are =
 
 pub figures_are : (r : ReceiverState) (history : List Step) → IsReceiverAfter r history → r.buffer.phase ≢ Failed → AreFiguresOf (figures_of r) (settings_of r) history
 figures_are r history s live = record {
-  each = λ v. figure_is v r ∙ (s.counts live).each v;
-  again = s.again live;
-  bad = (s.counts live).refused;
+  each = λ v. figure_is v r ∙ (s.counted live).counts.each v;
+  again = (s.counted live).again;
+  bad = (s.counted live).counts.refused;
   waiting = ap (λ (ps : List Packet). length ps) (s.buffer live).held;
-  wanted = s.asked live;
-  passed = lost_is r.numbers r.buffer (buffer_history history) (s.buffer live) (s.numbers live);
+  wanted = (s.counted live).asked;
+  passed = lost_is r.numbers r.buffer (buffer_history history) (s.buffer live) (s.counted live).numbers;
   full = ap (λ n. n / 90) (fill_shown r.buffer (buffer_history history) (s.buffer live));
 }

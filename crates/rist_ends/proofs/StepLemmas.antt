@@ -47,24 +47,25 @@ stopped_work r told taken over =
       phase = tt;
       settings = refl;
       failed = λ e. absurd (not_fault e);
-      counts = λ e. refl;
+      stays = λ e. record { counts = refl; again = refl; asked = refl; numbers = refl };
       part = λ e. absurd (not_fault e);
     }
   where
     not_fault : Stopped ≡ WriteFault → ⊥
     not_fault e = cc
 
+-- what is told fails no write by itself
+pub never_failed : (w : What) → phase_after w ≢ Failed
+never_failed (Media arrival) e = cc
+never_failed (Control compound) e = cc
+never_failed Keepalive e = cc
+never_failed Refused e = cc
+never_failed Tick e = cc
+never_failed End e = cc
+
 -- a step that was made fails no write
 pub moved_held : (old new : State) (at : ℕ) (told : Told) → IsMoved old new at (ended_at told) → new.phase ≡ Failed → new.held ≡ []
-moved_held old new at told moved failed = absurd (never told.what (sym moved.phase ∙ failed))
-  where
-    never : (w : What) → phase_after w ≡ Failed → ⊥
-    never (Media arrival) e = cc
-    never (Control compound) e = cc
-    never Keepalive e = cc
-    never Refused e = cc
-    never Tick e = cc
-    never End e = cc
+moved_held old new at told moved failed = absurd (never_failed told.what (sym moved.phase ∙ failed))
 
 -- what it is set to stays
 pub set_as : (limits limits' : Limits) (r r' : ReporterState) → limits' ≡ limits → IsSetAs r r' → settings_with limits' r' ≡ settings_with limits r

@@ -35,15 +35,24 @@ pub record ReceiverState : Type 0 where
 abbrev pub settings_of : ReceiverState → ControlSettings
 settings_of r = settings_with r.buffer.limits r.reporter
 
--- what it keeps is that of the history of its steps, the newest first. After a failed write nothing is said but that it
--- has ended
+-- what it counts, and what it keeps of the packets' numbers, is that of these steps
+pub record IsCountedOver (r : ReceiverState) (history : List Step) : Type 0 where
+  pub counts : AreCountsOf r.counts r.buffer.limits history
+  pub again : r.recovered ≡ capped (recovered_count r.buffer.limits history)
+  pub asked : r.asked ≡ capped (asked_count (settings_of r) history)
+  pub numbers : AreNumbersOf r.numbers (epochs_of r.buffer.limits (buffer_history history))
+
+-- the steps before the newest one
+abbrev pub steps_before : List Step → List Step
+steps_before [] = []
+steps_before (step ∷ before) = before
+
+-- what it keeps is that of the history of its steps, the newest first. After a failed write it has ended: what it counts
+-- is that of the steps before the one in which the write failed, and nothing else is said
 pub record IsReceiverAfter (r : ReceiverState) (history : List Step) : Type 0 where
   pub buffer : IsStateAfter r.buffer (buffer_history history)
-  pub counts : r.buffer.phase ≢ Failed → AreCountsOf r.counts r.buffer.limits history
-  pub again : r.buffer.phase ≢ Failed → r.recovered ≡ capped (recovered_count r.buffer.limits history)
-  pub asked : r.buffer.phase ≢ Failed → r.asked ≡ capped (asked_count (settings_of r) history)
-  pub numbers : r.buffer.phase ≢ Failed
-      → AreNumbersOf r.numbers (epochs_of r.buffer.limits (buffer_history history))
+  pub counted : r.buffer.phase ≢ Failed → IsCountedOver r history
+  pub stayed : r.buffer.phase ≡ Failed → IsCountedOver r (steps_before history)
   pub reporter : r.buffer.phase ≡ Open → IsReporterAfter r.reporter r.buffer.limits history
 
 -- what holds of each receiver: its time is its buffer's, after a failed write nothing waits, and its reporter knows its
@@ -97,6 +106,13 @@ pub record HasFailed (b : State) : Type 0 where
   pub phase : b.phase ≡ Failed
   pub dropped : b.held ≡ []
 
+-- nothing more was counted
+pub record StaysCounted (old new : ReceiverState) : Type 0 where
+  pub counts : new.counts ≡ old.counts
+  pub again : new.recovered ≡ old.recovered
+  pub asked : new.asked ≡ old.asked
+  pub numbers : new.numbers ≡ old.numbers
+
 -- what a step comes to: the receiver, and what its sink told that it holds, before the step and after it
 pub record Steps (old new : ReceiverState) (told : Told) (outcome : Outcome)
     (before after : Option (List ℕ)) : Type 0 where
@@ -115,5 +131,5 @@ pub record Steps (old new : ReceiverState) (told : Told) (outcome : Outcome)
   pub settings : settings_of new ≡ settings_of old
   -- after a failed write it has ended, the step isn't counted, and the sink has gained a front part
   pub failed : outcome ≡ WriteFault → HasFailed new.buffer
-  pub counts : outcome ≡ WriteFault → new.counts ≡ old.counts
+  pub stays : outcome ≡ WriteFault → StaysCounted old new
   pub part : outcome ≡ WriteFault → PlaysPart old (step_of told) before after

@@ -61,13 +61,13 @@ pub counted : (setup : Setup) (w : WorldState) (course : Course) (c : Counts) �
 counted setup w course c is sent carried asked lost resent released =
     let live : w.receiver.buffer.phase ≢ Failed = λ failed. not_failed (has_ended (buffer_history course.steps)) (sym is.phase ∙ failed) in
     let kept : c.released ≡ capped (verdict_count Kept setup.control.limits course.steps)
-    = released ∙ (is.receiver.counts live).each Kept
+    = released ∙ (is.receiver.counted live).counts.each Kept
     ∙ ap (λ (s : ControlSettings). capped (verdict_count Kept s.limits course.steps)) is.control in
     record {
       sent = sent ∙ is.tally.sent;
       carried = carried ∙ is.tally.carried;
       lost = lost ∙ ap capped (places_are setup w course (lost_at w) (is_lost setup course) is (λ link place among. lost_is setup w course link place among is));
-      asked = asked ∙ is.receiver.asked live ∙ ap (λ (s : ControlSettings). capped (asked_count s course.steps)) is.control;
+      asked = asked ∙ (is.receiver.counted live).asked ∙ ap (λ (s : ControlSettings). capped (asked_count s course.steps)) is.control;
       resent = resent ∙ ap capped (places_are setup w course (resent_at w) (is_resent setup course) is (λ link place among. resent_is setup w course link place among is));
       released = kept;
       out = λ ended. kept ∙ ap capped (sym (released_all setup.control.limits course.steps ended));

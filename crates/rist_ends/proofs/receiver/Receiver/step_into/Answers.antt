@@ -15,7 +15,7 @@ use Rattle.request_rules.specs.Steps.{Step, buffer_history}
 use Rattle.rist_reporter.specs.Reporter.{IsReporterAfter, settings_with}
 use Rattle.rist_reporter.specs.OneMore.{AnswersAfter, TakesPairs, answer_count}
 use Rattle.rist_reporter.specs.Asking.{asked_count}
-use Rattle.rist_ends.specs.Receiver.{ReceiverState, IsReceiverAfter, GoesOn, step_made, settings_of}
+use Rattle.rist_ends.specs.Receiver.{ReceiverState, IsReceiverAfter, StaysCounted, GoesOn, step_made, settings_of}
 use Rattle.rist_ends.specs.declared.outcome.Outcome.{Outcome}
 use Rattle.rist_ends.specs.declared.counts.Counts.{Counts}
 use Rattle.rist_ends.specs.Counts.{AreCountsOf, capped, recovered_count}
@@ -29,7 +29,7 @@ use Rattle.rist_ends.proofs.CountLemmas.{asked_more, counted, recovered}
 use Rattle.rist_ends.proofs.NumberLemmas.{number_in, numbered}
 use Rattle.rist_ends.proofs.ReportLemmas.{on_stepped, says_has, quiet_step, quiet_counts, quiet_recovered, shown_epoch}
 use Rattle.rist_ends.proofs.SteppingLemmas.{open_phase}
-use Rattle.rist_ends.proofs.StepLemmas.{stopped_work, not_stopped, not_failing, fault_not_stopped, set_as, asked_stepped}
+use Rattle.rist_ends.proofs.StepLemmas.{stopped_work, not_stopped, not_failing, fault_not_stopped, never_failed, set_as, asked_stepped}
 use Rattle.rist_ends.proofs.receiver.Receiver.step_into.Goals as goal
 
 pub returns-then-ended-clause-work : goal.returns-then-ended-clause-work
@@ -71,27 +71,30 @@ returns-in-Ok-clause-work g c =
       pairs = subst (λ (x : ReceiverState). TakesPairs (answer_count (result_of outcome)) x.reporter.shutter c.report-answer.new.reporter.shutter) view c.report-answer.ensures.pairs;
       state = on_stepped outcome (GoesOn old (record { buffer = new; counts = c.count.new.self; recovered = c.recovered_with-self-inside.result; asked = c.asked_with-self-inside.result; numbers = c.take_step.new.self; reporter = c.report-answer.new.reporter }) (step_made told outcome)) stepped (λ history s. record {
         buffer = subst (λ (st : buffer.Step). IsStateAfter new (st ∷ buffer_history history)) (sym (quiet_step told.us told.link (tick_of told.us) told.what (result_of outcome) c.report-answer.ensures.quiet)) (between history s).buffer;
-        counts = λ live. quiet_counts told.us told.link (tick_of told.us) told.what (result_of outcome) c.count.new.self new.limits history c.report-answer.ensures.quiet
-            (subst (λ (x : Counts). AreCountsOf x new.limits (step_of told ∷ history)) (sym c.count.ensures.value)
-            (counted verdict told.what inside.counts new.limits history told.link (tick_of told.us) told.us (between history s).says
-            (subst (λ (l : Limits). AreCountsOf inside.counts l history) (sym limits) ((stands history s).counts (not_failed inside.buffer.phase running)))));
-        again = λ live. quiet_recovered told.us told.link (tick_of told.us) told.what (result_of outcome) c.recovered_with-self-inside.result new.limits history c.report-answer.ensures.quiet
-            (c.recovered_with-self-inside.ensures.value
-            ∙ recovered verdict told.what inside.recovered new.limits history told.link (tick_of told.us) told.us (between history s).says
-            (subst (λ (l : Limits). inside.recovered ≡ capped (recovered_count l history)) (sym limits) ((stands history s).again (not_failed inside.buffer.phase running))));
-        asked = λ live. asked_more inside.asked _ c.asked_with-self-inside.result _ _ c.asked_with-self-inside.ensures.value
-            (subst (λ (l : Limits). inside.asked ≡ capped (asked_count (settings_with l inside.reporter) history)) (sym limits) ((stands history s).asked (not_failed inside.buffer.phase running)))
-            (asked_stepped new.limits inside.reporter c.report-answer.new.reporter history (step_of told) (result_of outcome) c.report-answer.ensures.same (c.report-answer.ensures.made history (between history s)));
-        numbers = λ live. subst (λ (st : buffer.Step). AreNumbersOf c.take_step.new.self (epochs_of new.limits (st ∷ buffer_history history))) (sym (quiet_step told.us told.link (tick_of told.us) told.what (result_of outcome) c.report-answer.ensures.quiet))
-            (subst (λ (n : Numbers). AreNumbersOf n (epochs_of new.limits (buffer_history (step_of told ∷ history)))) (sym c.take_step.ensures.value)
-            (numbered verdict told.what inside.numbers new.limits history told.link (tick_of told.us) told.us (not (nat_eq c.epoch.result c.epoch-epoch.result)) c.high-before.result c.epoch-epoch.result c.epoch.result (between history s).says
-            (record {
-              other = refl;
-              place = (between history s).place_is;
-              here = c.epoch.ensures.value ∙ ((between history s).buffer live).epoch;
-              top = c.high-before.ensures.number ∙ ap number_in ((stands history s).buffer (not_failed inside.buffer.phase running)).highest ∙ ap (λ (l : Limits). number_in (highest_of (accepted_packets l (buffer_history history)))) (sym limits);
-            })
-            (subst (λ (l : Limits). AreNumbersOf inside.numbers (epochs_of l (buffer_history history))) (sym limits) ((stands history s).numbers (not_failed inside.buffer.phase running)))));
+        counted = λ live. record {
+          counts = quiet_counts told.us told.link (tick_of told.us) told.what (result_of outcome) c.count.new.self new.limits history c.report-answer.ensures.quiet
+              (subst (λ (x : Counts). AreCountsOf x new.limits (step_of told ∷ history)) (sym c.count.ensures.value)
+              (counted verdict told.what inside.counts new.limits history told.link (tick_of told.us) told.us (between history s).says
+              (subst (λ (l : Limits). AreCountsOf inside.counts l history) (sym limits) ((stands history s).counted (not_failed inside.buffer.phase running)).counts)));
+          again = quiet_recovered told.us told.link (tick_of told.us) told.what (result_of outcome) c.recovered_with-self-inside.result new.limits history c.report-answer.ensures.quiet
+              (c.recovered_with-self-inside.ensures.value
+              ∙ recovered verdict told.what inside.recovered new.limits history told.link (tick_of told.us) told.us (between history s).says
+              (subst (λ (l : Limits). inside.recovered ≡ capped (recovered_count l history)) (sym limits) ((stands history s).counted (not_failed inside.buffer.phase running)).again));
+          asked = asked_more inside.asked _ c.asked_with-self-inside.result _ _ c.asked_with-self-inside.ensures.value
+              (subst (λ (l : Limits). inside.asked ≡ capped (asked_count (settings_with l inside.reporter) history)) (sym limits) ((stands history s).counted (not_failed inside.buffer.phase running)).asked)
+              (asked_stepped new.limits inside.reporter c.report-answer.new.reporter history (step_of told) (result_of outcome) c.report-answer.ensures.same (c.report-answer.ensures.made history (between history s)));
+          numbers = subst (λ (st : buffer.Step). AreNumbersOf c.take_step.new.self (epochs_of new.limits (st ∷ buffer_history history))) (sym (quiet_step told.us told.link (tick_of told.us) told.what (result_of outcome) c.report-answer.ensures.quiet))
+              (subst (λ (n : Numbers). AreNumbersOf n (epochs_of new.limits (buffer_history (step_of told ∷ history)))) (sym c.take_step.ensures.value)
+              (numbered verdict told.what inside.numbers new.limits history told.link (tick_of told.us) told.us (not (nat_eq c.epoch.result c.epoch-epoch.result)) c.high-before.result c.epoch-epoch.result c.epoch.result (between history s).says
+              (record {
+                other = refl;
+                place = (between history s).place_is;
+                here = c.epoch.ensures.value ∙ ((between history s).buffer live).epoch;
+                top = c.high-before.ensures.number ∙ ap number_in ((stands history s).buffer (not_failed inside.buffer.phase running)).highest ∙ ap (λ (l : Limits). number_in (highest_of (accepted_packets l (buffer_history history)))) (sym limits);
+              })
+              (subst (λ (l : Limits). AreNumbersOf inside.numbers (epochs_of l (buffer_history history))) (sym limits) ((stands history s).counted (not_failed inside.buffer.phase running)).numbers)));
+        };
+        stayed = λ failed. absurd (never_failed told.what (sym c.in-Ok.ensures.moved.phase ∙ failed));
         reporter = λ open_. c.report-answer.ensures.state history (between history s) open_;
       });
       sink = on_stepped outcome _ stepped (λ history s.
@@ -101,7 +104,7 @@ returns-in-Ok-clause-work g c =
       phase = on_stepped outcome _ stepped c.in-Ok.ensures.moved.phase;
       settings = subst (λ (x : ReceiverState). settings_with new.limits c.report-answer.new.reporter ≡ settings_of x) view (set_as inside.buffer.limits new.limits inside.reporter c.report-answer.new.reporter limits c.report-answer.ensures.same);
       failed = λ e. absurd (not_failing outcome stepped e);
-      counts = λ e. absurd (not_failing outcome stepped e);
+      stays = λ e. absurd (not_failing outcome stepped e);
       part = λ e. absurd (not_failing outcome stepped e);
     }
 
@@ -123,7 +126,7 @@ returns-in-Err-clause-work g c =
       phase = tt;
       settings = subst (λ (x : ReceiverState). settings_with c.step_buffer.new.buffer.limits inside.reporter ≡ settings_of x) view (ap (λ (l : Limits). settings_with l inside.reporter) c.in-Err.ensures.limits);
       failed = λ e. c.in-Err.ensures.failed;
-      counts = λ e. ap (λ (r : ReceiverState). r.counts) view;
+      stays = λ e. subst (λ (x : ReceiverState). StaysCounted x (record { buffer = c.step_buffer.new.buffer; counts = inside.counts; recovered = inside.recovered; asked = inside.asked; numbers = inside.numbers; reporter = inside.reporter })) view (record { counts = refl; again = refl; asked = refl; numbers = refl });
       part = λ e history s.
           subst (λ (x : State). WritesPart (g.K.Sink.contents c.args.sink.now) (g.K.Sink.contents c.step_buffer.new.sink) (released_bytes x.limits (buffer_history history)) (released_bytes x.limits (buffer_history (step_of told ∷ history)))) b
           (c.in-Err.ensures.part (buffer_history history) (subst (λ (x : State). IsStateAfter x (buffer_history history)) (sym b) s.buffer));
