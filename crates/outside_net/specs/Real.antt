@@ -67,12 +67,13 @@ abbrev pub StandsAt : Role → IpAddr → ℕ → Option Port → Type 0
 StandsAt role address port None = ⊥
 StandsAt role address port (Some socket) = IsFirstPeer role address port socket.peer
 
--- the sockets of a link: in the Simple Profile control goes on the next port (VSF TR-06-1)
+-- the sockets of a link, and the one that is looked at first: in the Simple Profile control goes on the next port (VSF
+-- TR-06-1)
 abbrev pub IsOpenedAt : Role → Profile → LinkSpec → UdpLink → Type 0
 IsOpenedAt role Simple spec link = StandsAt role spec.address spec.port link.media
-    × StandsAt role spec.address (spec.port + 1) link.control × (link.tunnel ≡ None)
+    × StandsAt role spec.address (spec.port + 1) link.control × (link.tunnel ≡ None) × (link.next ≡ channels.Media)
 IsOpenedAt role Main spec link = (link.media ≡ None) × (link.control ≡ None)
-    × StandsAt role spec.address spec.port link.tunnel
+    × StandsAt role spec.address spec.port link.tunnel × (link.next ≡ channels.Tunnel)
 
 -- no call of the link has failed or come to an end
 pub record IsUnused (link : UdpLink) : Type 0 where

@@ -140,6 +140,16 @@ has_ready ready channels.Tunnel = true
 abbrev pub known_after : Ready → Known
 known_after ready = if ready.media || ready.control then known.Ready ready else known.Quiet 1
 
+-- after a look that found nothing, seven reads more take that
+abbrev pub known_looked : Bool → Known
+known_looked found = if found then known.Nothing else known.Quiet 7
+
+-- what is known once a read has taken the word that nothing is there; none where it has to look
+abbrev pub known_taken : Known → Option Known
+known_taken (known.Quiet n) = if nat_lt 0 n then Some (known.Quiet (n - 1)) else None
+known_taken (known.Ready ready) = None
+known_taken known.Nothing = None
+
 -- the channel that takes turns with this one
 abbrev pub other_channel : Channel → Channel
 other_channel channels.Media = channels.Control

@@ -27,7 +27,9 @@ impl<'a, R: time::Clock> ProcessClock<'a, R> {
 
 impl<'a, R> ProcessClock<'a, R> {
     /// Another clock that was made when this one was.
-    pub fn with_same_start(&self) -> ProcessClock<'a, R> {
+    pub fn with_same_start(&self) -> ProcessClock<'a, R>
+        ensures same { (result.start ≡ self.now.start) × (result.last ≡ self.now.last) }
+    {
         ProcessClock {
             rt: self.rt,
             start: self.start,

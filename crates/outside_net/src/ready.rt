@@ -52,7 +52,7 @@ fn is_ready(count: i32, told: i16) -> bool
 }
 
 /// How many reads of a link that doesn't rest take the word of the one that found nothing.
-pub const QUIET_READS: u8 = 7;
+const QUIET_READS: u8 = 7;
 
 /// What a link knows of its sockets without a look.
 #[derive(Clone, Copy)]
@@ -67,7 +67,7 @@ pub enum Known {
 
 impl Known {
     ghost use Rattle.std.specs.Prelude.{◌≡◌};
-    ghost use Rattle.outside_net.specs.Sockets.{known_after};
+    ghost use Rattle.outside_net.specs.Sockets.{known_after, known_looked, known_taken};
 
     /// After a rest that came to this: where it found nothing, the next read needs no look of its own.
     pub fn after_rest(ready: Ready) -> Known
@@ -77,6 +77,27 @@ impl Known {
             Known::Ready(ready)
         } else {
             Known::Quiet(1)
+        }
+    }
+
+    /// After a look: where that found nothing, so many reads more take its word.
+    pub fn after_look(has_found: bool) -> Known
+        ensures value { result ≡ known_looked has_found }
+    {
+        if has_found {
+            Known::Nothing
+        } else {
+            Known::Quiet(QUIET_READS)
+        }
+    }
+
+    /// What is known once a read has taken the word that nothing is there; `None` where it has to look.
+    pub fn taken(self) -> Option<Known>
+        ensures value { result ≡ known_taken self }
+    {
+        match self {
+            Known::Quiet(reads) if reads > 0 => Some(Known::Quiet(reads - 1)),
+            Known::Quiet(_) | Known::Nothing | Known::Ready(_) => None,
         }
     }
 }

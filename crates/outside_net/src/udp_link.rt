@@ -5,7 +5,7 @@ ghost use Rattle.outside_net.specs.Real.{knows_at, knew_at, LooksOn};
 ghost use Rattle.outside_net.specs.Sockets.{IsOn, other_channel};
 
 use crate::port::Port;
-use crate::ready::{Known, QUIET_READS, Ready};
+use crate::ready::{Known, Ready};
 use crate::{Got, Link, LinkSpec, Role};
 use libc::net::{POLLIN, poll};
 use libc::types::pollfd;
@@ -132,20 +132,14 @@ impl UdpLink {
         ensures faults { self.new.faults ≡ self.old.faults }
         ensures ends { self.new.ends ≡ self.old.ends }
     {
-        match self.known.get() {
-            Known::Quiet(reads) if reads > 0 => {
-                self.known.set(Known::Quiet(reads - 1));
-                None
-            }
-            known => {
-                let got = self.look_at_ready(known, buf);
-                self.known.set(match got {
-                    Some(_) => Known::Nothing,
-                    None => Known::Quiet(QUIET_READS),
-                });
-                got
-            }
+        let known = self.known.get();
+        if let Some(left) = known.taken() {
+            self.known.set(left);
+            return None;
         }
+        let got = self.look_at_ready(known, buf);
+        self.known.set(Known::after_look(got.is_some()));
+        got
     }
 
     /// Looks at the sockets that have something, the one first that gave least recently.
