@@ -21,6 +21,9 @@ pub trait LiveSource: Source {
     /// The payloads that it has still to give, the next one first, where what it gives comes in datagrams and it tells them.
     ghost payloads: { Self → Option (List (List ℕ)) } = { λ _. None };
 
+    /// So many octets stand ready, or all that are left, or a fault behind them, where it says that.
+    ghost stands: { Self → ℕ → Type 0 } = { λ _ _. Unit {0} };
+
     /// Whether what it gives comes in datagrams, each of which is a piece of the stream by itself.
     fn is_in_datagrams(&self) -> bool
         // One that tells its octets has no bounds in them, and one that tells its payloads has.
@@ -35,6 +38,7 @@ pub trait LiveSource: Source {
         ensures ready { ready self.new ≡ option_map later (ready self.old) }
         // A source that tells its octets has them always.
         ensures told { IsSome (Self.remaining self.old) → result ≡ true }
+        ensures stands { result ≡ true → stands self.new count }
         // Nothing is read, and what stands ahead stays in front.
         ensures same { Self.remaining self.new ≡ Self.remaining self.old }
         ensures payloads { payloads self.new ≡ payloads self.old }

@@ -91,11 +91,15 @@ pub record BringsPayload (setup : Setup) (k : ℕ) (result : Result Unit SendFau
   pub reads : ReadsPayload k from.payloads left reading
   pub sends : SendsRead setup k 1 reading result (record from { payloads = left }) to
 
--- The source said that the next piece isn't there, and the turn goes on without it. One that tells its octets never
--- says so.
+-- The turn goes on without the next piece, where the source isn't one that tells its octets: these say always that it is
+-- there.
 pub record Awaits (result : Result Unit SendFault) (from to : Run) : Type 0 where
   pub untold : from.octets ≡ None
   pub stays : Stays result from to
+
+-- piece k is read and sent, as octets or as a payload
+abbrev pub BringsThere : Setup → ℕ → Result Unit SendFault → Run → Run → Type 0
+BringsThere setup k result from to = BringsPiece setup k result from to ⊎ BringsPayload setup k result from to
 
 -- piece k, which is due, is read and sent, as octets or as a payload, unless the source said that it isn't there
 abbrev pub BringsDue : Setup → ℕ → Result Unit SendFault → Run → Run → Type 0

@@ -1,5 +1,5 @@
 //! The next piece of a source: of octets 1,316 of them, and of datagrams the payload of one.
-ghost use Rattle.std.specs.Prelude.{◌≡◌, ◌≤◌, ◌<◌, ◌+◌, ◌*◌, ◌^◌, ℕ, [], None, Ok, Err, IfOk, length, map};
+ghost use Rattle.std.specs.Prelude.{◌≡◌, ◌≤◌, ◌<◌, ◌+◌, ◌*◌, ◌^◌, ℕ, [], Bool, true, Some, None, Ok, Err, IfOk, length, map};
 ghost use Rattle.outside_io.specs.Causes.{HasReadCause, NoFault, fault_by};
 ghost use Rattle.block_source.specs.Reading.{ReadsPiece, front_of, piece_fault};
 ghost use Rattle.sender_rules.specs.Bonding.{link_count};
@@ -7,7 +7,7 @@ ghost use Rattle.link_channels.specs.declared.bounds.TheConstants.{MAX_LINKS, MA
 ghost use Rattle.rist_sender.specs.Sender.{StaysSet};
 ghost use Rattle.rist_send.specs.Payloads.{ReadsPayload};
 ghost use Rattle.rist_send.specs.Run.{Run, setup_of};
-ghost use Rattle.rist_send.specs.Turns.{BringsPiece, BringsPayload, BringsDue, BringsNext, SendsRead, stage_after};
+ghost use Rattle.rist_send.specs.Turns.{BringsPiece, BringsPayload, BringsThere, BringsDue, BringsNext, SendsRead, stage_after};
 ghost use Rattle.rist_send.specs.Waiting.{IsNeverReady, LeavesUnread};
 ghost use Rattle.rist_send.specs.Sending.{read_fault};
 ghost use Rattle.rist_send.specs.Inside.Moves.{IsAt, Moves, MovesBy, IsPlace, with_source};
@@ -97,6 +97,8 @@ fn bring_piece<S: LiveSource, L: Link>(
 ) -> Result<(), SendFault>
     requires place { k ≤ 2 ^ 40 }
     requires untold { S.payloads source.old ≡ None }
+    // Asked for a whole piece, the source said that it is there.
+    requires there { S.stands source.old 1316 }
     requires at { IsPlace progress.old.stage }
     requires links { length links.old ≡ link_count sender.old.bonding }
     requires few { length links.old ≤ MAX_LINKS }
@@ -199,7 +201,17 @@ fn bring_ready<S: LiveSource, L: Link>(
     ensures at { IsPlace progress.new.stage }
     ensures ahead { result ≡ Err SendFault.ReadFault → S.ahead source.new ≡ [] }
     ensures cause { HasReadCause (fault_by read_fault result) (S.faults source.old) (S.faults source.new) }
-    // Where the source says no, it isn't read.
+    // Where the source says yes, the piece is brought.
+    ensures said { (answers : ℕ → Bool) → S.ready source.old ≡ Some answers → answers 0 ≡ true
+        → (settings : Settings) (from : Run)
+        → IsAt sender.old progress.old
+        (with_source from (S.remaining source.old) (S.payloads source.old) (map L.reads links.old)) from
+        → Moves ⟦<L as TellingLink>⟧.tells
+        sender.old sender.new progress.new
+        (with_source from (S.remaining source.new) (S.payloads source.new) (map L.reads links.new))
+        links.old links.new from
+        (BringsThere (setup_of settings sender.old (length links.old)) k result from) }
+    // Where it says no, it isn't read.
     ensures waits { IsNeverReady (S.ready source.old) → LeavesUnread (S.ready source.new)
         (S.faults source.old) (S.faults source.new) progress.old.stage progress.new.stage }
 {
