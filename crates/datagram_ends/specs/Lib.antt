@@ -1,3 +1,4 @@
 pub mod Media
 pub mod Ends
 pub mod Held
+pub mod Looks

@@ -1,8 +1,12 @@
 //! A sink whose pieces go in datagrams.
-ghost use Rattle.std.specs.Prelude.{◌≡◌, ◌≤◌, [], length, Ok, OnOk, OnErr};
+ghost use Rattle.std.specs.Prelude.{◌≡◌, ◌<◌, ◌≤◌, [], length, Ok, OnOk, OnErr};
+ghost use Rattle.std.specs.Option.{option_map};
 ghost use Rattle.link_channels.specs.declared.bounds.TheConstants.{MAX_PAYLOAD as max_payload};
 ghost use Rattle.outside_io.specs.Causes.{HasCause};
-ghost use Rattle.datagram_ends.specs.Ends.{IsHeadAt, Sends, number_after};
+ghost use Rattle.outside_io.specs.Real.{silent};
+ghost use Rattle.outside_io.specs.Told.{Appends, AppendsPart};
+ghost use Rattle.outside_net.specs.Streams.{later};
+ghost use Rattle.datagram_ends.specs.Ends.{IsHeadAt, Sends, SendsFront, SendsParts, number_after};
 
 use crate::out::DatagramOut;
 use link_channels::{MAX_DATAGRAM, MAX_PAYLOAD};
@@ -18,7 +22,7 @@ const STAMPS: u64 = 1 << 32;
 
 /// Each piece of up to 1,500 octets goes in a datagram of its own, as it is or as the payload of an RTP packet (RFC 3550, section
 /// 5.1; RFC 2250, section 2): payload type 33, numbers of its own that rise by one, and the clock's moment as the timestamp, in
-/// ticks of 1/90,000 s. A longer piece goes in several; an empty one in none. What it holds is not told as one list of octets, but
+/// ticks of 1/90,000 s. A longer piece goes in several, each but the last of 1,500 octets; an empty one in none. What it holds is not told as one list of octets, but
 /// the datagrams are, where what sends them tells.
 #[derive(Drop)]
 pub struct DatagramSink<D: DatagramOut, C> {
@@ -32,12 +36,13 @@ pub struct DatagramSink<D: DatagramOut, C> {
 impl<D: DatagramOut, C> Model for DatagramSink<D, C> {
     ghost use Rattle.datagram_ends.specs.Ends.{DatagramSinkState};
 
-    ghost Value = { DatagramSinkState };
+    ghost Value = { DatagramSinkState C };
 
     ghost view = { λ sink. record {
       form = sink.form;
       number = sink.number;
       ssrc = sink.ssrc;
+      clock = sink.clock;
       sent = D.sent sink.out;
       faults = D.faults sink.out;
     } };
@@ -60,6 +65,7 @@ impl<D: DatagramOut, C: Clock> DatagramSink<D, C> {
           form = form;
           number = number;
           ssrc = ssrc;
+          clock = clock;
           sent = D.sent out;
           faults = D.faults out;
         } }
@@ -75,8 +81,9 @@ impl<D: DatagramOut, C: Clock> DatagramSink<D, C> {
 
     /// The header of the next RTP packet, at the clock's moment.
     fn next_head(&mut self) -> RtpHead
-        ensures value { IsHeadAt self.old result }
-        ensures state { self.new ≡ record self.old { number = number_after self.old.number } }
+        ensures value { IsHeadAt C.moments self.old result }
+        ensures state { self.new ≡ record self.old { number = number_after self.old.number; clock = self.new.clock } }
+        ensures moments { C.moments self.new.clock ≡ option_map later (C.moments self.old.clock) }
     {
         let number = self.number;
         self.number = number.wrapping_add(1);
@@ -90,7 +97,7 @@ impl<D: DatagramOut, C: Clock> DatagramSink<D, C> {
     /// Sends a payload in a datagram.
     fn send(&mut self, payload: &[u8]) -> Result<(), Failed>
         requires fits { length payload.now ≤ max_payload }
-        ensures sent { OnOk result (Sends self.old self.new payload.now) }
+        ensures sent { OnOk result (Sends C.moments self.old self.new payload.now) }
         ensures err { OnErr result (self.new.sent ≡ self.old.sent) }
         ensures cause { HasCause self.old.faults self.new.faults result }
     {
@@ -107,6 +114,8 @@ impl<D: DatagramOut, C: Clock> DatagramSink<D, C> {
 
     /// Sends a piece in as many datagrams as it takes.
     fn send_parts(&mut self, piece: &[u8]) -> Result<(), Failed>
+        ensures parts { OnOk result (SendsParts C.moments self.old self.new piece.now) }
+        ensures front { OnErr result (SendsFront C.moments self.old self.new piece.now) }
         ensures cause { HasCause self.old.faults self.new.faults result }
     {
         let mut rest = piece;
@@ -120,13 +129,20 @@ impl<D: DatagramOut, C: Clock> DatagramSink<D, C> {
 }
 
 impl<D: DatagramOut, C: Clock> Sink for DatagramSink<D, C> {
-    ghost use Rattle.std.specs.Prelude.{None};
-
-    ghost contents = { λ _. None };
+    ghost contents = { λ _. silent };
 
     ghost faults = { λ sink. sink.faults };
 
-    fn put(&mut self, piece: &[u8]) -> Result<(), Failed> {
+    fn put(&mut self, piece: &[u8]) -> Result<(), Failed>
+        ensures ok { OnOk result (Appends silent silent piece.now) }
+        ensures err { OnErr result (AppendsPart silent silent piece.now) }
+        ensures cause { HasCause self.old.faults self.new.faults result }
+        ensures none { piece.now ≡ [] → (result ≡ Ok tt) × (self.new ≡ self.old) }
+        ensures one { 0 < length piece.now → length piece.now ≤ max_payload → OnOk result (Sends C.moments self.old self.new piece.now) }
+        ensures unsent { length piece.now ≤ max_payload → OnErr result (self.new.sent ≡ self.old.sent) }
+        ensures parts { max_payload < length piece.now → OnOk result (SendsParts C.moments self.old self.new piece.now) }
+        ensures front { OnErr result (SendsFront C.moments self.old self.new piece.now) }
+    {
         if piece.is_empty() {
             return Ok(());
         }

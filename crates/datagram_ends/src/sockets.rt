@@ -1,6 +1,7 @@
 //! Sockets of UDP that never wait.
 ghost use Rattle.std.specs.Prelude.{◌≡◌};
 ghost use Rattle.outside_net.specs.Sockets.{is_no_fault};
+ghost use Rattle.datagram_ends.specs.Looks.{missed_by};
 
 use libc::net::{SO_RCVBUF, SO_SNDBUF, SOL_SOCKET, setsockopt};
 use outside_net::RECEIVE_BUFFER;
@@ -33,4 +34,25 @@ pub fn is_no_fault(kind: ErrorKind) -> bool
             | ErrorKind::NetworkUnreachable
             | ErrorKind::NetworkDown
     )
+}
+
+/// What a look at a socket came to.
+#[derive(Clone, Copy)]
+pub enum Look {
+    /// A datagram was taken, or dropped.
+    Took,
+    /// None is there.
+    Nothing,
+    /// The call failed.
+    Failed,
+}
+
+/// What a look that took nothing came to, by its error.
+pub fn missed(kind: ErrorKind) -> Look
+    ensures value { result ≡ missed_by kind }
+{
+    if is_no_fault(kind) {
+        return Look::Nothing;
+    }
+    Look::Failed
 }

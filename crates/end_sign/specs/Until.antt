@@ -1,5 +1,5 @@
 -- What stands behind a link or a source that ends where the program is to end.
-use Rattle.std.specs.Prelude.{ℕ, ◌+◌, Option, Bool}
+use Rattle.std.specs.Prelude.{◌≡◌, ℕ, ◌+◌, Option, Some, Bool, false}
 use Rattle.end_sign.specs.Status.{answers_of}
 use Rattle.end_sign.specs.declared.process_sign.ProcessSign.{ProcessSign}
 use Rattle.end_sign.specs.declared.until.Until.{Until}
@@ -20,3 +20,7 @@ source_behind until = until.source
 -- what the sign of the system tells that a link ends by
 abbrev pub sign_of : {L R : Type 0} → Until L (ProcessSign R) → Option (ℕ → Bool)
 sign_of until = answers_of until.sign.looks
+
+-- a sign tells that it says no for ever
+abbrev pub SaysNo : Option (ℕ → Bool) → Type 0
+SaysNo told = (s : ℕ → Bool) × (told ≡ Some s) × ((k : ℕ) → s k ≡ false)

@@ -1,8 +1,9 @@
 //! A link that ends where the program is to end.
 ghost use Rattle.std.specs.Prelude.{◌≡◌, ℕ, Bool, true, false, Some};
+ghost use Rattle.std.specs.Option.{option_map};
 ghost use Rattle.outside_io.specs.Causes.{RoseWhere};
 ghost use Rattle.outside_net.specs.Links.{IsWithin, KnowsAfter, IsBefore, answer_of, has_read_failed, has_come_to_end};
-ghost use Rattle.outside_net.specs.Streams.{IsFirst};
+ghost use Rattle.outside_net.specs.Streams.{later, IsFirst};
 ghost use Rattle.end_sign.specs.Until.{ends_with};
 
 use crate::EndSign;
@@ -45,30 +46,6 @@ impl<L, S: Drop> Until<L, S> {
     }
 }
 
-impl<L: Link, S: EndSign> Until<L, S> {
-    /// Reads the link behind, unless the program is to end: then none comes any more, and the link isn't read.
-    fn look(&mut self, buf: &mut [u8; MAX_DATAGRAM]) -> Got
-        ensures within { IsWithin result }
-        ensures ended { (s : ℕ → Bool) → S.answers self.old.sign ≡ Some s → s 0 ≡ true → result ≡ Got.End }
-        ensures unread { (s : ℕ → Bool) → S.answers self.old.sign ≡ Some s → s 0 ≡ true
-            → self.new.link ≡ self.old.link }
-        ensures given { (s : ℕ → Bool) → S.answers self.old.sign ≡ Some s → s 0 ≡ false
-            → IsFirst (L.reads self.old.link) (answer_of result buf.new) }
-        ensures peer { KnowsAfter (L.knows self.old.link) (L.knows self.new.link) result }
-        ensures before { IsBefore (L.knows self.old.link) (L.knew self.new.link) result }
-        ensures same { L.taken self.new.link ≡ L.taken self.old.link }
-        ensures cause { RoseWhere (has_read_failed result) (L.faults self.old.link) (L.faults self.new.link) }
-        ensures end { RoseWhere (has_come_to_end result)
-            (ends_with (L.ends self.old.link) self.old.ends) (ends_with (L.ends self.new.link) self.new.ends) }
-    {
-        if self.sign.asked() {
-            self.ends = self.ends.saturating_add(1);
-            return Got::End;
-        }
-        self.link.read(buf)
-    }
-}
-
 impl<L: Link, S: EndSign> Link for Until<L, S> {
     ghost use Rattle.std.specs.Prelude.{None};
     ghost use Rattle.end_sign.specs.Until.{ends_with};
@@ -85,8 +62,27 @@ impl<L: Link, S: EndSign> Link for Until<L, S> {
 
     ghost ends = { λ until. ends_with (L.ends until.link) until.ends };
 
-    fn read(&mut self, buf: &mut [u8; MAX_DATAGRAM]) -> Got {
-        self.look(buf)
+    /// Reads the link behind, unless the program is to end: then none comes any more, and the link isn't read.
+    fn read(&mut self, buf: &mut [u8; MAX_DATAGRAM]) -> Got
+        ensures within { IsWithin result }
+        ensures ended { (s : ℕ → Bool) → S.answers self.old.sign ≡ Some s → s 0 ≡ true → result ≡ Got.End }
+        ensures unread { (s : ℕ → Bool) → S.answers self.old.sign ≡ Some s → s 0 ≡ true
+            → self.new.link ≡ self.old.link }
+        ensures given { (s : ℕ → Bool) → S.answers self.old.sign ≡ Some s → s 0 ≡ false
+            → IsFirst (L.reads self.old.link) (answer_of result buf.new) }
+        ensures asked { S.answers self.new.sign ≡ option_map later (S.answers self.old.sign) }
+        ensures peer { KnowsAfter (L.knows self.old.link) (L.knows self.new.link) result }
+        ensures before { IsBefore (L.knows self.old.link) (L.knew self.new.link) result }
+        ensures same { L.taken self.new.link ≡ L.taken self.old.link }
+        ensures cause { RoseWhere (has_read_failed result) (L.faults self.old.link) (L.faults self.new.link) }
+        ensures end { RoseWhere (has_come_to_end result)
+            (ends_with (L.ends self.old.link) self.old.ends) (ends_with (L.ends self.new.link) self.new.ends) }
+    {
+        if self.sign.asked() {
+            self.ends = self.ends.saturating_add(1);
+            return Got::End;
+        }
+        self.link.read(buf)
     }
 
     fn refuse(&mut self) {

@@ -1,8 +1,9 @@
 //! A source that ends where the program is to end.
-ghost use Rattle.std.specs.Prelude.{◌≡◌, ◌<ℤ◌, pos, ℕ, Bool, true, false, Some, None, Ok, IfOk, OnErr, [], length, take};
+ghost use Rattle.std.specs.Prelude.{◌≡◌, ◌<◌, ◌<ℤ◌, pos, ℕ, Bool, true, false, Some, None, Ok, IfOk, OnErr, [], length, take};
 ghost use Rattle.std.specs.Io.{ReadsAtMost};
 ghost use Rattle.outside_io.specs.Causes.{HasCause};
-ghost use Rattle.outside_io.specs.Told.{Takes};
+ghost use Rattle.outside_io.specs.Told.{Takes, IsEmpty};
+ghost use Rattle.end_sign.specs.Until.{SaysNo};
 
 use crate::EndSign;
 use libc::net::{POLLIN, poll};
@@ -93,7 +94,9 @@ fn is_there(descriptor: i32, wait: i32) -> bool
 }
 
 /// Waits on where nothing was there at first. False where the program is to end before.
-fn await_longer<E: EndSign>(sign: &mut E, descriptor: i32) -> bool {
+fn await_longer<E: EndSign>(sign: &mut E, descriptor: i32) -> bool
+    ensures never { SaysNo (E.answers sign.old) → result ≡ true }
+{
     for _ in 0..u64::MAX {
         if sign.asked() {
             return false;
@@ -102,13 +105,15 @@ fn await_longer<E: EndSign>(sign: &mut E, descriptor: i32) -> bool {
             return true;
         }
     }
-    false
+    // After so many waits the read waits by itself.
+    true
 }
 
 /// Waits until a descriptor gives something. False where the program is to end before.
 fn await_source<E: EndSign>(sign: &mut E, descriptor: i32) -> bool
     ensures asked { (s : ℕ → Bool) → E.answers sign.old ≡ Some s → s 0 ≡ true → result ≡ false }
     ensures direct { (s : ℕ → Bool) → E.answers sign.old ≡ Some s → s 0 ≡ false → descriptor <ℤ pos 0 → result ≡ true }
+    ensures never { SaysNo (E.answers sign.old) → result ≡ true }
 {
     if sign.asked() {
         return false;
@@ -117,26 +122,6 @@ fn await_source<E: EndSign>(sign: &mut E, descriptor: i32) -> bool
         return true;
     }
     await_longer(sign, descriptor)
-}
-
-impl<S: Source, E: EndSign> UntilSource<S, E> {
-    /// Reads the source behind, unless the program is to end: then it gives its end, and the source isn't read.
-    fn look(&mut self, buf: &mut [u8]) -> Result<usize, Failed>
-        ensures within { ReadsAtMost result buf.new }
-        ensures ended { (s : ℕ → Bool) → E.answers self.old.sign ≡ Some s → s 0 ≡ true → result ≡ Ok 0 }
-        ensures unread { (s : ℕ → Bool) → E.answers self.old.sign ≡ Some s → s 0 ≡ true
-            → self.new.source ≡ self.old.source }
-        ensures given { (s : ℕ → Bool) → E.answers self.old.sign ≡ Some s → s 0 ≡ false → self.old.descriptor <ℤ pos 0
-            → IfOk result (λ count. Takes (S.remaining self.old.source) (S.remaining self.new.source)
-            (take count buf.new)) }
-        ensures ahead { OnErr result (S.ahead self.new.source ≡ []) }
-        ensures cause { HasCause (S.faults self.old.source) (S.faults self.new.source) result }
-    {
-        if !await_source(&mut self.sign, self.descriptor) {
-            return Ok(0);
-        }
-        self.source.read(buf)
-    }
 }
 
 impl<S: Source, E: EndSign> Source for UntilSource<S, E> {
@@ -148,7 +133,27 @@ impl<S: Source, E: EndSign> Source for UntilSource<S, E> {
 
     ghost faults = { λ until. S.faults until.source };
 
-    fn read(&mut self, buf: &mut [u8]) -> Result<usize, Failed> {
-        self.look(buf)
+    /// Reads the source behind, unless the program is to end: then it gives its end, and the source isn't read.
+    fn read(&mut self, buf: &mut [u8]) -> Result<usize, Failed>
+        ensures within { ReadsAtMost result buf.new }
+        ensures ended { (s : ℕ → Bool) → E.answers self.old.sign ≡ Some s → s 0 ≡ true → result ≡ Ok 0 }
+        ensures unread { (s : ℕ → Bool) → E.answers self.old.sign ≡ Some s → s 0 ≡ true
+            → self.new.source ≡ self.old.source }
+        ensures given { (s : ℕ → Bool) → E.answers self.old.sign ≡ Some s → s 0 ≡ false → self.old.descriptor <ℤ pos 0
+            → IfOk result (λ count. Takes (S.remaining self.old.source) (S.remaining self.new.source)
+            (take count buf.new)) }
+        // Where the sign never says yes, an end is that of the source, however long nothing comes.
+        ensures kept { SaysNo (E.answers self.old.sign)
+            → IfOk result (λ count. Takes (S.remaining self.old.source) (S.remaining self.new.source)
+            (take count buf.new)) }
+        ensures end { SaysNo (E.answers self.old.sign)
+            → IfOk result (λ count. count ≡ 0 → 0 < length buf.new → IsEmpty (S.remaining self.new.source)) }
+        ensures ahead { OnErr result (S.ahead self.new.source ≡ []) }
+        ensures cause { HasCause (S.faults self.old.source) (S.faults self.new.source) result }
+    {
+        if !await_source(&mut self.sign, self.descriptor) {
+            return Ok(0);
+        }
+        self.source.read(buf)
     }
 }

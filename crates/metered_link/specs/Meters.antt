@@ -1,5 +1,5 @@
 -- What is counted of a link, and when it is told (this profile).
-use Rattle.std.specs.Prelude.{◌≡◌, ℕ, ◌+◌, ◌-◌, ◌^◌, min, nat_le, if◌then◌else◌, Option, None, Some, Result}
+use Rattle.std.specs.Prelude.{ℕ, ◌+◌, ◌-◌, ◌^◌, min, nat_le, if◌then◌else◌, Option, None, Some, Result}
 use Rattle.std.specs.Prelude.{Ok, Err, Bool, true, false, ◌==◌, ◌&&◌}
 use Rattle.outside_net.specs.declared.link.Got.{Got}
 use Rattle.outside_net.specs.declared.link.Got.TheVariants as got
@@ -35,9 +35,17 @@ written (Err e) t = record t { failed = more t.failed 1 }
 abbrev pub dropped : LinkTotals → LinkTotals
 dropped t = record t { dropped = more t.dropped 1 }
 
--- all but the totals stays
-abbrev pub IsSameBut : Meter → Meter → Type 0
-IsSameBut old new = new ≡ record old { totals = new.totals }
+-- nothing was counted
+abbrev pub no_totals : LinkTotals
+no_totals = record { us = 0; datagrams = 0; octets = 0; refused = 0; written = 0; failed = 0; dropped = 0 }
+
+-- nothing was counted or told, and nothing came
+abbrev pub new_meter : ℕ → Meter
+new_meter every = record { every = every; totals = no_totals; told = no_totals; heard = None }
+
+-- a meter by what its totals come to: all else stays
+abbrev pub with_totals : (LinkTotals → LinkTotals) → Meter → Meter
+with_totals after m = record m { totals = after m.totals }
 
 -- after so many microseconds without a datagram a link is down
 abbrev pub silence : ℕ
@@ -87,6 +95,19 @@ telling_of (Some event) since totals = Some (record { event = event; since = sin
 abbrev pub told_after : Option Telling → LinkTotals → LinkTotals
 told_after None told = told
 told_after (Some telling) told = telling.totals
+
+-- what is told of a read that came to this at a moment, if anything is
+abbrev pub telling_at : ℕ → Got → Meter → Option Telling
+telling_at us got m = telling_of (event_at m us got) m.told (counted us got m.totals)
+
+-- and the meter then
+abbrev pub meter_after : ℕ → Got → Meter → Meter
+meter_after us got m = record {
+  every = m.every;
+  totals = counted us got m.totals;
+  told = told_after (telling_at us got m) m.told;
+  heard = heard_after us got (event_at m us got) m.heard;
+}
 
 -- the receiver's figures are due where the interval since the last ones has passed, on the link at place 0
 abbrev pub wants_figures : ℕ → ℕ → ℕ → ℕ → Bool

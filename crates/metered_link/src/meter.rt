@@ -1,6 +1,6 @@
 //! What is counted of a link, and when it is told.
 ghost use Rattle.std.specs.Prelude.{◌≡◌};
-ghost use Rattle.metered_link.specs.Meters.{counted, dropped, heard_after, event_at, refused, telling_of, told_after, written, IsSameBut};
+ghost use Rattle.metered_link.specs.Meters.{dropped, event_at, meter_after, new_meter, refused, telling_at, with_totals, written};
 
 use outside_io::Failed;
 use outside_net::Got;
@@ -59,7 +59,7 @@ pub struct Meter {
 impl Meter {
     /// A meter that has counted nothing.
     pub fn new(every: u64) -> Meter
-        ensures every { result.every ≡ every }
+        ensures value { result ≡ new_meter every }
     {
         Meter {
             every,
@@ -84,11 +84,8 @@ impl Meter {
 
     /// Counts the answer to a read at a moment in microseconds, and says what is to be told of it, if anything.
     pub fn count(&mut self, us: u64, got: &Got) -> Option<Telling>
-        ensures totals { self.new.totals ≡ counted us got.now self.old.totals }
-        ensures heard { self.new.heard ≡ heard_after us got.now (event_at self.old us got.now) self.old.heard }
-        ensures told { self.new.told ≡ told_after result self.old.told }
-        ensures every { self.new.every ≡ self.old.every }
-        ensures telling { result ≡ telling_of (event_at self.old us got.now) self.old.told self.new.totals }
+        ensures telling { result ≡ telling_at us got.now self.old }
+        ensures state { self.new ≡ meter_after us got.now self.old }
     {
         let event = self.event(us, got);
         self.totals.us = us;
@@ -116,16 +113,14 @@ impl Meter {
 
     /// The last datagram was none of the session.
     pub fn refuse(&mut self)
-        ensures totals { self.new.totals ≡ refused self.old.totals }
-        ensures same { IsSameBut self.old self.new }
+        ensures state { self.new ≡ with_totals refused self.old }
     {
         self.totals.refused = self.totals.refused.saturating_add(1);
     }
 
     /// Counts the answer to a write.
     pub fn write(&mut self, answer: Result<bool, Failed>)
-        ensures totals { self.new.totals ≡ written answer self.old.totals }
-        ensures same { IsSameBut self.old self.new }
+        ensures state { self.new ≡ with_totals (written answer) self.old }
     {
         match answer {
             Ok(true) => self.totals.written = self.totals.written.saturating_add(1),
@@ -136,8 +131,7 @@ impl Meter {
 
     /// A line couldn't be told.
     pub fn drop_line(&mut self)
-        ensures totals { self.new.totals ≡ dropped self.old.totals }
-        ensures same { IsSameBut self.old self.new }
+        ensures state { self.new ≡ with_totals dropped self.old }
     {
         self.totals.dropped = self.totals.dropped.saturating_add(1);
     }

@@ -1,6 +1,13 @@
 //! A link that tells how it does.
-ghost use Rattle.std.specs.Prelude.{◌≡◌};
-ghost use Rattle.metered_link.specs.Meters.{wants_figures};
+ghost use Rattle.std.specs.Prelude.{◌≡◌, IfOk, None, Some};
+ghost use Rattle.std.specs.Option.{option_map};
+ghost use Rattle.link_channels.specs.declared.channel.Channel.{Channel};
+ghost use Rattle.outside_io.specs.Causes.{HasCause, RoseWhere};
+ghost use Rattle.outside_net.specs.Links.{IsWithin, IsOver, KnowsAfter, IsBefore, answer_of, has_come_to_end, has_read_failed};
+ghost use Rattle.outside_net.specs.Links.{taken_with};
+ghost use Rattle.outside_net.specs.Streams.{IsFirst, later};
+ghost use Rattle.metered_link.specs.Meters.{new_meter, refused, wants_figures, written};
+ghost use Rattle.metered_link.specs.Meterings.{Counts, CountsIn, TellsFigures, TellsFiguresIn, metering_with, wants_in};
 
 use crate::{Meter, Teller};
 use link_channels::{Channel, MAX_DATAGRAM};
@@ -20,7 +27,9 @@ struct Metering<C, T> {
 
 impl<C: Clock, T: Teller> Metering<C, T> {
     /// Counts the answer to a read, and tells what is to be told. A line that couldn't be told is counted.
-    fn count(&mut self, got: &Got) {
+    fn count(&mut self, got: &Got)
+        ensures counts { Counts C.moments T.asked got.now self.old self.new }
+    {
         let us = self.clock.now();
         if let Some(telling) = self.meter.count(us, got) {
             if !self.teller.tell(self.place, &telling) {
@@ -38,7 +47,7 @@ impl<C: Clock, T: Teller> Metering<C, T> {
 
     /// Tells the receiver's figures. A line that couldn't be told is counted.
     fn tell(&mut self, us: u64, flow: u8, figures: &ReceiverFigures)
-        ensures told { self.new.figured ≡ us }
+        ensures tells { TellsFigures T.asked us flow figures.now self.old self.new }
     {
         self.figured = us;
         if !self.teller.tell_receiver(us, flow, figures) {
@@ -58,6 +67,7 @@ impl<L, C, T> Metered<L, C, T> {
     /// A link that tells nothing.
     pub fn silent(link: L) -> Metered<L, C, T>
         ensures link { result.link ≡ link }
+        ensures silent { result.metering ≡ None }
     {
         Metered {
             link,
@@ -69,6 +79,13 @@ impl<L, C, T> Metered<L, C, T> {
     /// the receiver's figures too.
     pub fn over(link: L, clock: C, teller: T, place: u8, every: u64) -> Metered<L, C, T>
         ensures link { result.link ≡ link }
+        ensures metering { result.metering ≡ Some (record {
+          clock = clock;
+          teller = teller;
+          place = place;
+          meter = new_meter every;
+          figured = 0;
+        }) }
     {
         Metered {
             link,
@@ -96,7 +113,18 @@ impl<L: Link, C: Clock, T: Teller> Link for Metered<L, C, T> {
 
     ghost ends = { λ metered. L.ends metered.link };
 
-    fn read(&mut self, buf: &mut [u8; MAX_DATAGRAM]) -> Got {
+    fn read(&mut self, buf: &mut [u8; MAX_DATAGRAM]) -> Got
+        ensures within { IsWithin result }
+        ensures value { IsFirst (L.reads self.old.link) (answer_of result buf.new) }
+        ensures reads { L.reads self.new.link ≡ option_map later (L.reads self.old.link) }
+        ensures over { IsOver (answer_of result buf.new) (L.reads self.new.link) }
+        ensures peer { KnowsAfter (L.knows self.old.link) (L.knows self.new.link) result }
+        ensures before { IsBefore (L.knows self.old.link) (L.knew self.new.link) result }
+        ensures same { L.taken self.new.link ≡ L.taken self.old.link }
+        ensures cause { RoseWhere (has_read_failed result) (L.faults self.old.link) (L.faults self.new.link) }
+        ensures end { RoseWhere (has_come_to_end result) (L.ends self.old.link) (L.ends self.new.link) }
+        ensures counts { CountsIn C.moments T.asked result self.old.metering self.new.metering }
+    {
         let got = self.link.read(buf);
         if let Some(metering) = &mut self.metering {
             metering.count(&got);
@@ -104,14 +132,32 @@ impl<L: Link, C: Clock, T: Teller> Link for Metered<L, C, T> {
         got
     }
 
-    fn refuse(&mut self) {
+    fn refuse(&mut self)
+        ensures peers { (c : Channel) → L.knows self.new.link c ≡ L.knew self.old.link c }
+        ensures before { (c : Channel) → L.knew self.new.link c ≡ L.knew self.old.link c }
+        ensures reads { L.reads self.new.link ≡ L.reads self.old.link }
+        ensures taken { L.taken self.new.link ≡ L.taken self.old.link }
+        ensures ends { L.ends self.new.link ≡ L.ends self.old.link }
+        ensures faults { L.faults self.new.link ≡ L.faults self.old.link }
+        ensures counts { self.new.metering ≡ option_map (metering_with refused) self.old.metering }
+    {
         if let Some(metering) = &mut self.metering {
             metering.meter.refuse();
         }
         self.link.refuse();
     }
 
-    fn write(&mut self, channel: Channel, octets: &[u8]) -> Result<bool, Failed> {
+    fn write(&mut self, channel: Channel, octets: &[u8]) -> Result<bool, Failed>
+        ensures taken { L.taken self.new.link
+            ≡ option_map (taken_with channel octets.now result) (L.taken self.old.link) }
+        ensures peer { IfOk result (λ went. went ≡ L.knows self.old.link channel) }
+        ensures same { L.reads self.new.link ≡ L.reads self.old.link }
+        ensures peers { (c : Channel) → L.knows self.new.link c ≡ L.knows self.old.link c }
+        ensures before { (c : Channel) → L.knew self.new.link c ≡ L.knew self.old.link c }
+        ensures ends { L.ends self.new.link ≡ L.ends self.old.link }
+        ensures cause { HasCause (L.faults self.old.link) (L.faults self.new.link) result }
+        ensures counts { self.new.metering ≡ option_map (metering_with (written result)) self.old.metering }
+    {
         let answer = self.link.write(channel, octets);
         if let Some(metering) = &mut self.metering {
             metering.meter.write(answer);
@@ -127,14 +173,24 @@ impl<L: Link, C: Clock, T: Teller> Link for Metered<L, C, T> {
         self.link.address(flow);
     }
 
-    fn wants(&self, us: u64) -> bool {
+    fn wants(&self, us: u64) -> bool
+        ensures value { result ≡ wants_in self.now.metering us }
+    {
         match &self.metering {
             Some(metering) => metering.wants(us),
             None => false,
         }
     }
 
-    fn tell(&mut self, us: u64, flow: u8, figures: &ReceiverFigures) {
+    fn tell(&mut self, us: u64, flow: u8, figures: &ReceiverFigures)
+        ensures peers { (c : Channel) → L.knows self.new.link c ≡ L.knows self.old.link c }
+        ensures before { (c : Channel) → L.knew self.new.link c ≡ L.knew self.old.link c }
+        ensures reads { L.reads self.new.link ≡ L.reads self.old.link }
+        ensures taken { L.taken self.new.link ≡ L.taken self.old.link }
+        ensures ends { L.ends self.new.link ≡ L.ends self.old.link }
+        ensures faults { L.faults self.new.link ≡ L.faults self.old.link }
+        ensures tells { TellsFiguresIn T.asked us flow figures.now self.old.metering self.new.metering }
+    {
         if let Some(metering) = &mut self.metering {
             metering.tell(us, flow, figures);
         }

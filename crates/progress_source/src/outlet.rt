@@ -1,10 +1,11 @@
 //! What lines are shown by.
-ghost use Rattle.std.specs.Prelude.{◌≡◌, ◌++◌, ◌∷◌, [], List, IfOk, string_bytes};
+ghost use Rattle.std.specs.Prelude.{◌≡◌, ◌++◌, ◌∷◌, [], List, Bool, IfOk, not, string_bytes};
 ghost use Rattle.std.specs.Option.{option_map};
 ghost use Rattle.std.specs.declared.option.Option.{Option};
 ghost use Rattle.progress_source.specs.declared.meter.Change.{Change as ChangeValue};
 ghost use Rattle.progress_source.specs.declared.meter.Change.TheVariants.{Line};
-ghost use Rattle.progress_source.specs.Outlets.{change_octets, PutsChange};
+ghost use Rattle.outside_io.specs.Causes.{RoseWhere};
+ghost use Rattle.progress_source.specs.Outlets.{change_octets, HasPutCause, Puts, PutsChange};
 
 use crate::{Change, Extent};
 use outside_io::Sink;
@@ -44,27 +45,41 @@ fn line_of(alloc: Global, extent: &Extent) -> Result<String, AllocError>
     Ok(format!(in alloc; "\r{extent}\x1b[K")?)
 }
 
+/// Puts octets to a sink. Whether they were put: where they weren't, a call of the sink failed.
+fn put_octets<K: Sink>(sink: &mut K, octets: &[u8]) -> bool
+    ensures gained { Puts (K.contents sink.old) (K.contents sink.new) octets.now result }
+    ensures cause { RoseWhere (not result) (K.faults sink.old) (K.faults sink.new) }
+{
+    sink.put(octets).is_ok()
+}
+
 impl<K: Sink> Lines<K> {
     /// Puts what changes to the sink. Whether it was put.
     fn put(&mut self, change: Change) -> bool
         ensures gained { PutsChange (K.contents self.old.sink) (K.contents self.new.sink) change result }
+        ensures cause { HasPutCause change result (K.faults self.old.sink) (K.faults self.new.sink) }
     {
         match change {
             Change::Line(extent) => match line_of(self.alloc, &extent) {
-                Ok(line) => self.sink.put(line.as_bytes()).is_ok(),
+                Ok(line) => put_octets(&mut self.sink, line.as_bytes()),
                 Err(_) => false,
             },
-            Change::Clears => self.sink.put(b"\r\x1b[K").is_ok(),
+            Change::Clears => put_octets(&mut self.sink, b"\r\x1b[K"),
         }
     }
 }
 
 impl<K: Sink> Outlet for Lines<K> {
-    ghost use Rattle.std.specs.Prelude.{None};
+    ghost use Rattle.progress_source.specs.Outlets.{untold};
 
-    ghost asked = { λ _. None };
+    ghost asked = { λ _. untold };
 
-    fn show(&mut self, change: Change) {
+    fn show(&mut self, change: Change)
+        ensures asked { untold ≡ option_map (λ changes. changes ++ change ∷ []) untold }
+        ensures shown { (done : Bool)
+            × PutsChange (K.contents self.old.sink) (K.contents self.new.sink) change done
+            × HasPutCause change done (K.faults self.old.sink) (K.faults self.new.sink) }
+    {
         // Nothing rests on whether it was put.
         let _ = self.put(change);
     }

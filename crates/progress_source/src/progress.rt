@@ -109,9 +109,15 @@ impl<S, C, O: Outlet> Progress<S, C, O> {
     }
 }
 
-impl<S: Source, C: Clock, O: Outlet> Progress<S, C, O> {
+impl<S: Source, C: Clock, O: Outlet> Source for Progress<S, C, O> {
+    ghost remaining = { λ progress. S.remaining progress.source };
+
+    ghost ahead = { λ progress. S.ahead progress.source };
+
+    ghost faults = { λ progress. S.faults progress.source };
+
     /// Reads the source behind, and shows what is due.
-    fn look(&mut self, buf: &mut [u8]) -> Result<usize, Failed>
+    fn read(&mut self, buf: &mut [u8]) -> Result<usize, Failed>
         ensures within { ReadsAtMost result buf.new }
         ensures ok { IfOk result (λ count. Takes (S.remaining self.old.source) (S.remaining self.new.source)
             (take count buf.new)) }
@@ -130,24 +136,24 @@ impl<S: Source, C: Clock, O: Outlet> Progress<S, C, O> {
     }
 }
 
-impl<S: Source, C: Clock, O: Outlet> Source for Progress<S, C, O> {
-    ghost remaining = { λ progress. S.remaining progress.source };
+impl<S: LiveSource, C: Clock, O: Outlet> LiveSource for Progress<S, C, O> {
+    ghost ready = { λ progress. S.ready progress.source };
 
-    ghost ahead = { λ progress. S.ahead progress.source };
+    ghost payloads = { λ progress. S.payloads progress.source };
 
-    ghost faults = { λ progress. S.faults progress.source };
+    ghost stands = { λ progress count. S.stands progress.source count };
 
-    fn read(&mut self, buf: &mut [u8]) -> Result<usize, Failed> {
-        self.look(buf)
+    fn is_in_datagrams(&self) -> bool {
+        self.source.is_in_datagrams()
     }
-}
 
-impl<S: LiveSource, C: Clock, O: Outlet> Progress<S, C, O> {
-    /// Gathers octets of the source behind, and shows nothing from then on.
-    fn gather_unseen(&mut self, count: usize) -> bool
+    /// Gathers octets of the source behind, and shows nothing from then on: a source whose octets are gathered before they are read
+    /// comes as time goes on.
+    fn gather(&mut self, count: usize) -> bool
         ensures value { IsFirst (S.ready self.old.source) result }
         ensures ready { S.ready self.new.source ≡ option_map later (S.ready self.old.source) }
         ensures told { IsSome (S.remaining self.old.source) → result ≡ true }
+        ensures stands { result ≡ true → S.stands self.new.source count }
         ensures same { S.remaining self.new.source ≡ S.remaining self.old.source }
         ensures payloads { S.payloads self.new.source ≡ S.payloads self.old.source }
         ensures ahead { IsPrefix (S.ahead self.old.source) (S.ahead self.new.source) }
@@ -156,21 +162,6 @@ impl<S: LiveSource, C: Clock, O: Outlet> Progress<S, C, O> {
     {
         self.end();
         self.source.gather(count)
-    }
-}
-
-impl<S: LiveSource, C: Clock, O: Outlet> LiveSource for Progress<S, C, O> {
-    ghost ready = { λ progress. S.ready progress.source };
-
-    ghost payloads = { λ progress. S.payloads progress.source };
-
-    fn is_in_datagrams(&self) -> bool {
-        self.source.is_in_datagrams()
-    }
-
-    /// A source whose octets are gathered before they are read comes as time goes on: nothing is shown of it.
-    fn gather(&mut self, count: usize) -> bool {
-        self.gather_unseen(count)
     }
 
     /// Nothing is shown of a payload, nor counted.

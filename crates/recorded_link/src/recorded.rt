@@ -21,27 +21,6 @@ pub struct Recorded<L, K: Sink, C> {
 }
 
 impl<L: Link, K: Sink, C: Clock> Recorded<L, K, C> {
-    /// Reads the link behind, and records what it gives.
-    fn look(&mut self, buf: &mut [u8; MAX_DATAGRAM]) -> Got
-        ensures within { IsWithin result }
-        ensures value { IsFirst (L.reads self.old.link) (answer_of result buf.new) }
-        ensures reads { L.reads self.new.link ≡ option_map later (L.reads self.old.link) }
-        ensures over { IsOver (answer_of result buf.new) (L.reads self.new.link) }
-        ensures peer { KnowsAfter (L.knows self.old.link) (L.knows self.new.link) result }
-        ensures before { IsBefore (L.knows self.old.link) (L.knew self.new.link) result }
-        ensures same { L.taken self.new.link ≡ L.taken self.old.link }
-        ensures cause { RoseWhere (has_read_failed result) (L.faults self.old.link) (L.faults self.new.link) }
-        ensures end { RoseWhere (has_come_to_end result) (L.ends self.old.link) (L.ends self.new.link) }
-        // A read that gave a datagram has put its record, where the recording goes on; one that gave none has put nothing.
-        ensures recorded { IsRecorded result buf.new self.old.recording self.new.recording }
-    {
-        let got = self.link.read(buf);
-        if let Got::Datagram(channel, count) = got {
-            self.keep(channel, &buf[..count]);
-        }
-        got
-    }
-
     /// Records a datagram, where a recording is.
     fn keep(&mut self, channel: Channel, octets: &[u8])
         requires fits { length octets.now ≤ MAX_DATAGRAM }
@@ -67,8 +46,25 @@ impl<L: Link, K: Sink, C: Clock> Link for Recorded<L, K, C> {
 
     ghost ends = { λ recorded. L.ends recorded.link };
 
-    fn read(&mut self, buf: &mut [u8; MAX_DATAGRAM]) -> Got {
-        self.look(buf)
+    /// Reads the link behind, and records what it gives.
+    fn read(&mut self, buf: &mut [u8; MAX_DATAGRAM]) -> Got
+        ensures within { IsWithin result }
+        ensures value { IsFirst (L.reads self.old.link) (answer_of result buf.new) }
+        ensures reads { L.reads self.new.link ≡ option_map later (L.reads self.old.link) }
+        ensures over { IsOver (answer_of result buf.new) (L.reads self.new.link) }
+        ensures peer { KnowsAfter (L.knows self.old.link) (L.knows self.new.link) result }
+        ensures before { IsBefore (L.knows self.old.link) (L.knew self.new.link) result }
+        ensures same { L.taken self.new.link ≡ L.taken self.old.link }
+        ensures cause { RoseWhere (has_read_failed result) (L.faults self.old.link) (L.faults self.new.link) }
+        ensures end { RoseWhere (has_come_to_end result) (L.ends self.old.link) (L.ends self.new.link) }
+        // A read that gave a datagram has put its record, where the recording goes on; one that gave none has put nothing.
+        ensures recorded { IsRecorded result buf.new self.old.recording self.new.recording }
+    {
+        let got = self.link.read(buf);
+        if let Got::Datagram(channel, count) = got {
+            self.keep(channel, &buf[..count]);
+        }
+        got
     }
 
     fn refuse(&mut self) {
