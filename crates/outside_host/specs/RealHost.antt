@@ -1,8 +1,9 @@
 -- What a contract sees of the system's host.
-use Rattle.std.specs.Prelude.{◌≡◌, ◌≢◌, ℕ, List, [], Bool, true, false, Option, Some, None, Ok, Err, IfErr, Result}
+use Rattle.std.specs.Prelude.{◌≡◌, ◌≢◌, ℕ, min, List, [], Bool, true, false, Option, Some, None, Ok, Err, IfErr, Result}
 use Rattle.outside_io.specs.Real.{IsSinkNamed, IsSourceNamed, file_of, sink_faults, source_faults}
 use Rattle.outside_io.specs.declared.file_identity.FileIdentity.{FileIdentity}
 use Rattle.end_sign.specs.Until.{source_behind}
+use Rattle.gathered_source.specs.Gathered.{HasGathered, most_gathered}
 use Rattle.media_address.specs.Address.{address_of}
 use Rattle.media_address.specs.declared.address.MediaAddress.{MediaAddress}
 use Rattle.media_address.specs.declared.bad.AddressBad.{AddressBad}
@@ -55,6 +56,11 @@ input_faults (inputs.Network input) = input.source.faults
 abbrev pub input_ahead : {A B C D E : Type 0} → RealInput A B C D E → List ℕ
 input_ahead (inputs.Named input) = input.ahead
 input_ahead (inputs.Network input) = []
+
+-- so many octets of a source under a name stand ahead, or all that are left, or a fault behind them; at most 16,384 do
+abbrev pub input_stands : {A B C D E : Type 0} → RealInput A B C D E → ℕ → Type 0
+input_stands (inputs.Named input) count = HasGathered (min count most_gathered) true input
+input_stands (inputs.Network input) count = Unit {0}
 
 -- how many calls of a sink failed
 abbrev pub output_faults : {R F O : Type 0} → RealOutput R F O → ℕ

@@ -258,7 +258,10 @@ impl<'a, R: Files + Clock> RealHost<'a, R> {
         let clock = match &self.clock {
             Some(clock) => clock.with_same_start(),
             None => match ProcessClock::start(self.rt) {
-                Ok(clock) => clock,
+                Ok(clock) => {
+                    self.clock = Some(clock.with_same_start());
+                    clock
+                }
                 Err(_) => return Metered::silent(link),
             },
         };
@@ -458,7 +461,11 @@ where
         }
     }
 
-    fn entropy(&mut self) -> Result<Self::Random, HostBad> {
+    fn entropy(&mut self) -> Result<Self::Random, HostBad>
+        ensures cause { HasHostCause self.old.faults self.new.faults result }
+        ensures only { FailsAlone result }
+        ensures stays { self.new.read ≡ self.old.read }
+    {
         Ok(RealEntropy::new(self.rt))
     }
 
@@ -473,6 +480,8 @@ where
         ensures at { IfOk result (λ link. IsOpenedAt role profile spec.now (link_behind link.link.link)) }
         // No sign ends a link that a sender sends on.
         ensures lasts { is_senders role ≡ true → IfOk result (λ link. sign_of link.link.link ≡ Some (λ k. false)) }
+        // Any other ends where the system asks the program to end.
+        ensures ends { is_senders role ≡ false → IfOk result (λ link. sign_of link.link.link ≡ None) }
         ensures stays { self.new.read ≡ self.old.read }
     {
         match UdpLink::open(self.rt, spec, role, profile) {
@@ -589,6 +598,7 @@ fn receives(role: Role) -> bool {
 /// over.
 fn sign_for<R>(rt: &R, role: Role) -> ProcessSign<'_, R>
     ensures lasts { is_senders role ≡ true → answers_of result.looks ≡ Some (λ k. false) }
+    ensures ends { is_senders role ≡ false → answers_of result.looks ≡ None }
 {
     match role {
         Role::Receives | Role::ReceivesCalling | Role::Forwards => ProcessSign::new(rt),

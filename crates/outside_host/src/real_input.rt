@@ -143,6 +143,10 @@ impl<'a, R: Files + Clock, F: Read, I: Read> Source for RealInput<'a, R, F, I> {
 }
 
 impl<'a, R: Files + Clock, F: Read, I: Read> LiveSource for RealInput<'a, R, F, I> {
+    ghost use Rattle.outside_host.specs.RealHost.{input_stands};
+
+    ghost stands = { input_stands };
+
     fn is_in_datagrams(&self) -> bool
         ensures octets { IsSome silent → result ≡ false }
         ensures payloads { IsSome no_payloads → result ≡ true }

@@ -17,6 +17,9 @@ link-tells g x x' x'' x3 x4 c = record { ok = λ told. nothing_told told; fresh 
 pub clock-tells : goal.clock-tells
 clock-tells g x x' x'' x3 x4 c = record { ok = λ told. nothing_told told; next = λ told. nothing_told told; within = λ told. nothing_told told; err = λ told. nothing_told told; err_next = λ told. nothing_told told; same = λ told. nothing_told told; cause = c.ensures.cause }
 
+pub entropy-tells : goal.entropy-tells
+entropy-tells g x x' x'' x3 x4 c = record { ok = λ told. nothing_told told; next = λ told. nothing_told told; within = λ told. nothing_told told; err = λ told. nothing_told told; err_next = λ told. nothing_told told; same = λ told. nothing_told told; cause = c.ensures.cause }
+
 pub record-tells : goal.record-tells
 record-tells g x x' x'' x3 x4 c = record { same = λ told. nothing_told told; cause = c.ensures.cause }
 
