@@ -5,6 +5,7 @@
 mod cached;
 mod derivation;
 mod keys;
+pub mod laws;
 mod mac;
 mod phrase;
 

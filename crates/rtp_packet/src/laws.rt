@@ -4,6 +4,7 @@ ghost use Rattle.rtp_packet.specs.Reading.{RtpValue, value_of, reading_of};
 ghost use Rattle.rtp_packet.specs.Rtp.{RtpPacket, Spells};
 ghost use Rattle.rtp_packet.specs.declared.bad.RtpBad.TheVariants.{Long};
 
+use crate::writing::PAYLOAD_TYPE_MP2T;
 use link_channels::MAX_PAYLOAD;
 
 /// Octets spell one packet at most.
@@ -23,4 +24,9 @@ pub fn what_is_read_is_spelled()
         → All (λ octet. octet < 256) octets → reading_of octets ≡ Ok value
         → (packet : RtpPacket) × Spells packet octets × (value ≡ value_of packet)
         × (length packet.payload ≤ MAX_PAYLOAD) }
+{}
+
+/// The payload type that is written is that of an MPEG-2 transport stream (RFC 3551, section 6).
+pub fn the_payload_type_is_this()
+    ensures mp2t { PAYLOAD_TYPE_MP2T ≡ 33 }
 {}
