@@ -20,8 +20,8 @@ is_last_option word = bytes_eq word (codes "--")
 abbrev pub is_flag : Word → Bool
 is_flag word =
     bytes_eq word (codes "--nulls") || (bytes_eq word (codes "--wide") || (bytes_eq word (codes "--full")
-    || (bytes_eq word (codes "--echo") || (bytes_eq word (codes "--drift") || (bytes_eq word (codes "--in-full")
-    || bytes_eq word (codes "--help"))))))
+    || (bytes_eq word (codes "--echo") || (bytes_eq word (codes "--listen") || (bytes_eq word (codes "--drift")
+    || (bytes_eq word (codes "--call") || (bytes_eq word (codes "--in-full") || bytes_eq word (codes "--help"))))))))
 
 -- an option has an `=` in it
 abbrev pub has_value : Option (Word × Word) → Bool

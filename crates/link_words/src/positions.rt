@@ -82,7 +82,9 @@ fn is_flag(word: &str) -> bool
         || word == "--wide"
         || word == "--full"
         || word == "--echo"
+        || word == "--listen"
         || word == "--drift"
+        || word == "--call"
         || word == "--in-full"
         || word == "--help"
 }

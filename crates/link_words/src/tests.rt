@@ -26,7 +26,7 @@ fn names() -> [(&'static str, IpAddr); 5] {
 }
 
 /// Lines, and what they become, or why a link has no address.
-static LINES: [(&str, Result<&str, &str>); 53] = [
+static LINES: [(&str, Result<&str, &str>); 56] = [
     // Words with neither a name nor a URL are left as they are.
     ("rist send a 1.2.3.4:5000", Ok("rist send a 1.2.3.4:5000")),
     (
@@ -81,6 +81,18 @@ static LINES: [(&str, Result<&str, &str>); 53] = [
     (
         "rist send a --wide encoder-2:2 --echo",
         Ok("rist send a --wide 192.0.2.7:2 --echo"),
+    ),
+    (
+        "rist recv --call a encoder-2:2",
+        Ok("rist recv --call a 192.0.2.7:2"),
+    ),
+    (
+        "rist recv a --call encoder-2:2",
+        Ok("rist recv a --call 192.0.2.7:2"),
+    ),
+    (
+        "rist send a --listen rist://1.2.3.4:2",
+        Ok("rist send a --listen 1.2.3.4:2"),
     ),
     (
         "rist send - -- encoder-2:2",

@@ -1,11 +1,11 @@
 -- One octet more of a line.
-use Rattle.std.proofs.Common.{◌≡◌, ◌∙◌, ◌<◌, ◌≤◌, ◌+◌, ℕ, suc, not, false, List, [], ◌∷◌, ◌++◌, length, refl, sym, ap, arith, append_assoc, length-append}
+use Rattle.std.proofs.Common.{◌≡◌, ◌∙◌, ◌<◌, ◌≤◌, ◌+◌, ◌-◌, ℕ, suc, Bool, not, true, false, List, [], ◌∷◌, ◌++◌, if◌then◌else◌, length, take, refl, sym, ap, arith, append_assoc, length-append, length-take}
 use Rattle.std.specs.Prelude.{Option, Some, None}
 use Rattle.std.specs.Option.{option_map}
 use Rattle.std.specs.List.{position_or_len}
 use Rattle.std.proofs.lemmas.List.Sums.{take_while-cons}
 use Rattle.outside_io.specs.Told.{Takes}
-use Rattle.pass_words.specs.Line.{behind_line, is_line_end, line_of}
+use Rattle.pass_words.specs.Line.{behind_line, ends_in_return, is_line_end, line_of, without_return}
 
 -- an octet that is no line feed
 pub no_end : (x : ℕ) → (x ≡ 10 → ⊥) → is_line_end x ≡ false
@@ -46,3 +46,11 @@ line_longer old (Some rest) front x size text is e =
 pub line_long : (old now new : Option (List ℕ)) (front : List ℕ) (x : ℕ) → option_map line_of old ≡ option_map (λ rest. front ++ line_of rest) now
     → Takes now new (x ∷ []) → is_line_end x ≡ false → 129 ≤ length front → (text : List ℕ) → old ≡ Some text → 129 < length (line_of text)
 line_long old now new front x e t is_not size text is = line_longer old new front x size text is (line_more old now new front x e t is_not)
+
+-- a line above 129 octets is above 128 without a carriage return at its end
+long_by : (line : List ℕ) (returns : Bool) → 129 < length line → 128 < length (if returns then take (length line - 1) line else line)
+long_by line true size = omega (arith, length-take (length line - 1) line)
+long_by line false size = omega arith
+
+pub return_long : (line : List ℕ) → 129 < length line → 128 < length (without_return line)
+return_long line size = long_by line (ends_in_return line) size

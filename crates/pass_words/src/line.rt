@@ -1,5 +1,5 @@
 //! The first line of a source, and the passphrase in it.
-ghost use Rattle.std.specs.Prelude.{◌≡◌, ◌≢◌, ◌<◌, ◌≤◌, ◌∷◌, [], ℕ, List, Ok, Err, Some, None, IfOk, IfSome, length, take};
+ghost use Rattle.std.specs.Prelude.{◌≡◌, ◌≢◌, ◌<◌, ◌≤◌, ◌∷◌, ◌⊎◌, [], ℕ, List, Ok, Err, Some, None, IfErr, IfOk, IfSome, length, take};
 ghost use Rattle.std.specs.Option.{option_map};
 ghost use Rattle.std.specs.Str.{IsUtf8};
 ghost use Rattle.outside_io.specs.Told.{Takes, IsEmpty};
@@ -46,6 +46,7 @@ impl Display for LineFault {
 
 /// The passphrase in the first line of a source, which is read into the block. Nothing behind the line is taken from the
 /// source.
+#[tactic(auto, using(crate::proofs::LineLemmas::return_long))]
 pub fn read_phrase<'a, S: Source>(
     source: &mut S,
     block: &'a mut [u8; 129],
@@ -53,6 +54,13 @@ pub fn read_phrase<'a, S: Source>(
     ensures ok { IfOk result (λ phrase. (text : List ℕ) → S.remaining source.old ≡ Some text
         → (phrase.now ≡ without_return (line_of text)) × (S.remaining source.new ≡ Some (behind_line text))) }
     ensures within { IfOk result (λ phrase. (1 ≤ length phrase.now) × (length phrase.now ≤ 128)) }
+    // The other faults are told only where the line has them.
+    ensures empty { result ≡ Err LineFault.Empty → (text : List ℕ) → S.remaining source.old ≡ Some text
+        → without_return (line_of text) ≡ [] }
+    ensures long { result ≡ Err LineFault.TooLong → (text : List ℕ) → S.remaining source.old ≡ Some text
+        → 128 < length (without_return (line_of text)) }
+    ensures text { result ≡ Err LineFault.NotText → (text : List ℕ) → S.remaining source.old ≡ Some text
+        → ¬ (IsUtf8 (without_return (line_of text))) }
     ensures failed { result ≡ Err LineFault.ReadFault → Rose (S.faults source.old) (S.faults source.new) }
     ensures unfailed { (result ≡ Err LineFault.ReadFault → ⊥) → S.faults source.new ≡ S.faults source.old }
 {
@@ -68,6 +76,7 @@ pub fn first_line<S: Source>(source: &mut S, line: &mut [u8; 129]) -> Result<usi
         → (take count line.new ≡ line_of text) × (S.remaining source.new ≡ Some (behind_line text))) }
     ensures long { result ≡ Err LineFault.TooLong → (text : List ℕ) → S.remaining source.old ≡ Some text
         → 129 < length (line_of text) }
+    ensures only { IfErr result (λ fault. (fault ≡ LineFault.ReadFault) ⊎ (fault ≡ LineFault.TooLong)) }
     ensures failed { result ≡ Err LineFault.ReadFault → Rose (S.faults source.old) (S.faults source.new) }
     ensures unfailed { (result ≡ Err LineFault.ReadFault → ⊥) → S.faults source.new ≡ S.faults source.old }
 {

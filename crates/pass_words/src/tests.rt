@@ -1,7 +1,11 @@
 //! What words name, what a file's first line is, and a passphrase in the place of its file.
+ghost use Rattle.std.specs.Io.{WritesAtMost};
+
 use super::*;
+use crate::resolving::by_variable;
 use outside_io::{Bytes, NoMemory, Source};
-use std::alloc::Global;
+use std::alloc::{Alloc, Global};
+use std::env::{Env, FillError};
 use std::fmt::Write;
 use std::test::Fail;
 
@@ -196,16 +200,83 @@ fn the_passphrase_stands_in_place_of_its_file(rt: HostRuntime) -> Result<(), Fai
     Ok(())
 }
 
+/// An environment in which `RIST_PASS` alone is there, with these octets, or nothing is.
+#[derive(Drop)]
+struct Variable<'a>(Global, Option<&'a [u8]>);
+
+impl<'a> Alloc for Variable<'a> {
+    type A = Global;
+
+    fn alloc(&self) -> Global {
+        self.0
+    }
+}
+
+impl<'a> Env for Variable<'a> {
+    fn arg(&self, _: usize, _: &mut [u8]) -> Result<usize, FillError> {
+        Err(FillError::NotPresent)
+    }
+
+    fn var(&self, name: &str, buf: &mut [u8]) -> Result<usize, FillError> {
+        match self.1 {
+            Some(octets) if name == "RIST_PASS" => filled(octets, buf),
+            _ => Err(FillError::NotPresent),
+        }
+    }
+
+    fn var_at(&self, _: usize, _: &mut [u8]) -> Result<usize, FillError> {
+        Err(FillError::NotPresent)
+    }
+}
+
+/// Writes octets to the front of a buffer, and says how many.
+fn filled(octets: &[u8], buf: &mut [u8]) -> Result<usize, FillError>
+    ensures bound { WritesAtMost result buf.new }
+{
+    if octets.len() > buf.len() {
+        return Err(FillError::TooLong);
+    }
+    buf[..octets.len()].copy_from_slice(octets);
+    Ok(octets.len())
+}
+
+/// Words, what the variable holds, and the words with it; none where it isn't UTF-8.
+static BY_VARIABLE: [(&str, Option<&[u8]>, Option<&str>); 5] = [
+    (
+        "rist recv a",
+        Some(b"secret"),
+        Some("rist recv --pass=secret a"),
+    ),
+    (
+        "rist gate a --in-pass x",
+        Some(b"y"),
+        Some("rist gate --pass=y a --in-pass x"),
+    ),
+    ("rist recv a", None, Some("rist recv a")),
+    ("rist recv a", Some(b"\xff"), None),
+    (
+        "rist recv a --pass x",
+        Some(b"secret"),
+        Some("rist recv a --pass x"),
+    ),
+];
+
 #[test]
 fn the_passphrase_of_a_variable_stands_behind_the_command(rt: HostRuntime) -> Result<(), Fail> {
     let alloc = rt.alloc();
-    let given = words(alloc, "rist recv a")?;
-    if !takes_variable(given.as_slice()) {
-        assert!(rt; false);
-        return Ok(());
+    for (line, held, wanted) in &BY_VARIABLE {
+        let found = by_variable(&Variable(alloc, *held), alloc, words(alloc, line)?);
+        match (found, wanted) {
+            (Ok(found), Some(wanted)) => {
+                assert!(rt;
+                    found.as_slice() == words(alloc, wanted)?.as_slice(),
+                    "{line}"
+                );
+            }
+            (Err(NoPass::Variable), None) => {}
+            _ => assert!(rt; false, "{line}"),
+        }
     }
-    let placed = with_variable(given, phrase_word(alloc, PassOption::Own, "secret")?)?;
-    assert!(rt; placed.as_slice() == words(alloc, "rist recv --pass=secret a")?.as_slice());
     Ok(())
 }
 

@@ -1,1 +1,4 @@
+pub mod Addressed
 pub mod NoWords
+pub mod Parsed
+pub mod Sinks

@@ -1,8 +1,10 @@
--- How the program ends where a passphrase can't be had, or a link has no address.
+-- How the program ends where the system gives no words, a passphrase can't be had, or a link has no address.
 use Rattle.link_words.specs.declared.no_link.NoLink.{NoLink}
 use Rattle.link_words.specs.declared.no_link.NoLink.TheVariants as links
 use Rattle.pass_words.specs.declared.resolving.NoPass.{NoPass}
 use Rattle.pass_words.specs.declared.resolving.NoPass.TheVariants as refused
+use Rattle.rist.specs.declared.NoWords.{NoWords}
+use Rattle.rist.specs.declared.NoWords.TheVariants as without
 use Rattle.run_parts.specs.declared.status.Status.{Status}
 use Rattle.run_parts.specs.declared.status.Status.TheVariants.{Memory, Usage, OpenFault}
 
@@ -22,3 +24,9 @@ link_status (links.Listens url) = Usage
 link_status (links.Parameter name url) = Usage
 link_status (links.TooMany url) = Usage
 link_status (links.Unknown name) = OpenFault
+
+-- likewise of each
+abbrev pub status_before : NoWords → Status
+status_before (without.Given status) = status
+status_before (without.Pass refused) = pass_status refused
+status_before (without.Link refused) = link_status refused

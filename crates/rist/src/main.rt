@@ -1,22 +1,29 @@
 //! The program: words and the real host in, a status out. Its text goes to the error output, and behind it what was wrong.
 #![tactic(auto)]
 
-ghost use Rattle.std.specs.Prelude.{◌≡◌, ◌≢◌, ◌⊎◌, IfOk, IfErr, MatchBool};
+ghost use Rattle.std.specs.Prelude.{◌≡◌, ◌≢◌, ◌⊎◌, Err, IfOk, IfErr, MatchBool, map, string_bytes};
 ghost use Rattle.std.specs.Vec.Iter.{into_iter_items};
 ghost use Rattle.std.specs.Process.{exit_status};
 ghost use Rattle.std.specs.declared.io.ErrorKind.TheVariants.{OutOfMemory};
 ghost use Rattle.outside_io.specs.Causes.{Rose};
 ghost use Rattle.run_parts.specs.ExitCodes.{exit_code_of};
 ghost use Rattle.rist_top.specs.Lines.{AsksNothing, IsNoLine};
-ghost use Rattle.rist.specs.NoWords.{link_status, pass_status};
+ghost use Rattle.pass_words.specs.Options.{pass_file_of};
+ghost use Rattle.pass_words.specs.declared.options.PassOption.{PassOption};
+ghost use Rattle.rist.specs.Addressed.{AreAddressed, AreResolved};
+ghost use Rattle.rist.specs.NoWords.{link_status, pass_status, status_before};
+ghost use Rattle.rist.specs.Sinks.{has_several_sinks};
 
-use link_words::{NoLink, SystemNames, with_addresses};
+mod laws;
+
+use link_words::{Lookup, NoLink, SystemNames, with_addresses};
 use outside_host::RealHost;
 use pass_words::{NoPass, with_passphrases};
 use rist_top::{Status, complaint, run};
-use std::alloc::Global;
-use std::env::{self, Args};
-use std::io::ErrorKind;
+use std::alloc::{Alloc, Global};
+use std::env::{self, Args, Env};
+use std::fs::Files;
+use std::io::{ErrorKind, Input};
 use std::process::ExitCode;
 use std::sync::Wait;
 use std::thread::Threads;
@@ -40,18 +47,37 @@ fn words_of(rt: &HostRuntime) -> Result<Vec<String>, NoWords> {
         Err(error) => Err(refusal(error.kind())),
     };
     match given {
-        Ok(words) => match with_passphrases(rt, rt.alloc(), words) {
-            Ok(words) => addressed(rt, words),
-            Err(refused) => Err(NoWords::Pass(refused)),
-        },
+        Ok(words) => resolved(rt, rt.alloc(), &mut SystemNames(rt), words),
         Err(status) => Err(NoWords::Given(status)),
     }
 }
 
-/// The words with an address for each link that has a name or a URL, by the system's names.
-fn addressed(rt: &HostRuntime, words: Vec<String>) -> Result<Vec<String>, NoWords> {
-    let mut names = SystemNames(rt);
-    match with_addresses(rt.alloc(), &mut names, words) {
+/// The words with each passphrase in its place, and then an address in that of each name.
+fn resolved<R: Files + Input + Env + Alloc, L: Lookup>(
+    rt: &R,
+    alloc: Global,
+    names: &mut L,
+    words: Vec<String>,
+) -> Result<Vec<String>, NoWords>
+    ensures ok { IfOk result (λ line. AreResolved (L.table names.old) words.items line.items) }
+    ensures pass { (fault : _) → pass_file_of PassOption.Own (map string_bytes words.items) ≡ Err fault
+        → result ≡ Err (NoWords.Pass (NoPass.Words fault)) }
+{
+    match with_passphrases(rt, alloc, words) {
+        Ok(words) => addressed(alloc, names, words),
+        Err(refused) => Err(NoWords::Pass(refused)),
+    }
+}
+
+/// The words with an address for each link that has a name or a URL.
+fn addressed<L: Lookup>(
+    alloc: Global,
+    names: &mut L,
+    words: Vec<String>,
+) -> Result<Vec<String>, NoWords>
+    ensures ok { IfOk result (λ line. AreAddressed (L.table names.old) words.items line.items) }
+{
+    match with_addresses(alloc, names, words) {
         Ok(words) => Ok(words),
         Err(refused) => Err(NoWords::Link(refused)),
     }
@@ -85,12 +111,13 @@ fn status_without(refused: &NoLink) -> Status
 }
 
 /// Says on the error output why there are no words, and gives the exit status.
-fn ended_before(rt: &HostRuntime, refused: &NoWords, host: &RealHost<'_, HostRuntime>) -> ExitCode {
+fn ended_before(rt: &HostRuntime, refused: NoWords, host: &RealHost<'_, HostRuntime>) -> ExitCode
+    ensures exit { exit_status result ≡ exit_code_of (status_before refused) }
+{
     match refused {
-        NoWords::Given(Status::Usage) => ended(rt, Status::Usage, &[], host),
-        NoWords::Given(_) => ended(rt, Status::Memory, &[], host),
-        NoWords::Pass(refused) => ended_without(rt, refused),
-        NoWords::Link(refused) => ended_unlinked(rt, refused),
+        NoWords::Given(status) => ended(rt, status, &[], host),
+        NoWords::Pass(refused) => ended_without(rt, &refused),
+        NoWords::Link(refused) => ended_unlinked(rt, &refused),
     }
 }
 
@@ -161,10 +188,12 @@ fn exit_for<R: Threads + Wait + Sync>(
     ended(rt, status, words, host)
 }
 
-/// Whether the words are those of a split, which writes to several sinks: the host knows the last one's name alone.
-fn is_split(words: &[String]) -> bool {
+/// Whether the words are those of a command that writes to several sinks: the host knows the last one's name alone.
+fn has_several_sinks(words: &[String]) -> bool
+    ensures value { result ≡ has_several_sinks (map string_bytes words.now) }
+{
     match words {
-        [_, command, ..] => command.as_str() == "split",
+        [_, command, ..] => command.as_str() == "split" || command.as_str() == "fan",
         _ => false,
     }
 }
@@ -191,7 +220,7 @@ fn explain(rt: &HostRuntime, status: &Status, words: &[String], host: &RealHost<
                 let _ = eprintln!(rt; "rist: {name}");
             }
         }
-        Status::WriteFault if !is_split(words) => {
+        Status::WriteFault if !has_several_sinks(words) => {
             if let Some(name) = host.sink_name() {
                 let _ = eprintln!(rt; "rist: {name}");
             }
@@ -228,6 +257,6 @@ fn main(rt: HostRuntime) -> ExitCode {
     let mut host = RealHost::with_memory(&rt, rt.alloc());
     match words_of(&rt) {
         Ok(words) => exit_for(&rt, &rt, words.as_slice(), &mut host),
-        Err(refused) => ended_before(&rt, &refused, &host),
+        Err(refused) => ended_before(&rt, refused, &host),
     }
 }

@@ -395,7 +395,6 @@ fn fails_first(values: &ArgMatches<'_>) -> bool
     number(values, "first", firsts(wide)).is_none()
 }
 
-/// Whether the links fail in a role and a profile.
 /// The role of the links of a receiver's command.
 pub fn receivers_role(values: &ArgMatches<'_>) -> Role
     ensures { result ≡ receivers_role (rows_of (found_of values.now)) }
@@ -410,6 +409,7 @@ pub fn senders_role(values: &ArgMatches<'_>) -> Role
     sending_role(is_set(values, "listen"))
 }
 
+/// Whether the links fail in a role and a profile.
 fn fails_links(
     alloc: Global,
     values: &ArgMatches<'_>,

@@ -9,4 +9,4 @@ returns-in_ok-with_word-in-Ok-Some-clause-placed g c =
     subst (λ place. IsPlaced c.args.option place c.args.words.items c.in_ok-with_word-in-Ok-Some.field-0.items)
     (place_is c.pass_file.result c.in-Ok-Some.field-0 c.in-Ok-Some.file _
     (c.pass_file.ensures.value ∙ ap (λ ws. pass_file_of c.args.option (map string_bytes ws)) c.as_slice.ensures.value) c.in-Ok-Some.is c.in-Ok-Some.field-0-is)
-    (c.in_ok-word-in-Ok-Some.word, c.in_ok-word-in-Ok-Some.ensures, c.in_ok-with_word-in-Ok-Some.ensures)
+    (c.in_ok-word-in-Ok-Some.word, c.in_ok-word-in-Ok-Some.ensures.some, c.in_ok-with_word-in-Ok-Some.ensures)
