@@ -180,19 +180,24 @@ pub(crate) fn writes(
     Ok(written.as_slice() == octets)
 }
 
-/// Captures with what is played out of them.
-static REPLAYED: [(&[&[u8]], &str); 3] = [
-    (&[NAME, A, B, C], "ABC"),
-    (&[NAME], ""),
-    (&[NAME, A, C_EARLY, B_LATE], "ABC"),
+/// Lines, the last one at the greatest that options may be, and captures with what is played out of them.
+static REPLAYED: [(&str, &[&[u8]], &str); 4] = [
+    ("replay - -", &[NAME, A, B, C], "ABC"),
+    ("replay - -", &[NAME], ""),
+    ("replay - -", &[NAME, A, C_EARLY, B_LATE], "ABC"),
+    (
+        "replay - - --delay 30000 --span 16384 --restart 60000 --drift",
+        &[NAME, A, C_EARLY, B_LATE],
+        "ABC",
+    ),
 ];
 
 #[test]
 fn a_capture_is_replayed_in_the_order_of_its_numbers(rt: HostRuntime) -> Result<(), Fail> {
     let alloc = rt.alloc();
-    for (parts, octets) in &REPLAYED {
+    for (line, parts, octets) in &REPLAYED {
         let octets = octets.as_bytes();
-        assert!(rt; writes(alloc, "replay - -", parts, &NOTHING, Ending::Done, octets)?);
+        assert!(rt; writes(alloc, line, parts, &NOTHING, Ending::Done, octets)?);
     }
     Ok(())
 }
@@ -596,10 +601,18 @@ fn a_record_is_shown_as_a_line(rt: HostRuntime) -> Result<(), Fail> {
     Ok(())
 }
 
-/// Captures with their statuses and how many packets are kept of them.
-static COUNTED: [(&[&[u8]], Ending, &str); 2] = [
-    (&[NAME, A, B, C], Ending::Done, "kept 3\n"),
+/// Lines, one of them at the greatest that options may be, and captures with their statuses and how many packets are kept of
+/// them.
+static COUNTED: [(&str, &[&[u8]], Ending, &str); 3] = [
+    ("count -", &[NAME, A, B, C], Ending::Done, "kept 3\n"),
     (
+        "count - --delay 30000 --span 16384 --restart 60000 --drift",
+        &[NAME, A, B, C],
+        Ending::Done,
+        "kept 3\n",
+    ),
+    (
+        "count -",
         &[
             NAME,
             A,
@@ -611,16 +624,22 @@ static COUNTED: [(&[&[u8]], Ending, &str); 2] = [
     ),
 ];
 
-fn counts(alloc: Global, parts: &[&[u8]], ending: Ending, kept: &str) -> Result<bool, Fail> {
+fn counts(
+    alloc: Global,
+    line: &str,
+    parts: &[&[u8]],
+    ending: Ending,
+    kept: &str,
+) -> Result<bool, Fail> {
     let none = b"stranger 0\nexhausted 0\nlate 0\nbehind 0\nearly 0\ntwice 0\nspan 0\nrefused 0\n";
     let text = joined(alloc, &[kept.as_bytes(), none])?;
-    writes(alloc, "count -", parts, &NOTHING, ending, text.as_slice())
+    writes(alloc, line, parts, &NOTHING, ending, text.as_slice())
 }
 
 #[test]
 fn a_capture_is_counted_as_far_as_it_goes(rt: HostRuntime) -> Result<(), Fail> {
-    for (parts, ending, kept) in &COUNTED {
-        assert!(rt; counts(rt.alloc(), parts, *ending, kept)?);
+    for (line, parts, ending, kept) in &COUNTED {
+        assert!(rt; counts(rt.alloc(), line, parts, *ending, kept)?);
     }
     Ok(())
 }

@@ -5,21 +5,27 @@ use std::alloc::Global;
 use std::str;
 use std::test::Fail;
 
-/// Three packets that came in order within 20 ms, and what the page says of them; and the first two of them before a record
+/// What the page says of three packets that came in order within 20 ms.
+const THREE: &[&str] = &[
+    "<tr><th>Sent</th><td>3</td><td>packets</td>",
+    "<tr><th>First time</th><td>3</td><td>packets</td>",
+    "<tr><th>Recovered</th><td>0</td><td>packets</td>",
+    "<tr><th>Never written</th><td>0</td><td>packets</td>",
+    "<tr><th>Written</th><td>3</td><td>octets</td>",
+];
+
+/// Those packets, also at the greatest that options may be, and what the page says; and the first two of them before a record
 /// that is cut.
-static PAGES: [(&[&[u8]], Ending, &[&str]); 2] = [
+static PAGES: [(&str, &[&[u8]], Ending, &[&str]); 3] = [
+    ("report - -", &[NAME, A, B, C], Ending::Done, THREE),
     (
+        "report - - --delay 30000 --span 16384 --restart 60000 --drift",
         &[NAME, A, B, C],
         Ending::Done,
-        &[
-            "<tr><th>Sent</th><td>3</td><td>packets</td>",
-            "<tr><th>First time</th><td>3</td><td>packets</td>",
-            "<tr><th>Recovered</th><td>0</td><td>packets</td>",
-            "<tr><th>Never written</th><td>0</td><td>packets</td>",
-            "<tr><th>Written</th><td>3</td><td>octets</td>",
-        ],
+        THREE,
     ),
     (
+        "report - -",
         &[NAME, A, B, b"\0\x02\0"],
         Ending::BadCapture(CapKind::Truncated, 58),
         &[
@@ -36,16 +42,22 @@ fn says_all(page: &[u8], texts: &[&str]) -> bool {
     }
 }
 
-fn reports(alloc: Global, parts: &[&[u8]], ending: Ending, texts: &[&str]) -> Result<bool, Fail> {
+fn reports(
+    alloc: Global,
+    line: &str,
+    parts: &[&[u8]],
+    ending: Ending,
+    texts: &[&str],
+) -> Result<bool, Fail> {
     let capture = joined(alloc, parts)?;
-    let page = written(alloc, "report - -", capture.as_slice(), &NOTHING, ending)?;
+    let page = written(alloc, line, capture.as_slice(), &NOTHING, ending)?;
     Ok(says_all(page.as_slice(), texts))
 }
 
 #[test]
 fn a_page_says_what_a_receiver_would_make_of_a_capture(rt: HostRuntime) -> Result<(), Fail> {
-    for (parts, ending, texts) in &PAGES {
-        assert!(rt; reports(rt.alloc(), parts, *ending, texts)?);
+    for (line, parts, ending, texts) in &PAGES {
+        assert!(rt; reports(rt.alloc(), line, parts, *ending, texts)?);
     }
     Ok(())
 }

@@ -52,6 +52,9 @@ const PACKET_B: &[u8] =
 
 const LINE: &str = "split - 1968=a,1970=b";
 
+/// The greatest that options may be.
+const GREATEST: &str = "split --delay 30000 --span 16384 --restart 60000 --drift - 1968=a,1970=b";
+
 const PCAP: &str = "split --pcap --udp 6000 - 1968=a,1970=b";
 
 const KEYED: &str = "split --pass secret - 1968=a,1970=b";
@@ -131,8 +134,9 @@ fn held(alloc: Global, host: &MemHost, name: &str) -> Result<Vec<u8>, Fail> {
 }
 
 /// Captures, and what each output has of them.
-static SPLIT: [(&str, &[&[u8]], &str, &str); 9] = [
+static SPLIT: [(&str, &[&[u8]], &str, &str); 10] = [
     (LINE, &[NAME, A, B], "A", "B"),
+    (GREATEST, &[NAME, A, B], "A", "B"),
     (LINE, &[NAME, B, A], "A", "B"),
     (LINE, &[NAME], "", ""),
     (LINE, &[NAME, A, A, STRAY, B, KEEPALIVE], "A", "B"),

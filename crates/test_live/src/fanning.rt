@@ -59,8 +59,13 @@ const BOTH: Row<'static> = Row {
     ),
 };
 
-static ROWS: [Row<'static>; 11] = [
+static ROWS: [Row<'static>; 12] = [
     BOTH,
+    // The greatest that options may be.
+    Row {
+        line: "rist fan 1968=a,1970=b 127.0.0.1:5000 --delay 30000 --span 16384 --restart 60000 --drift",
+        ..BOTH
+    },
     Row {
         line: "rist fan 1970=a,1968=b 127.0.0.1:5000",
         a: Some(b"B"),

@@ -91,7 +91,7 @@ const SHARED: Row<'static> = Row {
 
 /// Packets that are played out 2 s later, before their link ends, and a request for the second, which is answered, where
 /// no steps are kept and where some are; and two links that share packets, in turns and behind a lock, and where each
-/// has to be read while the other is.
+/// has to be read while the other is; and the greatest that options may be.
 pub const ENDS: &[Row<'static>] = &[
     Row {
         moments: &[0, 0, 0, 2_000_000],
@@ -121,6 +121,11 @@ pub const ENDS: &[Row<'static>] = &[
         ..SHARED
     },
     PAIR,
+    Row {
+        line: "rist gate 127.0.0.1:5000 127.0.0.1:5002 --delay 30000 --span 16384 --restart 60000 --drift \
+               --store 65536 --hold 1000",
+        ..SINGLE
+    },
     INTO_A_TUNNEL,
     Row {
         line: "rist gate 127.0.0.1:5000 127.0.0.1:5003 --in-profile simple --profile main --keep 64",

@@ -22,3 +22,5 @@ mod send_rows;
 mod sending;
 #[cfg(test)]
 mod waiting;
+#[cfg(test)]
+mod watching;

@@ -94,8 +94,8 @@ const NO_LINE: Row<'static> = Row {
     ..SINGLE
 };
 
-/// Two links whose steps are kept or not, or of which one fails; and one link to its end, for one turn, and with a packet
-/// that comes twice.
+/// Two links whose steps are kept or not, or of which one fails; one link to its end, for one turn, and with a packet that
+/// comes twice; and two links and one at the greatest that options may be.
 pub const ENDS: &[Row<'static>] = &[
     Row {
         line: "rist recv out 127.0.0.1:5000 127.0.0.1:5002 --keep 64",
@@ -119,6 +119,15 @@ pub const ENDS: &[Row<'static>] = &[
         counted: Some(
             "kept 1, late 0, behind 0, early 0, twice 1, span 0, stranger 0, exhausted 0, refused 0",
         ),
+        ..SINGLE
+    },
+    Row {
+        line: "rist recv out 127.0.0.1:5000 127.0.0.1:5002 --delay 30000 --span 16384 --restart 60000 --drift",
+        ..SHARED
+    },
+    Row {
+        line: "rist recv out 127.0.0.1:5000 --delay 30000 --span 16384 --restart 60000 --drift \
+               --reorder 1000 --least 1000 --tries 32 --keep 65536",
         ..SINGLE
     },
 ];

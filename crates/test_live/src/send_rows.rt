@@ -45,7 +45,7 @@ const TUNNELLED: Row<'static> = Row {
     ..PLAIN
 };
 
-/// A source of no piece, of one, and of one and an octet; and numbers that wrap.
+/// A source of no piece, of one, and of one and an octet; numbers that wrap; and the greatest store.
 pub const LENGTHS: &[Row<'static>] = &[
     Row {
         octets: 0,
@@ -66,6 +66,10 @@ pub const LENGTHS: &[Row<'static>] = &[
         line: "rist send --first 65535 - 127.0.0.1:5000 --linger 0",
         octets: 2633,
         taken: &[(255, 1328), (0, 1328), (1, 13)],
+        ..PLAIN
+    },
+    Row {
+        line: "rist send - 127.0.0.1:5000 --linger 0 --store 65536 --hold 1000",
         ..PLAIN
     },
 ];

@@ -1,15 +1,17 @@
 //! What no clause says: that calls succeed, and that files, streams, links and clocks do what they say.
 use crate::asserts::{assert_got, assert_octets, assert_put, assert_read, assert_written};
+use crate::filling::Filling;
 use crate::heard::Heard;
 use link_channels::{Channel, Profile};
 use outside_host::{
     Count, CountsText, Host, HostBad, MemHost, MemParts, Opened, Place, RealHost, Slot,
 };
-use outside_io::{Bytes, Entropy, Failed, MemSource, NoMemory, Store8, Words};
+use outside_io::{Bytes, Entropy, Failed, MemSource, NoMemory, RealEntropy, Store8, Words};
 use outside_net::{Clock, Got, LinkSpec, Role, ScriptClock, ScriptLink};
 use std::alloc::Global;
 use std::fs;
 use std::net::{IpAddr, Ipv4Addr};
+use std::os::unix::fs::symlink;
 use std::process::Abort;
 use std::test::Fail;
 
@@ -206,6 +208,32 @@ fn a_file_is_not_written_over_while_it_is_read(rt: HostRuntime) -> Result<(), Fa
     Ok(())
 }
 
+/// A file under each of these names is opened as the source, and meanwhile under none of them as the sink.
+fn assert_one_file<H: Host>(rt: &impl Abort, host: &mut H, names: &[&str]) -> Result<(), Fail> {
+    for name in names {
+        let source = source_of(host, name)?;
+        for other in names {
+            assert_no_sink(rt, host, other);
+        }
+        host.back_source(name, source);
+    }
+    Ok(())
+}
+
+#[test]
+fn a_file_is_not_written_over_by_a_link_to_it(rt: HostRuntime) -> Result<(), Fail> {
+    fs::write(&rt, "linked.bin", b"ABC")?;
+    symlink(&rt, "linked.bin", "symbolic.bin")?;
+    fs::hard_link(&rt, "linked.bin", "hard.bin")?;
+    let names = ["linked.bin", "symbolic.bin", "hard.bin"];
+    assert_one_file(&rt, &mut RealHost::new(&rt), &names)?;
+    assert_octets(&rt, fs::read(&rt, "linked.bin")?.as_slice(), b"ABC");
+    for name in names {
+        fs::remove_file(&rt, name)?;
+    }
+    Ok(())
+}
+
 /// A file of the octets `ABC` is read as the source, and meanwhile another one that is there is written.
 fn assert_other_written<H: Host>(rt: &impl Abort, host: &mut H) -> Result<(), Fail> {
     let mut source = source_of(host, "read.bin")?;
@@ -317,6 +345,21 @@ fn assert_random_host<H: Host>(rt: &impl Abort, host: &mut H) -> Result<(), Fail
 #[test]
 fn the_system_gives_random_words(rt: HostRuntime) -> Result<(), Fail> {
     assert_random_host(&rt, &mut RealHost::new(&rt))
+}
+
+#[test]
+fn a_random_word_is_made_of_four_octets_of_the_source(rt: HostRuntime) -> Result<(), Fail> {
+    let source = Filling::new();
+    let mut entropy = RealEntropy::new(&source);
+    for want in [
+        Ok(0x0102_0304),
+        Ok(0x0506_0708),
+        Err(Failed),
+        Ok(0x0D0E_0F10),
+    ] {
+        assert_word(&rt, &mut entropy, want);
+    }
+    Ok(())
 }
 
 #[test]

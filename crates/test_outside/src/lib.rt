@@ -7,6 +7,8 @@ mod asserts;
 #[cfg(test)]
 mod datagrams;
 #[cfg(test)]
+mod filling;
+#[cfg(test)]
 mod heard;
 #[cfg(test)]
 mod hosts;

@@ -88,14 +88,28 @@ fn media(letter: u8, port: u8) -> [u8; 21] {
     block
 }
 
+/// A report, and an RTT request at one second, to this port, of which the high octet is 7.
+fn asking(port: u8) -> [u8; 40] {
+    let mut block = [0; 40];
+    block[..8].copy_from_slice(&[0, 0, 0x88, 0xB6, 7, port, 7, port]);
+    block[8..].copy_from_slice(&[
+        0x80, 0xC9, 0, 1, 0, 0, 0, 9, 0x82, 0xCC, 0, 5, 0x10, 0x20, 0x30, 0x40, b'R', b'I', b'S',
+        b'T', 0, 0, 0, 0, 0, 0x0F, 0x42, 0x40, 0, 0, 0, 0,
+    ]);
+    block
+}
+
 /// What a letter brings: a capital is media of the flow at 1968, a small letter of that at 1970, and a digit of neither, at
-/// 1972; a dash is a keepalive, and a dot stands for a read to which nothing was there.
+/// 1972; an exclamation mark is an RTT request of the flow at 1968, and a question mark of that at 1970; a dash is a keepalive,
+/// and a dot stands for a read to which nothing was there.
 fn brought(alloc: Global, letter: u8) -> Result<ScriptRead, Fail>
     ensures fits { IfOk result FitsDatagram }
 {
     let octets = match letter {
         b'.' => return Ok(ScriptRead::Quiet),
         b'-' => Octets::of(alloc, &KEEPALIVE)?,
+        b'!' => Octets::of(alloc, &asking(0xB1))?,
+        b'?' => Octets::of(alloc, &asking(0xB3))?,
         b'0'..=b'9' => Octets::of(alloc, &media(letter, 0xB4))?,
         b'A'..=b'Z' => Octets::of(alloc, &media(letter, 0xB0))?,
         _ => Octets::of(alloc, &media(letter, 0xB2))?,

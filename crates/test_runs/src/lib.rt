@@ -1,11 +1,15 @@
 //! Worked runs over links in memory: a sending, a desk and its workers, a receiving, one of several flows in a tunnel, and
-//! what is sent on. There are tests alone.
+//! what is sent on; and a lock that threads contend for. There are tests alone.
 #![tactic(auto)]
 
 #[cfg(test)]
 mod answering;
 #[cfg(test)]
+mod asked;
+#[cfg(test)]
 mod comparing;
+#[cfg(test)]
+mod contending;
 #[cfg(test)]
 mod desk;
 #[cfg(test)]

@@ -3,6 +3,7 @@ ghost use Rattle.std.specs.Prelude.{◌≡◌, ◌≤◌, vec_len, IfOk, is_some
 ghost use Rattle.sender_rules.specs.Bonding.{link_count};
 ghost use Rattle.rist_wire.specs.Session.{IsSession};
 
+use crate::asked::AskedSource;
 use crate::desk::simple;
 use bond_links::Bond;
 use link_channels::Channel;
@@ -80,12 +81,12 @@ impl Ran {
 }
 
 /// Sends a source at a piece a millisecond over these links in a session, with a clock of these moments.
-fn sent_over<S: LiveSource + Drop>(
+fn sent_over<S: LiveSource>(
     alloc: Global,
     session: &Session,
     sealer: Option<Sealer>,
     bond: Bond,
-    mut source: S,
+    source: &mut S,
     moments: &[u64],
     linger: u64,
     turns: u64,
@@ -116,7 +117,7 @@ fn sent_over<S: LiveSource + Drop>(
         &pace,
         &mut sender,
         &mut opener,
-        &mut source,
+        source,
         &mut links,
         &mut clock,
     );
@@ -124,9 +125,9 @@ fn sent_over<S: LiveSource + Drop>(
 }
 
 /// The same in clear, over one link.
-fn sent_from<S: LiveSource + Drop>(
+fn sent_from<S: LiveSource>(
     alloc: Global,
-    source: S,
+    source: &mut S,
     moments: &[u64],
     linger: u64,
     turns: u64,
@@ -156,8 +157,8 @@ fn sent(
     turns: u64,
     link: ScriptLink,
 ) -> Result<Ran, Fail> {
-    let source = Pieces::with(alloc, octets, &[], &[])?;
-    sent_from(alloc, source, moments, linger, turns, link)
+    let mut source = Pieces::with(alloc, octets, &[], &[])?;
+    sent_from(alloc, &mut source, moments, linger, turns, link)
 }
 
 /// A datagram by its channel and its length.
@@ -354,22 +355,22 @@ const SIX: &[u64] = &[0, 1000, 2000, 3000, 4000, 5000];
 #[test]
 fn a_payload_of_a_datagram_is_sent_whole(rt: HostRuntime) -> Result<(), Fail> {
     let alloc = rt.alloc();
-    let source = in_datagrams(alloc, GIVEN)?;
-    let ran = sent_from(alloc, source, SIX, 0, 6, link(alloc, &[])?)?;
+    let mut source = in_datagrams(alloc, GIVEN)?;
+    let ran = sent_from(alloc, &mut source, SIX, 0, 6, link(alloc, &[])?)?;
     expect_ran(&rt, &ran, Ok(()), PAYLOADS);
     assert!(rt; ran.payload(0, 0) == Some([1; 188].as_slice()));
     assert!(rt; ran.payload(0, 4) == Some([6; 1500].as_slice()));
     // The source isn't at its end before a read has told that.
-    let source = in_datagrams(alloc, GIVEN)?;
-    let ran = sent_from(alloc, source, SIX, 0, 5, link(alloc, &[])?)?;
+    let mut source = in_datagrams(alloc, GIVEN)?;
+    let ran = sent_from(alloc, &mut source, SIX, 0, 5, link(alloc, &[])?)?;
     expect_ran(&rt, &ran, Err(SendFault::TurnsSpent), PAYLOADS);
     // Between two payloads it pauses.
-    let source = PausingSource::with(
+    let mut source = PausingSource::with(
         alloc,
         in_datagrams(alloc, &[(188, 1), (188, 2)])?,
         &[true, false],
     )?;
-    let ran = sent_from(alloc, source, SIX, 0, 4, link(alloc, &[])?)?;
+    let ran = sent_from(alloc, &mut source, SIX, 0, 4, link(alloc, &[])?)?;
     let two = &[(Channel::Media, 200), REPORT, (Channel::Media, 200)];
     expect_ran(&rt, &ran, Ok(()), two);
     Ok(())
@@ -383,8 +384,8 @@ fn sent_with_pauses(
     link: ScriptLink,
 ) -> Result<Ran, Fail> {
     let octets = Pieces::with(alloc, &[0x47; 1317], &[], &[])?;
-    let source = PausingSource::with(alloc, octets, answers)?;
-    sent_from(alloc, source, &[0, 1000, 2000, 3000], 0, turns, link)
+    let mut source = PausingSource::with(alloc, octets, answers)?;
+    sent_from(alloc, &mut source, &[0, 1000, 2000, 3000], 0, turns, link)
 }
 
 #[test]
@@ -406,10 +407,23 @@ fn a_source_that_never_goes_on_spends_the_turns(rt: HostRuntime) -> Result<(), F
 }
 
 #[test]
+fn a_source_is_asked_for_a_whole_piece(rt: HostRuntime) -> Result<(), Fail> {
+    let alloc = rt.alloc();
+    // The last octet isn't there in its turn.
+    let octets = Pieces::with(alloc, &[0x47; 1317], &[], &[])?;
+    let mut source = AskedSource::over(octets);
+    let moments = [0, 1000, 2000, 3000];
+    let ran = sent_from(alloc, &mut source, &moments, 0, 5, link(alloc, &[])?)?;
+    expect_ran(&rt, &ran, Ok(()), &[WHOLE, REPORT, ONE]);
+    assert!(rt; source.asked() == Some([1316; 3].as_slice()));
+    Ok(())
+}
+
+#[test]
 fn a_failed_read_drops_a_part_of_a_piece(rt: HostRuntime) -> Result<(), Fail> {
     let alloc = rt.alloc();
     // The second piece's first read gives four octets, and its second one fails.
-    let source = Pieces::with(alloc, &[0x47; 2632], &[1320], &[2])?;
+    let mut source = Pieces::with(alloc, &[0x47; 2632], &[1320], &[2])?;
     let links = two_links(alloc, &[], &[])?;
     let bond = Bond::duplicate(2);
     let ran = sent_over(
@@ -417,7 +431,7 @@ fn a_failed_read_drops_a_part_of_a_piece(rt: HostRuntime) -> Result<(), Fail> {
         &simple(),
         None,
         bond,
-        source,
+        &mut source,
         &EACH_MILLISECOND,
         0,
         6,
@@ -487,7 +501,7 @@ fn expect_places(
 
 /// Those pieces over two links, the first of which has these failing writes.
 fn bonded(alloc: Global, shared: bool, failing: &[u64]) -> Result<Ran, Fail> {
-    let source = Pieces::with(alloc, &numbered(), &[], &[])?;
+    let mut source = Pieces::with(alloc, &numbered(), &[], &[])?;
     let links = two_links(alloc, failing, &[])?;
     let bond = bond(shared);
     sent_over(
@@ -495,7 +509,7 @@ fn bonded(alloc: Global, shared: bool, failing: &[u64]) -> Result<Ran, Fail> {
         &simple(),
         None,
         bond,
-        source,
+        &mut source,
         &EACH_MILLISECOND,
         0,
         6,
@@ -556,11 +570,11 @@ fn opened(alloc: Global, session: &Session, sealer: Option<Sealer>) -> Result<(u
     requires session { IsSession session.now }
     requires paired { is_some sealer ≡ is_some session.now.pass }
 {
-    let source = Pieces::with(alloc, &stream(), &[], &[])?;
+    let mut source = Pieces::with(alloc, &stream(), &[], &[])?;
     let mut links = Vec::new(alloc);
     links.push(link(alloc, &[])?)?;
     let bond = Bond::duplicate(1);
-    let ran = sent_over(alloc, session, sealer, bond, source, &[0], 0, 1, links)?;
+    let ran = sent_over(alloc, session, sealer, bond, &mut source, &[0], 0, 1, links)?;
     let first = ran.links.get(0).ok_or("a link")?;
     let (channel, octets) = first.taken(0).ok_or("a datagram")?;
     lengths(alloc, session, channel, octets)
