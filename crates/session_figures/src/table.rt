@@ -87,7 +87,7 @@ impl Table {
     }
 }
 
-// A series of no octets for each link.
+// A series of nothing for each link.
 fn new_links(alloc: Global) -> Result<Vec<Series>, AllocError>
     ensures count { IfOk result (λ v. length v.items ≡ MAX_LINKS) }
     ensures each { IfOk result (λ v. (link : ℕ) (d : SeriesState) → link < MAX_LINKS
